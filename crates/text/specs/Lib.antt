@@ -1,0 +1,4 @@
+-- What a text of lines, fields and numbers means, read and written.
+pub mod Ascii
+pub mod Lines
+pub mod Numbers

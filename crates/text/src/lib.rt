@@ -1,0 +1,1 @@
+// Text of case and answer files: lines, fields, numbers, decimals. Definitions are in specs/.
