@@ -1,0 +1,2 @@
+-- Proofs about the definitions, by topic.
+pub mod KeptRuns

@@ -1,0 +1,173 @@
+-- What is promised: the three demands, as statements about any sound case, about accepted files, and about what the entries return. A statement is a type; docs/PROOF-MAP.md names its proof. Assumes nothing: these are definitions.
+use mathlib.Core.Path.{_≡_}
+use mathlib.Core.Bool.{true, false}
+use mathlib.Core.List.{List, [], _∷_, _++_}
+use mathlib.Core.Logic.{_⊎_}
+use mathlib.Core.Option.{Option, none, some}
+use Prim.Native.Nat.{ℕ, zero, suc, _+_, _^_, _≤_, _<_}
+use lib.ListN.{length, getD, set, take}
+use lib.IntN.{ℤ}
+use lib.Signed.{leZ}
+use Rattle.model.specs.Graph.{Graph, edge, edge-depth, walk-end, Reaches, is-lasso, Has-lasso, No-lasso, Has-walk, Distance, Fewest}
+use Rattle.model.specs.Case.{Case, Sound, Within, owner, most-acts, least-output}
+use Rattle.model.specs.CaseFile.{accepted, case-in}
+use Rattle.model.specs.Run.{State, distance, is-some, ended-lasso, has-ended, with-queues, depth-or, scan-from, round-acts, by-list, by-rounds}
+use Rattle.model.specs.Answer.{cycle-start, cycle, stem, lasso-text, empty-text, lasso-verdict, empty-verdict, answer}
+use Rattle.model.specs.Passing.{answer-refusal, check-refusal, answer-verdict}
+use Rattle.model.specs.Entry.{List-says, Rounds-say, Check-says, list-refusal, verdict, zeros}
+use Rattle.model.specs.declared.Outcome.{Outcome}
+use Rattle.model.specs.declared.Checked.{Checked}
+
+-- ANY SOUND CASE
+
+-- a run of a case that has ended, by a list or by rounds
+pub record Ended (c : Case) (x : State) : Type 0 where
+  pub ended : has-ended x ≡ true
+  pub run : ((xs : List ℕ) × (x ≡ by-list c xs)) ⊎ (x ≡ by-rounds c)
+
+-- demand 2, of an ended run: "says lasso exactly if a cycle through an accepting vertex can be reached from the source, and shows one; otherwise empty, with each reachable vertex's least walk length". The stem is the one that 01 names
+pub record Finding (g : Graph) (x : State) : Type 0 where
+  pub shown : (b : ℕ) → x .broken ≡ some b → is-lasso g (stem g (cycle-start g (x .parents) b)) (cycle g (x .parents) b) ≡ true
+  pub fewest : (b : ℕ) → x .broken ≡ some b → Fewest g (cycle-start g (x .parents) b) (stem g (cycle-start g (x .parents) b))
+  pub none-there : x .broken ≡ none → No-lasso g
+  pub distances : x .broken ≡ none → (v d : ℕ) → getD (x .depths) v none ≡ some d → Distance g v (distance d)
+  pub reached : x .broken ≡ none → (v : ℕ) (es : List ℕ) → Reaches g v es → is-some (getD (x .depths) v none) ≡ true
+
+-- so many whole rounds, as a list of acts
+unfoldable pub whole-rounds : (many : ℕ) → Case → List ℕ
+whole-rounds zero c = []
+whole-rounds (suc k) c = round-acts c ++ whole-rounds k c
+
+-- every run of one case: demand 2 at its end; of demand 3, that "at most (n + m) × (A + 1) acts do something, and once that many have, the run has ended", for any list, in range or not, and that rounds end and are a list of enough whole rounds
+pub record Runs-kept (c : Case) : Type 0 where
+  pub finds : (x : State) → Ended c x → Finding (c .graph) x
+  pub few-acts : (xs : List ℕ) → by-list c xs .count ≤ most-acts c
+  pub then-ended : (xs : List ℕ) → by-list c xs .count ≡ most-acts c → has-ended (by-list c xs) ≡ true
+  pub rounds-end : has-ended (by-rounds c) ≡ true
+  pub rounds-listed : (k : ℕ) → most-acts c ≤ k → by-rounds c ≡ by-list c (whole-rounds k c)
+
+-- at every moment, ended or not: each distance and each waiting offer is the length of a real walk; further acts never raise a distance; an offer that joins a waiting message is always the lower of the two, so "the lower remains" and "the newer remains" agree
+pub record Moments-kept (c : Case) : Type 0 where
+  pub real-distances : (xs : List ℕ) (v d : ℕ) → getD (by-list c xs .depths) v none ≡ some d → Has-walk (c .graph) v (distance d)
+  pub real-offers : (xs : List ℕ) (e o : ℕ) → getD (by-list c xs .cells) e none ≡ some o → Has-walk (c .graph) (edge (c .graph) e .to) (distance o)
+  pub never-raised :
+      (xs ys : List ℕ) (v d : ℕ) → getD (by-list c xs .depths) v none ≡ some d →
+      (k : ℕ) × (getD (by-list c (xs ++ ys) .depths) v none ≡ some k) × (leZ (distance k) (distance d) ≡ true)
+  pub joins-lower :
+      (xs : List ℕ) (w v : ℕ) (q : List ℕ) (e waiting : ℕ) → let x = by-list c xs in let d = depth-or (getD (x .depths) v none) in
+      has-ended x ≡ false → getD (x .queues) w [] ≡ v ∷ q → edge (c .graph) e .from ≡ v →
+      getD (scan-from e 0 c v d (with-queues (set (x .queues) w q) x) .cells) e none ≡ some waiting → waiting < d + edge-depth (c .graph) e
+
+-- within the limits: an answer fits the least output, a count fits 32 bits, and the checker "passes all that our finished runs write"
+pub record Limits-kept (c : Case) : Type 0 where
+  pub answers-fit : (x : State) → Ended c x → length (answer (c .graph) x) ≤ least-output
+  pub counts-fit : most-acts c < 2 ^ 32
+  pub passes : (x : State) → Ended c x → (answer-refusal (c .graph) (answer (c .graph) x) ≡ 0) × (answer-verdict (answer (c .graph) x) ≡ verdict x)
+
+unfoldable pub Of-cases : Type 0
+Of-cases = (c : Case) → Sound c → Runs-kept c × Moments-kept c × (Within c → Limits-kept c)
+
+-- there is one stem only
+unfoldable pub One-stem : Type 0
+One-stem = (g : Graph) (v : ℕ) (ss es : List ℕ) → Fewest g v ss → Fewest g v es → ss ≡ es
+
+-- demand 3: "Any two ended runs on one graph, whatever their acts, workers and owners, by list or by rounds, have the same finding, and where it is empty their answer files are equal byte for byte"
+unfoldable pub Agree : Case → Case → Type 0
+Agree c d =
+    c .graph ≡ d .graph → (x y : State) → Ended c x → Ended d y →
+    (ended-lasso x ≡ ended-lasso y) × (ended-lasso x ≡ false → answer (c .graph) x ≡ answer (d .graph) y)
+
+unfoldable pub Same-finding : Type 0
+Same-finding = (c d : Case) → Sound c → Sound d → Agree c d
+
+-- demand 2: "The answer checker passes no answer whose finding is false"
+unfoldable pub Checker-sound : Type 0
+Checker-sound =
+    (g : Graph) (ts : List ℕ) → answer-refusal g ts ≡ 0 →
+    (answer-verdict ts ≡ lasso-verdict → Has-lasso g) × (answer-verdict ts ≡ empty-verdict → No-lasso g)
+
+-- ACCEPTED FILES: each gives a sound case within the limits, so all of the above holds of it
+unfoldable pub Files-sound : Type 0
+Files-sound = (bs : List ℕ) → accepted bs ≡ true → Sound (case-in bs) × Within (case-in bs)
+
+unfoldable pub Of-files : Type 0
+Of-files = (bs : List ℕ) → accepted bs ≡ true → let c = case-in bs in Runs-kept c × Moments-kept c × Limits-kept c
+
+unfoldable pub Files-agree : Type 0
+Files-agree = (bs ds : List ℕ) → accepted bs ≡ true → accepted ds ≡ true → Agree (case-in bs) (case-in ds)
+
+-- THE ENTRIES: what holds of each outcome that meets its entry's contract. A run's entry is by a list or by rounds
+unfoldable pub Says : (case : List ℕ) → Outcome → (output output-now : List ℕ) → (work work-now : List ℤ) → Type 0
+Says bs r o z w v = ((xs : List ℕ) × List-says bs xs r o z w v) ⊎ Rounds-say bs r o z w v
+
+-- demand 1: "a result or a listed refusal"; "A refused call leaves the output buffer untouched, and the work buffer too, save that refusal 10 leaves the latter all zeros"
+pub record Definite (r : Outcome) (o z : List ℕ) (w v : List ℤ) : Type 0 where
+  pub listed : r .refusal ≤ 11
+  pub output : (r .refusal ≡ 0 → ⊥) → z ≡ o
+  pub work : (r .refusal ≡ 0 → ⊥) → (r .refusal ≡ 10 → ⊥) → v ≡ w
+  pub zeroed : r .refusal ≡ 10 → v ≡ zeros w
+  pub length-zero : (r .refusal ≡ 0 → ⊥) → r .written ≡ 0
+  pub acts-zero : (r .refusal ≡ 0 → ⊥) → (r .refusal ≡ 10 → ⊥) → r .acts ≡ 0
+
+unfoldable pub Runs-definite : Type 0
+Runs-definite = (bs : List ℕ) (r : Outcome) (o z : List ℕ) (w v : List ℤ) → Says bs r o z w v → Definite r o z w v
+
+-- the checker never gives 9, 10 or 11
+unfoldable pub Checks-definite : Type 0
+Checks-definite = (bs ts : List ℕ) (r : Checked) → Check-says bs ts r → (r .refusal ≤ 8) ⊎ ((r .refusal ≡ 12) ⊎ (r .refusal ≡ 13))
+
+-- demand 2: the verdict returned is the finding, and the output shows why
+pub record True-verdict (g : Graph) (v : ℕ) : Type 0 where
+  pub lasso : v ≡ lasso-verdict → Has-lasso g
+  pub empty : v ≡ empty-verdict → No-lasso g
+  pub either : (v ≡ lasso-verdict) ⊎ (v ≡ empty-verdict)
+
+pub record Shows-lasso (g : Graph) (shown : List ℕ) : Type 0 where
+  pub stem : List ℕ
+  pub cycle : List ℕ
+  pub bytes : shown ≡ lasso-text stem cycle
+  pub lasso : is-lasso g stem cycle ≡ true
+  pub fewest : Fewest g (walk-end g (g .source) stem) stem
+
+pub record Shows-distances (g : Graph) (shown : List ℕ) : Type 0 where
+  pub depths : List (Option ℕ)
+  pub bytes : shown ≡ empty-text depths
+  pub distances : (v d : ℕ) → getD depths v none ≡ some d → Distance g v (distance d)
+  pub reached : (v : ℕ) (es : List ℕ) → Reaches g v es → is-some (getD depths v none) ≡ true
+
+pub record Result-right (bs : List ℕ) (r : Outcome) (z : List ℕ) : Type 0 where
+  pub verdict : True-verdict (case-in bs .graph) (r .verdict)
+  pub lasso : r .verdict ≡ lasso-verdict → Shows-lasso (case-in bs .graph) (take (r .written) z)
+  pub empty : r .verdict ≡ empty-verdict → Shows-distances (case-in bs .graph) (take (r .written) z)
+  pub acts : r .acts ≤ most-acts (case-in bs)
+  pub passes : (check-refusal bs (take (r .written) z) ≡ 0) × (answer-verdict (take (r .written) z) ≡ r .verdict)
+
+unfoldable pub Runs-right : Type 0
+Runs-right = (bs : List ℕ) (r : Outcome) (o z : List ℕ) (w v : List ℤ) → Says bs r o z w v → r .refusal ≡ 0 → Result-right bs r z
+
+unfoldable pub Check-right : Type 0
+Check-right = (bs ts : List ℕ) (r : Checked) → Check-says bs ts r → r .refusal ≡ 0 → True-verdict (case-in bs .graph) (r .verdict)
+
+-- demand 3: two results on one graph agree, and where they say "empty" the same bytes were written
+unfoldable pub Runs-agree : Type 0
+Runs-agree =
+    (bs ds : List ℕ) (r s : Outcome) (o z p y : List ℕ) (w v u t : List ℤ) → Says bs r o z w v → Says ds s p y u t → case-in bs .graph ≡ case-in ds .graph →
+    r .refusal ≡ 0 → s .refusal ≡ 0 → (r .verdict ≡ s .verdict) × (r .verdict ≡ empty-verdict → take (r .written) z ≡ take (s .written) y)
+
+-- "The run by rounds gives the result, count and answer file that a list of enough whole rounds gives"
+unfoldable pub Rounds-as-list : Type 0
+Rounds-as-list =
+    (bs : List ℕ) (k : ℕ) (r : Outcome) (o z : List ℕ) (w v : List ℤ) → most-acts (case-in bs) ≤ k → Rounds-say bs r o z w v →
+    List-says bs (whole-rounds k (case-in bs)) r o z w v
+
+-- "Refusal 10 is given exactly when the list leaves the run unended and no other refusal applies"; so it comes only with fewer acts than the bound, and never by rounds
+pub record Ten (bs xs : List ℕ) (r : Outcome) (output work : ℕ) : Type 0 where
+  pub only : r .refusal ≡ 10 → (list-refusal bs xs output work ≡ 0) × (has-ended (by-list (case-in bs) xs) ≡ false)
+  pub always : list-refusal bs xs output work ≡ 0 → has-ended (by-list (case-in bs) xs) ≡ false → r .refusal ≡ 10
+  pub below : r .refusal ≡ 10 → r .acts < most-acts (case-in bs)
+
+unfoldable pub Ten-exactly : Type 0
+Ten-exactly = (bs xs : List ℕ) (r : Outcome) (o z : List ℕ) (w v : List ℤ) → List-says bs xs r o z w v → Ten bs xs r (length o) (length w)
+
+unfoldable pub Rounds-never-ten : Type 0
+Rounds-never-ten = (bs : List ℕ) (r : Outcome) (o z : List ℕ) (w v : List ℤ) → Rounds-say bs r o z w v → r .refusal ≡ 10 → ⊥
