@@ -1,2 +1,26 @@
--- Proofs about the definitions, by topic.
+-- Proofs about the definitions, by topic: laws over plain lists first, the promises last.
+pub mod Tools
+pub mod Pigeon
+pub mod Walks
+pub mod Steps
+pub mod Shapes
+pub mod Few
+pub mod Rounds
+pub mod Walked
+pub mod Settled
+pub mod Trace
+pub mod Moments
+pub mod Loops
+pub mod Stems
+pub mod Signs
+pub mod Findings
+pub mod Accepting
+pub mod Refusals
+pub mod Fits
+pub mod Bounds
+pub mod Reading
+pub mod CheckerSound
+pub mod CheckerComplete
+pub mod Kept
+pub mod EntriesKept
 pub mod KeptRuns

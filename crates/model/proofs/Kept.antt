@@ -1,0 +1,125 @@
+-- Kept: the promises of specs/Promise.antt about any sound case and about accepted files, put together from the files before.
+use mathlib.Core.Path.{_≡_, refl, sym, ap, subst, _∙_}
+use mathlib.Core.Bool.{Bool, true, false, cond}
+use mathlib.Core.List.{List}
+use mathlib.Core.Logic.{_⊎_, inl, inr}
+use mathlib.Core.Option.{Option, none, some}
+use Prim.Native.Nat.{ℕ, zero, suc, _+_, _-_, _≤_}
+use native.Mathlib.Omega.{arith}
+use native.Mathlib.Nat.{suc-add}
+use lib.ListN.{length, getD}
+use Rattle.model.specs.Graph.{Graph, edge}
+use Rattle.model.specs.Case.{Case, least-output, most-acts, Sound, Within}
+use Rattle.model.specs.CaseFile.{accepted, case-in}
+use Rattle.model.specs.Run.{State, is-some, ended-lasso, has-ended, fresh, acted, round-acts, rounds, by-list, by-rounds}
+use Rattle.model.specs.Answer.{cycle-start, cycle, stem, lasso-text, empty-text, answer-of, answer}
+use Rattle.model.specs.Passing.{answer-refusal, answer-verdict}
+use Rattle.model.specs.Entry.{verdict}
+use Rattle.model.specs.Promise.{Ended, Finding, whole-rounds, Runs-kept, Moments-kept, Limits-kept, Of-cases, One-stem, Agree, Same-finding, Files-sound, Of-files, Files-agree}
+use Rattle.model.proofs.Tools.{or-cases, clash, some-of}
+use Rattle.model.proofs.Walks.{lasso-whole}
+use Rattle.model.proofs.Few.{paid, few}
+use Rattle.model.proofs.Rounds.{rounds-listed, rounds-end}
+use Rattle.model.proofs.Settled.{tale, relaxed}
+use Rattle.model.proofs.Moments.{never-raised, joins-lower}
+use Rattle.model.proofs.Stems.{fewest-one}
+use Rattle.model.proofs.Findings.{Known, known, walk-real, distances-le, stem-few, lasso-shown, finding, alike}
+use Rattle.model.proofs.Accepting.{files-sound}
+use Rattle.model.proofs.Fits.{walk-below, below-append, cycle-few, A-few, answer-fits, answers-fit}
+use Rattle.model.proofs.Bounds.{most-acts-small}
+use Rattle.model.proofs.CheckerComplete.{lasso-complete, empty-complete}
+
+-- ROUNDS past the end change nothing, so enough whole rounds are the run by rounds
+rounds-over : (i : ℕ) (c : Case) (x : State) → has-ended x ≡ true → rounds i c x ≡ x
+unfolding rounds
+rounds-over zero c x o = refl
+rounds-over (suc i) c x o = rw o refl
+
+rounds-enough : (j i : ℕ) (c : Case) (x : State) → has-ended (rounds j c x) ≡ true → rounds (j + i) c x ≡ rounds j c x
+unfolding rounds
+rounds-enough zero i c x o = rounds-over (0 + i) c x o
+rounds-enough (suc j) i c x o = ap (λ (k : ℕ). rounds k c x) (suc-add j i) ∙ go (has-ended x) (λ o. rounds-enough j i c (acted c (round-acts c) x) o) o
+  where
+    go : (b : Bool) → (has-ended (rounds j c (acted c (round-acts c) x)) ≡ true → rounds (j + i) c (acted c (round-acts c) x) ≡ rounds j c (acted c (round-acts c) x)) → has-ended (cond b x (rounds j c (acted c (round-acts c) x))) ≡ true →
+        cond b x (rounds (j + i) c (acted c (round-acts c) x)) ≡ cond b x (rounds j c (acted c (round-acts c) x))
+    go true ih o = refl
+    go false ih o = ih o
+
+rounds-are-list : (c : Case) → Sound c → (k : ℕ) → most-acts c ≤ k → by-rounds c ≡ by-list c (whole-rounds k c)
+unfolding by-rounds by-list
+rounds-are-list c ok k l =
+    let z : most-acts c + (k - most-acts c) ≡ k = omega arith in
+    sym (rounds-enough (most-acts c) (k - most-acts c) c (fresh c) (rounds-end c ok)) ∙ ap (λ (j : ℕ). rounds j c (fresh c)) z ∙ rounds-listed k c (fresh c)
+
+pub runs-kept : (c : Case) → Sound c → Runs-kept c
+runs-kept c ok = record {
+  finds = λ x e. finding c ok x e;
+  few-acts = λ xs. few c ok (by-list c xs) (paid c ok xs) .0;
+  then-ended = λ xs. few c ok (by-list c xs) (paid c ok xs) .1;
+  rounds-end = unfold by-rounds in (rounds-end c ok);
+  rounds-listed = rounds-are-list c ok;
+}
+
+moments-kept : (c : Case) → Sound c → Moments-kept c
+moments-kept c ok = record {
+  real-distances = λ xs v d h. walk-real (c .graph) v d (tale c ok xs .walked .depths v d h);
+  real-offers = λ xs e o h. walk-real (c .graph) (edge (c .graph) e .to) o (tale c ok xs .walked .cells e o h);
+  never-raised = λ xs ys v d h. let r = never-raised c ok xs ys (tale c ok xs .walked .shape) v d h in (r .0, r .1, distances-le d (r .0) (r .2));
+  joins-lower = λ xs w v q e k _ h i m. joins-lower c ok xs w v q e k h i m;
+}
+
+-- WHAT AN ENDED RUN WRITES is read back and passes
+complete-at : (c : Case) (ok : Sound c) → Within c → (x : State) → Known c x → (o : Option ℕ) → x .broken ≡ o → (is-some o ≡ true) ⊎ (x .ended-empty ≡ true) →
+    (answer-refusal (c .graph) (answer-of (c .graph) o (x .parents) (x .depths)) ≡ 0) × (answer-verdict (answer-of (c .graph) o (x .parents) (x .depths)) ≡ cond (is-some o) 1 2)
+unfolding answer-of is-some
+complete-at c ok w x k none h (inl i) = clash false i refl
+complete-at c ok w x k none h (inr i) =
+    let s = some-of (getD (x .depths) (c .graph .source) none) (k .tale .walked .source) in
+    empty-complete (c .graph) (x .depths) (w .vertices) (k .paid .shape .depths) (λ j d q. omega (arith, k .paid .shape .above h j d q, A-few c ok, w .vertices)) (relaxed c ok x (k .paid) (k .tale) h i) (s .0) (s .1)
+    (let l : length (empty-text (x .depths)) ≤ least-output = answer-fits c ok w x k none h in omega arith)
+complete-at c ok w x k (some b) h _ =
+    let y = lasso-shown c ok x k b h in
+    let ss = stem (c .graph) (cycle-start (c .graph) (x .parents) b) in
+    let es = cycle (c .graph) (x .parents) b in
+    lasso-complete (c .graph) ss es (omega (arith, w .edges)) (below-append (length (c .graph .edges)) ss es (walk-below (c .graph) _ ss (y .stem)) (walk-below (c .graph) _ es (y .cycle)))
+    (omega (arith, stem-few c ok x k b h, w .vertices)) (omega (arith, cycle-few (c .graph) (x .parents) b, w .vertices)) (y .some-edge)
+    (let l : length (lasso-text ss es) ≤ least-output = answer-fits c ok w x k (some b) h in omega arith) (lasso-whole (c .graph) ss es y)
+
+pub passes : (c : Case) → Sound c → Within c → (x : State) → Ended c x → (answer-refusal (c .graph) (answer (c .graph) x) ≡ 0) × (answer-verdict (answer (c .graph) x) ≡ verdict x)
+unfolding answer verdict ended-lasso
+passes c ok w x e = complete-at c ok w x (known c ok x e) (x .broken) refl (unfold has-ended ended-lasso in (or-cases (is-some (x .broken)) (x .ended-empty) (e .ended)))
+
+limits-kept : (c : Case) → Sound c → Within c → Limits-kept c
+limits-kept c ok l = record { answers-fit = answers-fit c ok l; counts-fit = most-acts-small c ok l; passes = passes c ok l }
+
+pub of-cases : Of-cases
+unfolding Of-cases
+of-cases c ok = (runs-kept c ok, moments-kept c ok, limits-kept c ok)
+
+pub one-stem : One-stem
+unfolding One-stem
+one-stem = fewest-one
+
+pub agree : (c d : Case) → Sound c → Sound d → Agree c d
+unfolding Agree
+agree c d okc okd g x y ex ey =
+    let G : Finding (c .graph) y = subst (λ (z : Graph). Finding z y) (sym g) (finding d okd y ey) in
+    let s : length (x .depths) ≡ length (y .depths) = known c okc x ex .paid .shape .depths ∙ ap (λ (z : Graph). z .vertices) g ∙ sym (known d okd y ey .paid .shape .depths) in
+    let r = alike (c .graph) x y (finding c okc x ex) G s in
+    (r .0, λ f. r .1 f ∙ ap (λ (z : Graph). answer z y) g)
+
+pub same-finding : Same-finding
+unfolding Same-finding
+same-finding = agree
+
+-- ACCEPTED FILES
+pub file-sound : (bs : List ℕ) → accepted bs ≡ true → Sound (case-in bs) × Within (case-in bs)
+file-sound = unfold Files-sound in files-sound
+
+pub of-files : Of-files
+unfolding Of-files
+of-files bs e = let s = file-sound bs e in (runs-kept (case-in bs) (s .0), moments-kept (case-in bs) (s .0), limits-kept (case-in bs) (s .0) (s .1))
+
+pub files-agree : Files-agree
+unfolding Files-agree
+files-agree bs ds e f = agree (case-in bs) (case-in ds) (file-sound bs e .0) (file-sound ds f .0)

@@ -1,0 +1,79 @@
+-- Case principles: what a try, an edge of a scan, an act and a list of acts keep. After these no proof unfolds an operation.
+use mathlib.Core.Path.{_≡_, refl, subst}
+use mathlib.Core.Bool.{Bool, true, false, _||_, not, cond}
+use mathlib.Core.List.{List, [], _∷_}
+use mathlib.Core.Option.{Option, none, some}
+use Prim.Native.Nat.{ℕ, zero, suc, _+_, _-_, _<_}
+use native.Mathlib.Omega.{arith}
+use lib.Dec.{ltb, eqb}
+use borrow.Author.Tests.{ltb-true, eqb-true, eqb-false}
+use lib.ListN.{length, getD, set}
+use Rattle.model.specs.Graph.{edge, edge-depth}
+use Rattle.model.specs.Case.{Case, owner}
+use Rattle.model.specs.Run.{State, is-some, ended-lasso, has-ended, with-queues, with-cells, takes, taken, relax, send, scan-edge, scan-from, scan, counted, depth-or, turn-of, turn, delivery-of, delivery, act, acted}
+use Rattle.model.proofs.Tools.{other}
+
+-- a try: the offer is not taken, or it is
+pub relax-cases : (P : State → Type 0) (c : Case) (e d : ℕ) (x : State) → (takes (getD (x .depths) (edge (c .graph) e .to) none) d ≡ false → P x) →
+    (takes (getD (x .depths) (edge (c .graph) e .to) none) d ≡ true → P (taken c e d x)) → P (relax c e d x)
+unfolding relax
+relax-cases P c e d x f g = go (takes (getD (x .depths) (edge (c .graph) e .to) none) d) f g
+  where
+    go : (b : Bool) → (b ≡ false → P x) → (b ≡ true → P (taken c e d x)) → P (cond b (taken c e d x) x)
+    go true f g = g refl
+    go false f g = f refl
+
+-- a scan: what holds before edge e holds before the next
+pub record Scans (c : Case) (v d : ℕ) (P : ℕ → State → Type 0) : Type 0 where
+  pub halt : (e : ℕ) (x : State) → (b : ℕ) → x .broken ≡ some b → P e x → P (suc e) x
+  pub pass : (e : ℕ) (x : State) → (edge (c .graph) e .from ≡ v → ⊥) → P e x → P (suc e) x
+  pub own : (e : ℕ) (x : State) → x .broken ≡ none → e < length (c .graph .edges) → edge (c .graph) e .from ≡ v → P e x → P (suc e) (relax c e (d + edge-depth (c .graph) e) x)
+  pub other : (e : ℕ) (x : State) → x .broken ≡ none → e < length (c .graph .edges) → edge (c .graph) e .from ≡ v → P e x → P (suc e) (send e (d + edge-depth (c .graph) e) x)
+
+scan-edge-keeps : (c : Case) (v d : ℕ) (P : ℕ → State → Type 0) → Scans c v d P → (e : ℕ) (x : State) → e < length (c .graph .edges) → P e x → P (suc e) (scan-edge c v d e x)
+unfolding scan-edge ended-lasso
+scan-edge-keeps c v d P s e x l p = go (x .broken) refl (eqb (edge (c .graph) e .from) v) refl (eqb (owner c (edge (c .graph) e .to)) (owner c v))
+  where
+    go : (o : Option ℕ) → x .broken ≡ o → (a : Bool) → eqb (edge (c .graph) e .from) v ≡ a → (b : Bool) → P (suc e) (cond (is-some o || not a) x (cond b (relax c e (d + edge-depth (c .graph) e) x) (send e (d + edge-depth (c .graph) e) x)))
+    go (some k) h a q b = unfold is-some in (s .halt e x k h p)
+    go none h false q b = unfold is-some in (s .pass e x (eqb-false (edge (c .graph) e .from) v q) p)
+    go none h true q true = unfold is-some in (s .own e x h l (eqb-true (edge (c .graph) e .from) v q) p)
+    go none h true q false = unfold is-some in (s .other e x h l (eqb-true (edge (c .graph) e .from) v q) p)
+
+scan-from-keeps : (c : Case) (v d : ℕ) (P : ℕ → State → Type 0) → Scans c v d P → (k e : ℕ) (x : State) → k + e ≡ length (c .graph .edges) → P e x → P (length (c .graph .edges)) (scan-from k e c v d x)
+unfolding scan-from
+scan-from-keeps c v d P s zero e x h p = subst (λ (i : ℕ). P i x) (let z : e ≡ length (c .graph .edges) = omega arith in z) p
+scan-from-keeps c v d P s (suc k) e x h p = scan-from-keeps c v d P s k (suc e) (scan-edge c v d e x) (omega arith) (scan-edge-keeps c v d P s e x (omega arith) p)
+
+pub scan-keeps : (c : Case) (v d : ℕ) (P : ℕ → State → Type 0) → Scans c v d P → (x : State) → P 0 x → P (length (c .graph .edges)) (scan c v d x)
+unfolding scan
+scan-keeps c v d P s x p = scan-from-keeps c v d P s (length (c .graph .edges)) 0 x (omega arith) p
+
+-- an act that is not idle, of a run that is not over
+pub record Acts (c : Case) (P : State → Type 0) : Type 0 where
+  pub turn : (w v : ℕ) (q : List ℕ) (x : State) → has-ended x ≡ false → w < c .workers → getD (x .queues) w [] ≡ v ∷ q → P x →
+      P (counted (scan c v (depth-or (getD (x .depths) v none)) (with-queues (set (x .queues) w q) x)))
+  pub delivery : (e d : ℕ) (x : State) → has-ended x ≡ false → getD (x .cells) e none ≡ some d → P x →
+      P (counted (relax c e d (with-cells (set (x .cells) e none) x)))
+
+pub act-keeps : (c : Case) (P : State → Type 0) → Acts c P → (a : ℕ) (x : State) → P x → P (act c a x)
+unfolding act turn delivery turn-of delivery-of
+act-keeps c P s a x p = go (has-ended x) (ltb a (c .workers)) refl refl
+  where
+    turns : (q : List ℕ) → has-ended x ≡ false → a < c .workers → getD (x .queues) a [] ≡ q → P (turn-of c a q x)
+    turns [] o l e = p
+    turns (v ∷ q) o l e = s .turn a v q x o l e p
+
+    delivers : (o : Option ℕ) (e : ℕ) → has-ended x ≡ false → getD (x .cells) e none ≡ o → P (delivery-of c e o x)
+    delivers none e l h = p
+    delivers (some d) e l h = s .delivery e d x l h p
+
+    go : (o t : Bool) → has-ended x ≡ o → ltb a (c .workers) ≡ t → P (cond o x (cond t (turn-of c a (getD (x .queues) a []) x) (delivery-of c (a - c .workers) (getD (x .cells) (a - c .workers) none) x)))
+    go true t e h = p
+    go false true e h = turns (getD (x .queues) a []) e (ltb-true a (c .workers) h) refl
+    go false false e h = delivers (getD (x .cells) (a - c .workers) none) (a - c .workers) e refl
+
+pub acted-keeps : (c : Case) (P : State → Type 0) → Acts c P → (xs : List ℕ) (x : State) → P x → P (acted c xs x)
+unfolding acted
+acted-keeps c P s [] x p = p
+acted-keeps c P s (a ∷ xs) x p = acted-keeps c P s xs (act c a x) (act-keeps c P s a x p)
