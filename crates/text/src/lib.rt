@@ -1,1 +1,2 @@
 // Text of case and answer files: lines, fields, numbers, decimals. Definitions are in specs/.
+pub mod write;

@@ -1,0 +1,3 @@
+-- Laws of texts, read and written.
+pub mod Decimals
+pub mod Writing

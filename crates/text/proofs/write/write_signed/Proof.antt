@@ -1,0 +1,77 @@
+-- `write_signed` meets its contract: the sign and the digits have room together, so each of the two writers has.
+use mathlib.Core.Path.{_≡_}
+use mathlib.Core.List.{[], _∷_}
+use Prim.Native.Nat.{suc, _+_}
+use native.Mathlib.Omega.{arith}
+use lib.ListN.{length}
+use borrow.Author.Needs.{needs}
+use Rattle.text.specs.Numbers.{decimal, signed-decimal}
+use Rattle.text.proofs.Decimals.{decimal-most, signed-from-zero, signed-below-zero}
+use Rattle.text.proofs.Writing.{none-left, enough, writes-both}
+use Rattle.text.proofs.write.write_signed.Statement.{statement}
+use Rattle.text.proofs.write.write_signed.Tie as tie
+
+up-is : (c : tie.Then1) → signed-decimal (c .before .before .before .args .v) ≡ decimal (c .before .magnitude .result)
+up-is c = signed-from-zero _ _ (c .before .before .before .fits .v) (c .before .magnitude .ensures) (c .if1 .taken)
+
+below-is : (c : tie.Else1) → signed-decimal (c .before .before .before .args .v) ≡ 45 ∷ decimal (c .before .magnitude .result)
+below-is c = signed-below-zero _ _ (c .before .before .before .fits .v) (c .before .magnitude .ensures) (c .if1 .left)
+
+long : (c : tie.After-width) → 1 + c .width .result ≡ suc (length (decimal (c .before .before .magnitude .result)))
+long c = omega (arith, c .width .ensures)
+
+magnitude-requires : tie.Need-magnitude-requires
+magnitude-requires c κs = search needs
+
+write-number-requires : tie.Need-write-number-requires
+write-number-requires c κs = search needs
+
+same-length : tie.Need-same-length
+same-length c = search needs
+
+returns : tie.Need-returns
+returns c = rw (up-is (c .before .before .before .before)) (c .before .before .write-number .ensures)
+
+width-requires : tie.Need-width-requires
+width-requires c κs = search needs
+
+add-room : tie.Need-add-room
+add-room c = omega (arith, c .width .ensures, decimal-most (c .before .before .magnitude .result))
+
+room-requires : tie.Need-room-requires
+room-requires c κs = search needs
+
+returns-2 : tie.Need-returns-2
+returns-2 c = rw (below-is (c .before .before .before)) (none-left _ _ _ _ _ (c .before .room .ensures) (c .if2 .taken) (long (c .before .before)))
+
+write-byte-requires : tie.Need-write-byte-requires
+write-byte-requires c κs = search needs
+
+write-number-requires-2 : tie.Need-write-number-requires-2
+write-number-requires-2 c κs = search needs
+
+same-length-2 : tie.Need-same-length-2
+same-length-2 c = search needs
+
+returns-3 : tie.Need-returns-3
+returns-3 c =
+    rw (below-is (c .before .before .before .before .before .before .before .before .before .before .before))
+    (writes-both _ (45 ∷ []) _ _ _ _ _ _ (enough _ _ _ _ _ (c .before .before .before .before .before .before .before .before .before .room .ensures) (c .before .before .before .before .before .before .before .before .if2 .left) (long (c .before .before .before .before .before .before .before .before .before .before)))
+    (c .before .before .before .before .before .before .write-byte .ensures) (c .before .before .write-number2 .ensures))
+
+pub write-signed-spec : {M : Type 1} → statement M
+write-signed-spec =
+    tie.close
+    (tie.spec
+    magnitude-requires
+    write-number-requires
+    same-length
+    returns
+    width-requires
+    add-room
+    room-requires
+    returns-2
+    write-byte-requires
+    write-number-requires-2
+    same-length-2
+    returns-3)
