@@ -249,6 +249,17 @@ pub decimal-digits : (v : ℕ) → all-digits (decimal v) ≡ true
 unfolding decimal
 decimal-digits v = digits-all 10 v
 
+-- and no digit is a byte below `0`, as the space, the line feed and the minus sign are
+pub digit-not : (b z : ℕ) → is-digit b ≡ true → z < 48 → eqb b z ≡ false
+unfolding is-digit
+digit-not b z d l = ne-eqb b z (λ e. omega (arith, leb-true 48 b (and-true (leb 48 b) (leb b 57) d .0)))
+
+pub all-digits-at : (w : List ℕ) (i : ℕ) → all-digits w ≡ true → i < length w → is-digit (getD w i 0) ≡ true
+unfolding all-digits
+all-digits-at [] i d h = absurd (omega arith)
+all-digits-at (b ∷ w) zero d h = and-true (is-digit b) (all-digits w) d .0
+all-digits-at (b ∷ w) (suc i) d h = all-digits-at w i (and-true (is-digit b) (all-digits w) d .1) (omega arith)
+
 -- the value
 value-append : (a : ℕ) (xs ys : List ℕ) → value-from a (xs ++ ys) ≡ value-from (value-from a xs) ys
 unfolding value-from
@@ -306,12 +317,19 @@ decimal-number v h = number-parts (decimal v) (decimal-some v) (decimal-short v 
 
 -- SIGNED
 no-minus : (w : List ℕ) → all-digits w ≡ true → (has-minus w ≡ false) × (without-minus w ≡ w)
-unfolding has-minus without-minus all-digits is-digit
+unfolding has-minus without-minus all-digits
 no-minus [] d = (refl, refl)
-no-minus (b ∷ w) d =
-    let p = and-true (leb 48 b) (leb b 57) (and-true (leb 48 b && leb b 57) (all-digits w) d .0) in
-    let n : eqb b 45 ≡ false = ne-eqb b 45 (λ e. omega (arith, leb-true 48 b (p .0))) in
-    (n, rw n refl)
+no-minus (b ∷ w) d = let n = digit-not b 45 (and-true (is-digit b) (all-digits w) d .0) (omega arith) in (n, rw n refl)
+
+pub signed-some : (z : ℤ) → 1 ≤ length (signed-decimal z)
+unfolding signed-decimal
+signed-some (pos v) = decimal-some v
+signed-some (negsuc v) = omega arith
+
+pub signed-short : (z : ℤ) → length (signed-decimal z) ≤ suc (length (decimal (natAbs z)))
+unfolding signed-decimal
+signed-short (pos v) = omega arith
+signed-short (negsuc v) = omega arith
 
 pub signed-number : (z : ℤ) → natAbs z < 10 ^ 9 → is-signed (signed-decimal z) ≡ true
 unfolding signed-decimal is-signed without-minus

@@ -54,6 +54,10 @@ writes-fits at bs r o z h e p = record { fits = λ _. (e, p); full = λ g. absur
 pub writes-full : (at : ℕ) (bs : List ℕ) (o : List ℕ) → length o < at + length bs → Writes at bs no-room o o
 writes-full at bs o h = record { fits = λ g. absurd (omega arith); full = λ _. (refl, refl) }
 
+-- after a write that had no room a later one has none either
+pub writes-nowhere : {bs : List ℕ} {r : ℕ} {o z : List ℕ} → length o ≤ no-room → 1 ≤ length bs → Writes no-room bs r o z → (r ≡ no-room) × (z ≡ o)
+writes-nowhere h p w = w .full (omega arith)
+
 -- WHAT IS LEFT to write gives the whole, and has its room
 pub record Left (at : ℕ) (all : List ℕ) (here : ℕ) (rest : List ℕ) (o z : List ℕ) : Type 0 where
   pub ends : here + length rest ≡ at + length all

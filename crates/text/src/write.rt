@@ -90,13 +90,13 @@ fn magnitude(v: i32) -> u32
 pub fn write_signed(output: &mut [u8], at: usize, v: i32) -> usize
     ensures { λ r. ⌜ Writes at (signed-decimal v) r (now (output .entry)) (now (output .exit)) ⌝ }
 {
-    let size = magnitude(v);
+    let far = magnitude(v);
     if 0 <= v {
-        return write_number(output, at, size);
+        return write_number(output, at, far);
     }
-    if !room(output.len(), at, 1 + width(size)) {
+    if !room(output.len(), at, 1 + width(far)) {
         return NO_ROOM;
     }
     let next = write_byte(output, at, b'-');
-    write_number(output, next, size)
+    write_number(output, next, far)
 }
