@@ -1,27 +1,25 @@
 -- Document 03's answers are ours: the same bytes for every run of a sound case.
 use mathlib.Core.Path.{_≡_, refl, sym, ap, subst, _∙_}
-use mathlib.Core.Bool.{Bool, true, false, _&&_, _||_, not, cond}
+use mathlib.Core.Bool.{Bool, true, false, cond}
 use mathlib.Core.List.{List, [], _∷_, _++_, append-assoc}
 use mathlib.Core.Option.{Option, none, some}
-use Prim.Native.Nat.{ℕ, zero, suc, _+_, _*_, _-_, _/_, _%_, _≤_, _<_}
+use Prim.Native.Nat.{ℕ, zero, suc, _+_, _/_, _<_}
 use native.Mathlib.Omega.{arith}
-use lib.Dec.{ltb, leb, eqb}
-use lib.ListN.{length, getD, set, replicate}
-use lib.Seq.{append-snoc}
-use Rattle.text.specs.Ascii.{ascii}
+use lib.Dec.{eqb}
+use lib.ListN.{length, getD}
 use Rattle.text.specs.Lines.{text, joined, fields, put-first}
 use Rattle.text.specs.Numbers as N
-use Rattle.model.specs.Graph.{Graph, Edge, edge}
-use Rattle.model.specs.Case.{Case, Sound}
+use Rattle.model.specs.Graph.{edge}
+use Rattle.model.specs.Case.{Case}
 use Rattle.model.specs.Run.{State, distance}
 use Rattle.model.specs.Answer as A
 use Rattle.model.proofs.Trace.{Traced}
-use Rattle.model.proofs.Loops.{Alive, alive-parent, alive-up, back-alive, broken-alive, up, up-is}
+use Rattle.model.proofs.Loops.{Alive, alive-parent, alive-up, back-alive, broken-alive, up-is}
 use Rattle.first_draft.specs.File as D
 use Rattle.first_draft.specs.Run as O
 use Rattle.first_draft.specs.Answer as B
-use Rattle.first_draft.proofs.SameFile.{old-edge, old-edges, old-case}
-use Rattle.first_draft.proofs.SameRun.{old-state, from-same, to-same, many-same, some-same}
+use Rattle.first_draft.proofs.SameFile.{old-case}
+use Rattle.first_draft.proofs.SameRun.{old-state, from-same, to-same, many-same}
 
 -- TEXT
 digits-same : (k v : ℕ) → B.digits k v ≡ N.digits k v

@@ -1,17 +1,17 @@
 -- Document 03's case files are ours: the same refusal for every text, and the same case.
-use mathlib.Core.Path.{_≡_, refl, sym, ap, subst, _∙_}
-use mathlib.Core.Bool.{Bool, true, false, _&&_, _||_, not, cond}
-use mathlib.Core.List.{List, [], _∷_, _++_}
+use mathlib.Core.Path.{_≡_, refl, sym, ap, _∙_}
+use mathlib.Core.Bool.{Bool, true, false, _&&_, not, cond}
+use mathlib.Core.List.{List, [], _∷_}
 use mathlib.Core.Option.{Option, none, some}
-use Prim.Native.Nat.{ℕ, zero, suc, _+_, _*_, _-_, _≤_, _<_}
+use Prim.Native.Nat.{ℕ, zero, suc, _+_, _*_, _-_, _≤_}
 use native.Mathlib.Omega.{arith}
 use lib.Dec.{ltb, leb, eqb}
-use borrow.Author.Tests.{eqb-true, eqb-false, ne-eqb, eq-eqb, ltb-true, ltb-false, lt-ltb, le-ltb}
+use borrow.Author.Tests.{ne-eqb, ltb-true, ltb-false, lt-ltb, le-ltb}
 use lib.ListN.{length, getD, take, drop, length-drop}
 use Rattle.text.specs.Ascii.{ascii}
 use Rattle.text.specs.Lines as L
 use Rattle.text.specs.Numbers as N
-use Rattle.model.specs.Graph.{Graph, Edge}
+use Rattle.model.specs.Graph.{Edge}
 use Rattle.model.specs.Case as C
 use Rattle.model.specs.CaseFile as F
 use Rattle.first_draft.specs.File as D

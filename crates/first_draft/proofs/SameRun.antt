@@ -1,13 +1,13 @@
 -- Document 03's runs are ours: the same state after every list of acts and after every round, for every sound case.
-use mathlib.Core.Path.{_≡_, refl, sym, ap, subst, _∙_}
+use mathlib.Core.Path.{_≡_, refl, ap, _∙_}
 use mathlib.Core.Bool.{Bool, true, false, _&&_, _||_, not, cond}
-use mathlib.Core.List.{List, [], _∷_, _++_}
+use mathlib.Core.List.{List, [], _∷_}
 use mathlib.Core.Option.{Option, none, some}
-use Prim.Native.Nat.{ℕ, zero, suc, _+_, _*_, _-_, _≤_, _<_}
+use Prim.Native.Nat.{ℕ, zero, suc, _+_, _*_, _-_, _<_}
 use native.Mathlib.Omega.{arith}
-use lib.Dec.{ltb, leb, eqb}
-use lib.ListN.{length, getD, set, replicate}
-use Rattle.model.specs.Graph.{Graph, Edge, edge, edge-depth, total, accepting-count}
+use lib.Dec.{ltb, eqb}
+use lib.ListN.{length, getD, set}
+use Rattle.model.specs.Graph.{Edge, edge, edge-depth, total, accepting-count}
 use Rattle.model.specs.Case.{Case, owner, Sound, most-acts}
 use Rattle.model.specs.Run as R
 use Rattle.model.proofs.Shapes.{Shape, cell-in, not-broken}

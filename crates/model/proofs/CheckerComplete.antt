@@ -20,13 +20,16 @@ use Rattle.model.specs.Run.{distance}
 use Rattle.model.specs.Answer.{cycle, stem, answer-names, lasso-names, empty-names, head-row, edge-rows, lasso-text, vertex-rows, empty-text}
 use Rattle.model.specs.Passing.{says-lasso, says-empty, head-layout, counts-suit, counts-fit, listed-edges-refusal, vertex-layout, above, distance-good, listed-vertices-refusal, Listed, number-of, is-listed, leads, all-lead, passes-empty, stem-in, cycle-in, listed-of, listed-in, lasso-refusal, empty-refusal, answer-refusal, answer-verdict}
 use Rattle.model.specs.Entry.{verdict}
-use Rattle.model.proofs.Tools.{and-true, both-true, clash, some-not-none, some-inj}
+use Rattle.text.proofs.Tests.{and-true, both-true, clash}
+use Rattle.model.proofs.Tools.{some-not-none, some-inj}
 use Rattle.model.proofs.Pigeon.{row}
 use Rattle.model.proofs.Walks.{Relaxed}
 use Rattle.model.proofs.Signs.{low-neg, high-neg, abs-neg}
 use Rattle.model.proofs.Accepting.{zero-first, first-none, zero-refuse, not-refuse}
 use Rattle.model.proofs.Fits.{All-below, rows-few}
-use Rattle.model.proofs.Reading.{Without, Plain, fields-joined, All-plain, row-lines, lines-text, decimal-number, decimal-value, decimal-without, written}
+use Rattle.text.proofs.Decimals.{decimal-number, decimal-value}
+use Rattle.text.proofs.Rows.{Without, Plain, fields-joined, All-plain, row-lines, lines-text, decimal-without}
+use Rattle.model.proofs.Reading.{written}
 use Rattle.model.proofs.CheckerSound.{under-le, Leads}
 
 -- a row of fixed names is plain: by computation
@@ -130,7 +133,7 @@ passes g bs ls w s k r e l b n h c z = rw e
 -- EDGE LINES
 edge-line : (e : ℕ) → e < 10 ^ 9 → (numbers-line 1 (closed-line (joined (decimal e ∷ []))) ≡ true) × (number-at (closed-line (joined (decimal e ∷ []))) 0 ≡ e)
 unfolding numbers-line number-at field all-numbers
-edge-line e h = rw (fields-joined (decimal e ∷ []) (last-plain e), decimal-number e h) (refl, decimal-value e h)
+edge-line e h = rw (fields-joined (decimal e ∷ []) (last-plain e), decimal-number e h) (refl, decimal-value e (omega arith))
 
 edges-plain : (es : List ℕ) → All-plain (edge-rows es)
 unfolding edge-rows
@@ -248,7 +251,7 @@ module _ (v d : ℕ) (hv : v < 10 ^ 9) (hd : d ≤ farthest) where
 
   vertex-line-vertex : number-at vertex-line 0 ≡ v
   unfolding number-at field
-  vertex-line-vertex = rw (fields-joined (decimal v ∷ signed-decimal (distance d) ∷ []) row-plain) (decimal-value v hv)
+  vertex-line-vertex = rw (fields-joined (decimal v ∷ signed-decimal (distance d) ∷ []) row-plain) (decimal-value v (omega arith))
 
   vertex-line-field : field vertex-line 1 ≡ signed-decimal (distance d)
   unfolding field

@@ -14,7 +14,7 @@ use Rattle.model.specs.Graph.{Graph, edge, edge-depth, edge-length, is-w
 use Rattle.model.specs.Answer.{cycle, stem}
 use Rattle.model.specs.Passing.{says-lasso, Listed, number-of, is-listed, leads, all-lead, passes-empty, stem-in, cycle-in, listed-in, lasso-refusal, empty-refusal, answer-refusal, answer-verdict}
 use Rattle.model.specs.Promise.{Checker-sound}
-use Rattle.model.proofs.Tools.{Test, test, Same, same?, and-true, clash, holds, fails, same, other}
+use Rattle.text.proofs.Tests.{Test, test, Same, same?, and-true, clash, holds, fails, same, other}
 use Rattle.model.proofs.Walks.{steps, Lasso, lasso-parts}
 use Rattle.model.proofs.Signs.{high, low, le-parts, parts-le, add-parts, low-neg, high-neg}
 use Rattle.model.proofs.Accepting.{first-zero, refuse-not}

@@ -21,7 +21,8 @@ use Rattle.model.specs.Passing.{says-lasso, answer-refusal, check-refusa
 use Rattle.model.specs.Entry.{any-at-or-above, acts-refusal, list-refusal, rounds-refusal, verdict, in-front, Refused, Cut-short, Finished, Run-says, List-says, Rounds-say}
 use Rattle.model.specs.Promise.{Ended, Finding, whole-rounds, Agree, Checker-sound, Says, Definite, Runs-definite, Checks-definite, True-verdict, Shows-lasso, Shows-distances, Runs-right, Check-right, Runs-agree, Rounds-as-list, Ten, Ten-exactly, Rounds-never-ten}
 use Rattle.model.specs.declared.Outcome.{Outcome}
-use Rattle.model.proofs.Tools.{Same, same?, same, other, or-false, clash, none-of, some-of}
+use Rattle.text.proofs.Tests.{Same, same?, same, other, or-false, clash}
+use Rattle.model.proofs.Tools.{none-of, some-of}
 use Rattle.model.proofs.Few.{paid, few}
 use Rattle.model.proofs.Rounds.{rounds-listed, rounds-end}
 use Rattle.model.proofs.Findings.{known, finding}

@@ -11,7 +11,8 @@ use lib.Seq.{getD-set-same, getD-set-other}
 use Rattle.model.specs.Graph.{edge, edge-depth, accepting-count}
 use Rattle.model.specs.Case.{Case, owner, most-acts, Sound}
 use Rattle.model.specs.Run.{State, is-some, ended-lasso, has-ended, fresh, with-queues, with-cells, takes, member, enqueue, relax, send, scan, no-vertex, no-message, depth-or, turn, delivery, by-list}
-use Rattle.model.proofs.Tools.{Test, test, Same, same?, sum, sum-le, sum-lt, sum-bound, sum-has, or-left, or-right, none-of, some-of, once-head, member-later, member-first, getD-replicate-same, no-queue, no-queues, no-cells, snoc-in, holds, fails, same, other}
+use Rattle.text.proofs.Tests.{Test, test, Same, same?, or-left, or-right, holds, fails, same, other}
+use Rattle.model.proofs.Tools.{sum, sum-le, sum-lt, sum-bound, sum-has, none-of, some-of, once-head, member-later, member-first, getD-replicate-same, no-queue, no-queues, no-cells, snoc-in}
 use Rattle.model.proofs.Steps.{relax-cases, scan-keeps, Acts, acted-keeps}
 use Rattle.model.proofs.Shapes.{Shape, enqueue-cases, not-broken, shape-relax, shape-cell, shape-queue, shape-counted, cell-in, fresh-shape, source-queued}
 

@@ -15,7 +15,8 @@ use Rattle.model.specs.Case.{Case, most-acts, Sound}
 use Rattle.model.specs.Run.{State, distance, is-some, ended-lasso, has-ended, fresh, by-list, by-rounds}
 use Rattle.model.specs.Answer.{cycle-start, cycle, stem, empty-text, answer-of, answer}
 use Rattle.model.specs.Promise.{Ended, Finding, whole-rounds}
-use Rattle.model.proofs.Tools.{Test, test, or-cases, clash, some-not-none, is-some-not, is-some-of, none-of, some-of, some-inj, holds, fails}
+use Rattle.text.proofs.Tests.{Test, test, or-cases, clash, holds, fails}
+use Rattle.model.proofs.Tools.{some-not-none, is-some-not, is-some-of, none-of, some-of, some-inj}
 use Rattle.model.proofs.Walks.{Walk, Lasso, lasso-parts, lasso-whole, Relaxed, relax-walk, no-lasso-in}
 use Rattle.model.proofs.Few.{Paid, paid}
 use Rattle.model.proofs.Rounds.{rounds-listed}

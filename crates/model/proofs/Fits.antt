@@ -1,16 +1,16 @@
--- Fits: answers fit the least output. Numbers of up to 4 digits are allowed for, so larger limits (Paper 9) move nothing here.
+-- Fits: answers fit the least output. Numbers of up to 4 digits are allowed for, so larger limits move nothing here.
 use mathlib.Core.Path.{_≡_, refl}
 use mathlib.Core.Bool.{Bool, true, false, cond}
 use mathlib.Core.List.{List, [], _∷_, _++_}
 use mathlib.Core.Option.{Option, none, some}
-use Prim.Native.Nat.{ℕ, zero, suc, _+_, _*_, _/_, _%_, _^_, _≤_, _<_}
+use Prim.Native.Nat.{ℕ, zero, suc, _+_, _*_, _≤_, _<_}
 use native.Mathlib.Omega.{arith}
-use lib.Dec.{ltb, eqb}
-use borrow.Author.Tests.{ltb-false}
+use lib.Dec.{eqb}
 use lib.ListN.{length, getD, length-append}
 use Rattle.text.specs.Ascii.{ascii}
 use Rattle.text.specs.Lines.{put-first, fields, joined, text}
-use Rattle.text.specs.Numbers.{digits, decimal, signed-decimal}
+use Rattle.text.specs.Numbers.{decimal, signed-decimal}
+use Rattle.text.proofs.Decimals.{decimal-short}
 use Rattle.model.specs.Graph.{Graph, edge, total, accepting-count, is-walk}
 use Rattle.model.specs.Case.{Case, most-vertices, most-edges, least-output, Sound, Within}
 use Rattle.model.specs.Run.{State, distance}
@@ -19,19 +19,8 @@ use Rattle.model.specs.Promise.{Ended}
 use Rattle.model.proofs.Walks.{steps}
 use Rattle.model.proofs.Findings.{Known, known, stem-few, lasso-shown}
 
-pub digits-short : (k j v : ℕ) → v < 10 ^ suc j → length (digits k v) ≤ suc j
-unfolding digits
-digits-short zero j v h = omega arith
-digits-short (suc k) j v h = go j (ltb v 10) refl h (λ i h. digits-short k i (v / 10) h)
-  where
-    go : (j : ℕ) (b : Bool) → ltb v 10 ≡ b → v < 10 ^ suc j → ((i : ℕ) → v / 10 < 10 ^ suc i → length (digits k (v / 10)) ≤ suc i) → length (cond b ((48 + v) ∷ []) (digits k (v / 10) ++ ((48 + v % 10) ∷ []))) ≤ suc j
-    go j true e h r = omega arith
-    go zero false e h r = absurd (omega (arith, ltb-false))
-    go (suc j) false e h r = simp length-append (omega (arith, r j (omega arith)))
-
 four : (v : ℕ) → v < 10000 → length (decimal v) ≤ 4
-unfolding decimal
-four v h = digits-short 10 3 v h
+four v h = decimal-short v 4 (omega arith) h
 
 distance-short : (d : ℕ) → d < 10000 → length (signed-decimal (distance d)) ≤ 5
 unfolding distance signed-decimal
@@ -44,10 +33,10 @@ text-length r rs = length-append (joined r) (10 ∷ text rs)
 
 head-short : (w : List ℕ) (s k r : ℕ) → length w ≤ 5 → s < 10000 → k < 10000 → r < 10000 → length (joined (head-row w s k r)) ≤ 22
 unfolding head-row joined
-head-short w s k r l hs hk hr = simp length-append (omega (arith, four s hs, four k hk, four r hr, digits-short 10 0 1 (omega arith), one))
+head-short w s k r l hs hk hr = simp length-append (omega (arith, four s hs, four k hk, four r hr, one))
   where
     one : length (decimal 1) ≤ 1
-    one = unfold decimal in (digits-short 10 0 1 (omega arith))
+    one = decimal-short 1 1 (omega arith) (omega arith)
 
 -- numbers of edges below a bound
 abbrev pub All-below : ℕ → List ℕ → Type 0

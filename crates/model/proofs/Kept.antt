@@ -16,7 +16,8 @@ use Rattle.model.specs.Answer.{cycle-start, cycle, stem, lasso-text, emp
 use Rattle.model.specs.Passing.{answer-refusal, answer-verdict}
 use Rattle.model.specs.Entry.{verdict}
 use Rattle.model.specs.Promise.{Ended, Finding, whole-rounds, Runs-kept, Moments-kept, Limits-kept, Of-cases, One-stem, Agree, Same-finding, Files-sound, Of-files, Files-agree}
-use Rattle.model.proofs.Tools.{or-cases, clash, some-of}
+use Rattle.text.proofs.Tests.{or-cases, clash}
+use Rattle.model.proofs.Tools.{some-of}
 use Rattle.model.proofs.Walks.{lasso-whole}
 use Rattle.model.proofs.Few.{paid, few}
 use Rattle.model.proofs.Rounds.{rounds-listed, rounds-end}

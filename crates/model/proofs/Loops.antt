@@ -14,7 +14,8 @@ use Rattle.model.specs.Graph.{Graph, edge, edge-depth, accepting-count, 
 use Rattle.model.specs.Case.{Case}
 use Rattle.model.specs.Run.{State, member}
 use Rattle.model.specs.Answer.{one-back, back, cycle-start, with-parent, cycle-from, cycle}
-use Rattle.model.proofs.Tools.{Test, test, Once, or-cases, clash, getD-out, some-not-none, some-inj, holds, fails}
+use Rattle.text.proofs.Tests.{Test, test, or-cases, clash, holds, fails}
+use Rattle.model.proofs.Tools.{Once, getD-out, some-not-none, some-inj}
 use Rattle.model.proofs.Pigeon.{marks-on, once-marks, Twice, pigeon-twice}
 use Rattle.model.proofs.Walks.{walk-cons}
 use Rattle.model.proofs.Trace.{Link, Traced}

@@ -11,7 +11,8 @@ use lib.Seq.{getD-set-same, getD-set-other}
 use Rattle.model.specs.Graph.{edge, edge-depth}
 use Rattle.model.specs.Case.{Case, owner, Sound}
 use Rattle.model.specs.Run.{State, ended-lasso, fresh, with-queues, with-cells, takes, member, taken, relax, send, scan-edge, scan-from, counted, depth-or, act, acted, by-list}
-use Rattle.model.proofs.Tools.{Same, same?, same, other, clash, some-not-none, getD-replicate-same, member-later, member-first, once-head, set-some, some-inj, snoc-in}
+use Rattle.text.proofs.Tests.{Same, same?, same, other, clash}
+use Rattle.model.proofs.Tools.{some-not-none, getD-replicate-same, member-later, member-first, once-head, set-some, some-inj, snoc-in}
 use Rattle.model.proofs.Steps.{relax-cases, scan-keeps, Acts, acted-keeps}
 use Rattle.model.proofs.Shapes.{Shape, enqueue-cases, not-broken, shape-relax, shape-cell, shape-queue, shape-counted, cell-in, head-depth, fresh-shape}
 use Rattle.model.proofs.Few.{waiting, relax-cells}

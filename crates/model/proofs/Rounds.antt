@@ -13,7 +13,8 @@ use Rattle.model.specs.Graph.{edge-depth}
 use Rattle.model.specs.Case.{Case, most-acts, Sound}
 use Rattle.model.specs.Run.{State, is-some, ended-lasso, has-ended, fresh, with-queues, with-cells, member, relax, scan, counted, depth-or, turn-of, turn, delivery-of, delivery, act, acted, range, round-acts, rounds}
 use Rattle.model.specs.Promise.{whole-rounds}
-use Rattle.model.proofs.Tools.{Same, same?, or-left, or-right, clash, member-first, no-queues, no-cells, same, other}
+use Rattle.text.proofs.Tests.{Same, same?, or-left, or-right, clash, same, other}
+use Rattle.model.proofs.Tools.{member-first, no-queues, no-cells}
 use Rattle.model.proofs.Steps.{scan-keeps, act-keeps, acted-keeps}
 use Rattle.model.proofs.Shapes.{not-broken, cell-in}
 use Rattle.model.proofs.Few.{relax-count, Paid, paid-acts, fresh-paid, few}

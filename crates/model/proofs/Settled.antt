@@ -11,7 +11,8 @@ use lib.Seq.{getD-set-same, getD-set-other}
 use Rattle.model.specs.Graph.{edge, edge-depth}
 use Rattle.model.specs.Case.{Case, owner, Sound}
 use Rattle.model.specs.Run.{State, is-some, fresh, with-queues, with-cells, takes, member, taken, relax, lower, send, scan, no-vertex, no-message, counted, depth-or, turn, delivery, by-list}
-use Rattle.model.proofs.Tools.{Same, same?, and-true, clash, some-not-none, member-first, no-queue, no-cell, member-end, member-before, some-inj, member-rest, same, other}
+use Rattle.text.proofs.Tests.{Same, same?, and-true, clash, same, other}
+use Rattle.model.proofs.Tools.{some-not-none, member-first, no-queue, no-cell, member-end, member-before, some-inj, member-rest}
 use Rattle.model.proofs.Walks.{Relaxed}
 use Rattle.model.proofs.Steps.{relax-cases, scan-keeps, Acts, acted-keeps}
 use Rattle.model.proofs.Shapes.{Shape, enqueue-cases, not-broken, shape-relax, shape-cell, shape-queue, cell-in, head-depth, fresh-depth, source-queued}

@@ -13,7 +13,8 @@ use Rattle.model.specs.Graph.{edge, accepting-count}
 use Rattle.model.specs.Case.{Case, owner, Sound}
 use Rattle.model.specs.Run.{State, is-some, ended-lasso, has-ended, fresh, with-queues, with-cells, member, enqueue, below-floor, relax, counted, depth-or}
 use Rattle.model.specs.Passing.{above}
-use Rattle.model.proofs.Tools.{Test, test, Same, same?, Once, or-false, clash, once-snoc, getD-out, some-not-none, none-of, once-tail, member-later, member-first, getD-replicate-same, set-some, some-inj, snoc-in, some-after, holds, fails, same, other}
+use Rattle.text.proofs.Tests.{Test, test, Same, same?, or-false, clash, holds, fails, same, other}
+use Rattle.model.proofs.Tools.{Once, once-snoc, getD-out, some-not-none, none-of, once-tail, member-later, member-first, getD-replicate-same, set-some, some-inj, snoc-in, some-after}
 use Rattle.model.proofs.Steps.{relax-cases}
 
 pub record Shape (c : Case) (x : State) : Type 0 where

@@ -7,7 +7,7 @@ use lib.Dec.{ltb}
 use borrow.Author.Tests.{ltb-true, ltb-false, leb-true, le-leb}
 use lib.IntN.{ℤ, pos, negsuc, negℤ, natAbs, _+ℤ_, subℕ}
 use lib.Signed.{leZ}
-use Rattle.model.proofs.Tools.{clash}
+use Rattle.text.proofs.Tests.{clash}
 
 unfoldable pub high : ℤ → ℕ
 high (pos n) = n

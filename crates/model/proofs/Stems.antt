@@ -14,7 +14,8 @@ use Rattle.model.specs.Case.{Case, Sound}
 use Rattle.model.specs.Run.{member}
 use Rattle.model.specs.Answer.{with-edge, or-walk, walk-of, walk-or, stem-from, stem}
 use Rattle.model.specs.KeptRuns.{comes}
-use Rattle.model.proofs.Tools.{Test, test, Same, same?, Once, clash, once-tail, snoc-in, holds, fails, same, other}
+use Rattle.text.proofs.Tests.{Test, test, Same, same?, clash, holds, fails, same, other}
+use Rattle.model.proofs.Tools.{Once, once-tail, snoc-in}
 use Rattle.model.proofs.Pigeon.{pigeon}
 use Rattle.model.proofs.Walks.{Steps, steps, walk-cons}
 

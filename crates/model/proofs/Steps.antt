@@ -11,7 +11,7 @@ use lib.ListN.{length, getD, set}
 use Rattle.model.specs.Graph.{edge, edge-depth}
 use Rattle.model.specs.Case.{Case, owner}
 use Rattle.model.specs.Run.{State, is-some, ended-lasso, has-ended, with-queues, with-cells, takes, taken, relax, send, scan-edge, scan-from, scan, counted, depth-or, turn-of, turn, delivery-of, delivery, act, acted}
-use Rattle.model.proofs.Tools.{other}
+use Rattle.text.proofs.Tests.{other}
 
 -- a try: the offer is not taken, or it is
 pub relax-cases : (P : State → Type 0) (c : Case) (e d : ℕ) (x : State) → (takes (getD (x .depths) (edge (c .graph) e .to) none) d ≡ false → P x) →

@@ -13,7 +13,8 @@ use lib.Seq.{getD-set-same, getD-set-other}
 use Rattle.model.specs.Graph.{Graph, edge, edge-depth, accepting-count}
 use Rattle.model.specs.Case.{Case, Sound}
 use Rattle.model.specs.Run.{State, fresh, with-queues, with-cells, takes, below-floor, taken, relax, send, scan, counted, depth-or, turn, delivery, by-list}
-use Rattle.model.proofs.Tools.{Same, same?, some-not-none, getD-replicate-same, set-some, some-inj, same, other}
+use Rattle.text.proofs.Tests.{Same, same?, same, other}
+use Rattle.model.proofs.Tools.{some-not-none, getD-replicate-same, set-some, some-inj}
 use Rattle.model.proofs.Steps.{relax-cases, scan-keeps, Acts, acted-keeps}
 use Rattle.model.proofs.Shapes.{Shape, not-broken, shape-relax, shape-cell, shape-queue, shape-counted, cell-in, head-depth, fresh-depth, fresh-shape}
 use Rattle.model.proofs.Walked.{lower-cases, takes-less, taken-at, taken-other, taken-deeper}

@@ -12,7 +12,8 @@ use lib.Seq.{getD-set-same, getD-set-other}
 use Rattle.model.specs.Graph.{edge, edge-depth, is-walk, walk-end, walk-depth}
 use Rattle.model.specs.Case.{Case, owner, Sound}
 use Rattle.model.specs.Run.{State, is-some, fresh, with-queues, with-cells, takes, taken, relax, lower, send, scan, counted, turn, delivery, by-list}
-use Rattle.model.proofs.Tools.{Same, same?, clash, some-not-none, is-some-of, getD-replicate-same, set-some, some-inj, some-after, same, other}
+use Rattle.text.proofs.Tests.{Same, same?, clash, same, other}
+use Rattle.model.proofs.Tools.{some-not-none, is-some-of, getD-replicate-same, set-some, some-inj, some-after}
 use Rattle.model.proofs.Walks.{Walk, walk-on}
 use Rattle.model.proofs.Steps.{relax-cases, scan-keeps, Acts, acted-keeps}
 use Rattle.model.proofs.Shapes.{Shape, not-broken, shape-relax, shape-cell, shape-queue, shape-counted, cell-in, head-depth, fresh-depth, fresh-source, fresh-shape}

@@ -11,7 +11,8 @@ use borrow.Author.Tests.{ltb-true, leb-true, leb-false, eqb-true, lt-ltb, le-leb
 use lib.ListN.{length, getD}
 use Rattle.model.specs.Graph.{Graph, edge, mark, edge-depth, is-walk, walk-end, walk-depth, Reaches, leaves-accepting, is-lasso}
 use Rattle.model.specs.Answer.{cycle, stem}
-use Rattle.model.proofs.Tools.{Test, test, holds, fails, clash, or-left, or-right, or-cases, and-true, both-true, some-inj}
+use Rattle.text.proofs.Tests.{Test, test, holds, fails, clash, or-left, or-right, or-cases, and-true, both-true}
+use Rattle.model.proofs.Tools.{some-inj}
 
 -- a walk's first edge
 pub record Steps (g : Graph) (v e : ℕ) (es : List ℕ) : Type 0 where

@@ -17,6 +17,7 @@ use mir.Facts.{fits-natAbs, toZ-ofZ}
 use borrow.Author.Tests.{ltb-true, ltb-false, le-ltb, leb-true, leb-false, le-leb, eq-eqb, ne-eqb}
 use Rattle.text.specs.Numbers.{is-digit, all-digits, no-leading-zero, is-number, value-from, value, has-minus, without-minus, is-signed, signed-value, digits, decimal, signed-decimal}
 use Rattle.text.specs.Writing.{put, Writes}
+use Rattle.text.proofs.Tests.{or-left, or-right, and-true, both-true}
 use Rattle.text.proofs.Writing.{put-before, put-none, writes-fits}
 
 -- the digits of a number below 10 and of one from 10 on
@@ -210,20 +211,6 @@ written-end at size v w i o z q r h = writes-fits at (decimal v) (at + size) o z
     go (x ∷ f) a p = absurd (omega arith)
 
 -- READ BACK: all are digits
-and-true : (a b : Bool) → (a && b) ≡ true → (a ≡ true) × (b ≡ true)
-and-true true b e = (refl, e)
-and-true false b e = (e, cc)
-
-both-true : (a b : Bool) → a ≡ true → b ≡ true → (a && b) ≡ true
-both-true a b e f = rw e f
-
-or-left : (a b : Bool) → a ≡ true → (a || b) ≡ true
-or-left a b e = rw e
-
-or-right : (a b : Bool) → b ≡ true → (a || b) ≡ true
-or-right true b e = refl
-or-right false b e = e
-
 all-append : (a b : List ℕ) → all-digits a ≡ true → all-digits b ≡ true → all-digits (a ++ b) ≡ true
 unfolding all-digits
 all-append [] b p q = q
