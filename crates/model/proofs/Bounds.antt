@@ -12,7 +12,7 @@ use Rattle.model.specs.Run.{State}
 use Rattle.model.proofs.Pigeon.{pigeon}
 use Rattle.model.proofs.Shapes.{Shape, cell-in}
 use Rattle.model.proofs.Trace.{Trace}
-use Rattle.model.proofs.Fits.{A-few}
+use Rattle.model.proofs.Fits.{accepting-few}
 
 pub queue-short : (c : Case) (x : State) → Shape c x → (w : ℕ) → length (getD (x .queues) w []) ≤ c .graph .vertices
 queue-short c x s w = pigeon (c .graph .vertices) (getD (x .queues) w []) (s .once w) (λ v m. s .below v w m)
@@ -29,7 +29,7 @@ offer-low c ok x r n e o h =
 -- the bound on acts, with the limits as parameters
 pub most-acts-within : (c : Case) (n m : ℕ) → Sound c → c .graph .vertices ≤ n → length (c .graph .edges) ≤ m → most-acts c ≤ (n + m) * suc n
 unfolding most-acts
-most-acts-within c n m ok p q = mul-le-mul (let h : c .graph .vertices + length (c .graph .edges) ≤ n + m = omega arith in h) (let k : accepting-count (c .graph) + 1 ≤ suc n = omega (arith, A-few c ok) in k)
+most-acts-within c n m ok p q = mul-le-mul (let h : c .graph .vertices + length (c .graph .edges) ≤ n + m = omega arith in h) (let k : accepting-count (c .graph) + 1 ≤ suc n = omega (arith, accepting-few c ok) in k)
 
 pub most-acts-small : (c : Case) → Sound c → Within c → most-acts c < 2 ^ 32
 most-acts-small c ok l = omega (arith, most-acts-within c most-vertices most-edges ok (l .vertices) (l .edges))

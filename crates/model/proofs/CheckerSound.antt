@@ -1,4 +1,5 @@
--- CheckerSound: along any walk of listed vertices the number falls at least as the length does, so a passed "empty" is true; a passed "lasso" shows one.
+-- CheckerSound: along any walk of listed vertices the number falls at least as the length does, so a passed "empty"
+-- is true; a passed "lasso" shows one.
 use mathlib.Core.Path.{_≡_, refl, sym, ap, subst, _∙_}
 use mathlib.Core.Bool.{Bool, true, false, cond}
 use mathlib.Core.List.{List, [], _∷_}

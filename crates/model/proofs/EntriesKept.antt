@@ -248,10 +248,10 @@ unfolding Rounds-never-ten Rounds-say
 rounds-never-ten bs r o z w v s e = let x = by-rounds (case-in bs) in says-cases ⊥ (rounds-refusal bs (length o) (length w)) (has-ended x) (case-in bs) x r o z w v s
     (λ j q t. rounds-numbers (λ n. n ≡ 10 → ⊥) (λ n l e. omega arith) (λ e. omega arith) bs (length o) (length w) (q ∙ sym (t .refusal) ∙ e))
     (λ n b t. omega (arith, t .refusal))
-    (λ n b t. clash (has-ended (by-rounds (case-in bs))) (rounds-over-end bs (rounds-accepted bs (length o) (length w) n)) b)
+    (λ n b t. clash (has-ended (by-rounds (case-in bs))) (rounds-past-end-end bs (rounds-accepted bs (length o) (length w) n)) b)
   where
-    rounds-over-end : (bs : List ℕ) → case-refusal bs ≡ 0 → has-ended (by-rounds (case-in bs)) ≡ true
-    rounds-over-end bs n = unfold by-rounds in (rounds-end (case-in bs) (accepted-by bs n .0))
+    rounds-past-end-end : (bs : List ℕ) → case-refusal bs ≡ 0 → has-ended (by-rounds (case-in bs)) ≡ true
+    rounds-past-end-end bs n = unfold by-rounds in (rounds-end (case-in bs) (accepted-by bs n .0))
 
 -- THE FIRST DEMAND
 definite-says : (k : ℕ) (b : Bool) (c : Case) (x : State) (r : Outcome) (o z : List ℕ) (w v : List ℤ) → k ≤ 11 → (k ≡ 10 → ⊥) → Run-says k b c x r o z w v → Definite r o z w v

@@ -1,4 +1,5 @@
--- Findings: an ended run shows a lasso exactly if there is one, else all distances; two ended runs on one graph agree.
+-- Findings: an ended run shows a lasso exactly if there is one, else all distances; two ended runs on one graph
+-- agree.
 use mathlib.Core.Path.{_≡_, refl, sym, ap, subst, _∙_}
 use mathlib.Core.Bool.{true, false}
 use mathlib.Core.List.{List}

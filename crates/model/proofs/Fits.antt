@@ -97,9 +97,9 @@ unfolding total
 total-few [] h = omega arith
 total-few (m ∷ ms) h = omega (arith, h 0 (omega arith), total-few ms (λ i l. h (suc i) (omega arith)))
 
-pub A-few : (c : Case) → Sound c → accepting-count (c .graph) ≤ c .graph .vertices
+pub accepting-few : (c : Case) → Sound c → accepting-count (c .graph) ≤ c .graph .vertices
 unfolding accepting-count
-A-few c ok = omega (arith, ok .marks, total-few (c .graph .accepting) (λ i l. ok .mark i (rw (ok .marks) at l)))
+accepting-few c ok = omega (arith, ok .marks, total-few (c .graph .accepting) (λ i l. ok .mark i (rw (ok .marks) at l)))
 
 empty-fits : (ds : List (Option ℕ)) → length ds ≤ most-vertices → ((i d : ℕ) → getD ds i none ≡ some d → d ≤ most-vertices) → length (empty-text ds) ≤ least-output
 unfolding empty-text
@@ -144,7 +144,7 @@ lasso-fits m ss es l a b p q =
 
 pub answer-fits : (c : Case) → Sound c → Within c → (x : State) → Known c x → (o : Option ℕ) → x .broken ≡ o → length (answer-of (c .graph) o (x .parents) (x .depths)) ≤ least-output
 unfolding answer-of
-answer-fits c ok l x k none h = empty-fits (x .depths) (omega (arith, k .paid .shape .depths, l .vertices)) (λ i d q. omega (arith, k .paid .shape .above h i d q, A-few c ok, l .vertices))
+answer-fits c ok l x k none h = empty-fits (x .depths) (omega (arith, k .paid .shape .depths, l .vertices)) (λ i d q. omega (arith, k .paid .shape .above h i d q, accepting-few c ok, l .vertices))
 answer-fits c ok l x k (some b) h =
     let y = lasso-shown c ok x k b h in
     lasso-fits (length (c .graph .edges)) (stem (c .graph) (cycle-start (c .graph) (x .parents) b)) (cycle (c .graph) (x .parents) b) (l .edges)

@@ -1,4 +1,5 @@
--- Kept: the promises of specs/Promise.antt about any sound case and about accepted files, put together from the files before.
+-- Kept: the promises of specs/Promise.antt about any sound case and about accepted files, put together from the files
+-- before.
 use mathlib.Core.Path.{_≡_, refl, sym, ap, subst, _∙_}
 use mathlib.Core.Bool.{Bool, true, false, cond}
 use mathlib.Core.List.{List}
@@ -26,19 +27,19 @@ use Rattle.model.proofs.Moments.{never-raised, joins-lower}
 use Rattle.model.proofs.Stems.{fewest-one}
 use Rattle.model.proofs.Findings.{Known, known, walk-real, distances-le, stem-few, lasso-shown, finding, alike}
 use Rattle.model.proofs.Accepting.{files-sound}
-use Rattle.model.proofs.Fits.{walk-below, below-append, cycle-few, A-few, answer-fits, answers-fit}
+use Rattle.model.proofs.Fits.{walk-below, below-append, cycle-few, accepting-few, answer-fits, answers-fit}
 use Rattle.model.proofs.Bounds.{most-acts-small}
 use Rattle.model.proofs.CheckerComplete.{lasso-complete, empty-complete}
 
 -- ROUNDS past the end change nothing, so enough whole rounds are the run by rounds
-rounds-over : (i : ℕ) (c : Case) (x : State) → has-ended x ≡ true → rounds i c x ≡ x
+rounds-past-end : (i : ℕ) (c : Case) (x : State) → has-ended x ≡ true → rounds i c x ≡ x
 unfolding rounds
-rounds-over zero c x o = refl
-rounds-over (suc i) c x o = rw o refl
+rounds-past-end zero c x o = refl
+rounds-past-end (suc i) c x o = rw o refl
 
 rounds-enough : (j i : ℕ) (c : Case) (x : State) → has-ended (rounds j c x) ≡ true → rounds (j + i) c x ≡ rounds j c x
 unfolding rounds
-rounds-enough zero i c x o = rounds-over (0 + i) c x o
+rounds-enough zero i c x o = rounds-past-end (0 + i) c x o
 rounds-enough (suc j) i c x o = ap (λ (k : ℕ). rounds k c x) (suc-add j i) ∙ go (has-ended x) (λ o. rounds-enough j i c (acted c (round-acts c) x) o) o
   where
     go : (b : Bool) → (has-ended (rounds j c (acted c (round-acts c) x)) ≡ true → rounds (j + i) c (acted c (round-acts c) x) ≡ rounds j c (acted c (round-acts c) x)) → has-ended (cond b x (rounds j c (acted c (round-acts c) x))) ≡ true →
@@ -76,7 +77,7 @@ unfolding answer-of is-some
 complete-at c ok w x k none h (inl i) = clash false i refl
 complete-at c ok w x k none h (inr i) =
     let s = some-of (getD (x .depths) (c .graph .source) none) (k .tale .walked .source) in
-    empty-complete (c .graph) (x .depths) (w .vertices) (k .paid .shape .depths) (λ j d q. omega (arith, k .paid .shape .above h j d q, A-few c ok, w .vertices)) (relaxed c ok x (k .paid) (k .tale) h i) (s .0) (s .1)
+    empty-complete (c .graph) (x .depths) (w .vertices) (k .paid .shape .depths) (λ j d q. omega (arith, k .paid .shape .above h j d q, accepting-few c ok, w .vertices)) (relaxed c ok x (k .paid) (k .tale) h i) (s .0) (s .1)
     (let l : length (empty-text (x .depths)) ≤ least-output = answer-fits c ok w x k none h in omega arith)
 complete-at c ok w x k (some b) h _ =
     let y = lasso-shown c ok x k b h in

@@ -1,4 +1,5 @@
--- K1 to K11 come out as document 01 says, and the examples of refusals as they are listed: both tables by computation.
+-- K1 to K11 come out as document 01 says, and the examples of refusals as they are listed: both tables by
+-- computation.
 use mathlib.Core.Path.{_≡_, refl}
 use mathlib.Core.Bool.{Bool, true}
 use Rattle.text.specs.Lines.{put-byte, lines, line-at, put-first, fields, field, equal, begins, line-is, joined, text}

@@ -1,4 +1,5 @@
--- Loops: from a broken floor the parents never end, n edges back one stands on a cycle, and it leaves an accepting vertex.
+-- Loops: from a broken floor the parents never end, n edges back one stands on a cycle, and it leaves an accepting
+-- vertex.
 use mathlib.Core.Path.{_≡_, refl, sym, ap, subst, _∙_}
 use mathlib.Core.Bool.{Bool, true, false, cond}
 use mathlib.Core.List.{List, [], _∷_}

@@ -1,4 +1,6 @@
--- Moments: no act raises a distance, and an offer that joins a waiting message is the lower one. The idea: a vertex stands in a queue only if its distance has fallen since its last scan, so what it offers next is below what it sent then.
+-- Moments: no act raises a distance, and an offer that joins a waiting message is the lower one. The idea: a vertex
+-- stands in a queue only if its distance has fallen since its last scan, so what it offers next is below what it sent
+-- then.
 use mathlib.Core.Path.{_≡_, refl, sym, subst, _∙_}
 use mathlib.Core.Bool.{Bool, true, false, not, _||_, cond}
 use mathlib.Core.List.{List, [], _∷_, _++_}

@@ -1,4 +1,5 @@
--- Settled: each edge out of a vertex with a distance waits for its vertex's scan, or is relaxed, or a good enough offer waits in its cell.
+-- Settled: each edge out of a vertex with a distance waits for its vertex's scan, or is relaxed, or a good enough
+-- offer waits in its cell.
 use mathlib.Core.Path.{_≡_, refl, sym, subst, _∙_}
 use mathlib.Core.Bool.{true, false, _&&_, not}
 use mathlib.Core.List.{List, [], _∷_}

@@ -1,4 +1,5 @@
--- The shape of a run, kept by every act: lengths, what stands in a queue, and no distance below the floor before it is broken.
+-- The shape of a run, kept by every act: lengths, what stands in a queue, and no distance below the floor before it
+-- is broken.
 use mathlib.Core.Path.{_≡_, refl, sym, subst, _∙_}
 use mathlib.Core.Bool.{Bool, true, false, cond}
 use mathlib.Core.List.{List, [], _∷_, _++_}

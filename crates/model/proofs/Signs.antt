@@ -1,4 +1,5 @@
--- Signs: a signed number as its part above 0 and its part below, so that orders and sums are facts of natural numbers, which omega reads.
+-- Signs: a signed number as its part above 0 and its part below, so that orders and sums are facts of natural
+-- numbers, which omega reads.
 use mathlib.Core.Path.{_≡_, refl}
 use mathlib.Core.Bool.{Bool, true, false, cond}
 use Prim.Native.Nat.{ℕ, zero, suc, _+_, _-_, _≤_}

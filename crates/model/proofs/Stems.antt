@@ -1,4 +1,5 @@
--- Stems: the stem that is computed is the walk of fewest edges, of those the first in dictionary order; there is no other.
+-- Stems: the stem that is computed is the walk of fewest edges, of those the first in dictionary order; there is no
+-- other.
 use mathlib.Core.Path.{_≡_, refl, sym, ap, subst, _∙_}
 use mathlib.Core.Bool.{Bool, true, false, cond}
 use mathlib.Core.List.{List, [], _∷_}

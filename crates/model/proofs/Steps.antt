@@ -1,4 +1,5 @@
--- Case principles: what a try, an edge of a scan, an act and a list of acts keep. After these no proof unfolds an operation.
+-- Case principles: what a try, an edge of a scan, an act and a list of acts keep. After these no proof unfolds an
+-- operation.
 use mathlib.Core.Path.{_≡_, refl, subst}
 use mathlib.Core.Bool.{Bool, true, false, _||_, not, cond}
 use mathlib.Core.List.{List, [], _∷_}

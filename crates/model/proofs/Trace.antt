@@ -1,4 +1,5 @@
--- Trace: parents, stamped by the time of their last try; each parent edge goes down as far as the depths say, or its start is older.
+-- Trace: parents, stamped by the time of their last try; each parent edge goes down as far as the depths say, or its
+-- start is older.
 use mathlib.Core.Path.{_≡_, refl, sym, subst, _∙_}
 use mathlib.Core.Bool.{Bool, true, false, cond}
 use mathlib.Core.List.{List, [], _∷_}

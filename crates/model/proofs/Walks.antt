@@ -34,15 +34,15 @@ walk-snoc g v (f ∷ es) e w l q =
     let p = and-true (ltb f (length (g .edges)) && eqb (edge g f .from) v) (is-walk g (edge g f .to) es) w in
     both-true _ _ (p .0) (walk-snoc g (edge g f .to) es e (p .1) l q)
 
-pub ends-snoc : (g : Graph) (v : ℕ) (es : List ℕ) (e : ℕ) → walk-end g v (es ++ (e ∷ [])) ≡ edge g e .to
+pub walk-end-snoc : (g : Graph) (v : ℕ) (es : List ℕ) (e : ℕ) → walk-end g v (es ++ (e ∷ [])) ≡ edge g e .to
 unfolding walk-end
-ends-snoc g v [] e = refl
-ends-snoc g v (f ∷ es) e = ends-snoc g (edge g f .to) es e
+walk-end-snoc g v [] e = refl
+walk-end-snoc g v (f ∷ es) e = walk-end-snoc g (edge g f .to) es e
 
-pub fall-snoc : (g : Graph) (es : List ℕ) (e : ℕ) → walk-depth g (es ++ (e ∷ [])) ≡ walk-depth g es + edge-depth g e
+pub walk-depth-snoc : (g : Graph) (es : List ℕ) (e : ℕ) → walk-depth g (es ++ (e ∷ [])) ≡ walk-depth g es + edge-depth g e
 unfolding walk-depth
-fall-snoc g [] e = omega arith
-fall-snoc g (f ∷ es) e = omega (arith, fall-snoc g es e)
+walk-depth-snoc g [] e = omega arith
+walk-depth-snoc g (f ∷ es) e = omega (arith, walk-depth-snoc g es e)
 
 pub walk-cons : (g : Graph) (e : ℕ) (es : List ℕ) → e < length (g .edges) → is-walk g (edge g e .to) es ≡ true → is-walk g (edge g e .from) (e ∷ es) ≡ true
 unfolding is-walk
@@ -60,9 +60,9 @@ walk-on g v d e w l q = record {
   edges = w .edges ++ (e ∷ []);
   reaches = record {
     walks = walk-snoc g (g .source) (w .edges) e (w .reaches .walks) l (q ∙ sym (w .reaches .arrives));
-    arrives = ends-snoc g (g .source) (w .edges) e;
+    arrives = walk-end-snoc g (g .source) (w .edges) e;
   };
-  depth = fall-snoc g (w .edges) e ∙ ap (λ (k : ℕ). k + edge-depth g e) (w .depth);
+  depth = walk-depth-snoc g (w .edges) e ∙ ap (λ (k : ℕ). k + edge-depth g e) (w .depth);
 }
 
 pub record Lasso (g : Graph) (ss es : List ℕ) : Type 0 where

@@ -1,4 +1,5 @@
--- "The answer file": the cycle by parent edges, the stem, and the text of both answers. Assumes nothing: these are definitions.
+-- "The answer file": the cycle by parent edges, the stem, and the text of both answers. Assumes nothing: these are
+-- definitions.
 use mathlib.Core.Bool.{Bool, true, false, cond}
 use mathlib.Core.List.{List, [], _∷_, _++_}
 use mathlib.Core.Option.{Option, none, some}
@@ -12,7 +13,8 @@ use Rattle.model.specs.Graph.{Graph, edge}
 use Rattle.model.specs.Case.{known-version}
 use Rattle.model.specs.Run.{State, distance}
 
--- THE CYCLE. "Go n parent edges back from the vertex that broke the floor. The cycle starts there"; from a vertex without a parent one stays
+-- THE CYCLE. "Go n parent edges back from the vertex that broke the floor. The cycle starts there"; from a vertex
+-- without a parent one stays
 unfoldable pub one-back : Graph → (parent : Option ℕ) → (v : ℕ) → ℕ
 one-back g none v = v
 one-back g (some e) v = edge g e .from
@@ -24,7 +26,8 @@ back (suc k) g ps v = back k g ps (one-back g (getD ps v none) v)
 unfoldable pub cycle-start : Graph → (parents : List (Option ℕ)) → (broken : ℕ) → ℕ
 cycle-start g ps b = back (g .vertices) g ps b
 
--- it "follows parent edges, and is written forwards": from v back to the start, so many edges at most, each put before those so far
+-- it "follows parent edges, and is written forwards": from v back to the start, so many edges at most, each put
+-- before those so far
 unfoldable pub with-parent : (parent : Option ℕ) → List ℕ → List ℕ
 with-parent none es = es
 with-parent (some e) es = e ∷ es
@@ -38,7 +41,8 @@ cycle-from (suc k) g ps s v es =
 unfoldable pub cycle : Graph → (parents : List (Option ℕ)) → (broken : ℕ) → List ℕ
 cycle g ps b = cycle-from (g .vertices) g ps (cycle-start g ps b) (cycle-start g ps b) []
 
--- THE STEM is the one walk that `Fewest` describes (Graph.antt). This computes it: the first walk of 0 edges, else of 1, and so on
+-- THE STEM is the one walk that `Fewest` describes (Graph.antt). This computes it: the first walk of 0 edges, else of
+-- 1, and so on
 unfoldable pub with-edge : ℕ → Option (List ℕ) → Option (List ℕ)
 with-edge e none = none
 with-edge e (some es) = some (e ∷ es)
@@ -102,7 +106,8 @@ edge-rows (e ∷ es) = (decimal e ∷ []) ∷ edge-rows es
 unfoldable pub lasso-text : (stem cycle : List ℕ) → List ℕ
 lasso-text ss es = text (fields answer-names ∷ head-row lasso-word (length ss) (length es) 0 ∷ fields lasso-names ∷ edge-rows (ss ++ es))
 
--- "For empty stem and cycle are 0, and the lines are `vertex distance`, then each reachable vertex in rising order, as `1 -1`"; the first depth is that of v
+-- "For empty stem and cycle are 0, and the lines are `vertex distance`, then each reachable vertex in rising order,
+-- as `1 -1`"; the first depth is that of v
 unfoldable pub vertex-rows : (v : ℕ) → (depths : List (Option ℕ)) → List (List (List ℕ))
 vertex-rows v [] = []
 vertex-rows v (none ∷ ds) = vertex-rows (suc v) ds

@@ -1,4 +1,5 @@
--- A case: a graph, its workers, and the owner of each vertex; and the limits of document 01, each number once. Assumes nothing: these are definitions.
+-- A case: a graph, its workers, and the owner of each vertex; and the limits of document 01, each number once.
+-- Assumes nothing: these are definitions.
 use mathlib.Core.Path.{_≡_}
 use mathlib.Core.List.{List}
 use Prim.Native.Nat.{ℕ, _+_, _*_, _≤_, _<_}
@@ -34,7 +35,8 @@ least-output = 8192
 abbrev pub least-work : ℕ
 least-work = 16384
 
--- "12: a count above 500, a distance outside −500 to 500": an answer lists no more than there can be vertices, and no distance is farther
+-- "12: a count above 500, a distance outside −500 to 500": an answer lists no more than there can be vertices, and no
+-- distance is farther
 abbrev pub most-listed : ℕ
 most-listed = most-vertices
 

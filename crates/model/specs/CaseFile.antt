@@ -1,4 +1,6 @@
--- "The case file": refusals 1 to 8 in their order, and the case in a text. "Files are read front to back and the first fault decides; on one line, layout goes before values and values go left to right." Assumes nothing: these are definitions.
+-- "The case file": refusals 1 to 8 in their order, and the case in a text. "Files are read front to back and the
+-- first fault decides; on one line, layout goes before values and values go left to right." Assumes nothing: these
+-- are definitions.
 use mathlib.Core.Bool.{Bool, true, false, _&&_, _||_, not, cond}
 use mathlib.Core.List.{List, [], _∷_}
 use mathlib.Core.Option.{Option, none, some}
@@ -33,17 +35,20 @@ edge-names = ascii "from to"
 abbrev pub begins-version : (file : List ℕ) → Bool
 begins-version bs = begins (ascii "version ") bs
 
--- "3: line 2's first field, ended by a space, a line feed or the file's end, is a number other than 1 (also an answer file)"
+-- "3: line 2's first field, ended by a space, a line feed or the file's end, is a number other than 1 (also an answer
+-- file)"
 unfoldable pub other-version : List Line → Bool
 other-version ls = let w = field (line-at ls 1) 0 in is-number w && not (eqb (value w) known-version)
 
--- "5: a count or the source out of range": "Vertices 1 to 500, edges 0 to 2,000, workers 1 to 16, source below vertices"
+-- "5: a count or the source out of range": "Vertices 1 to 500, edges 0 to 2,000, workers 1 to 16, source below
+-- vertices"
 unfoldable pub counts-good : (head : Line) → Bool
 counts-good h =
     ((leb 1 (number-at h 1) && leb (number-at h 1) most-vertices) && leb (number-at h 2) most-edges)
     && (ltb (number-at h 3) (number-at h 1) && (leb 1 (number-at h 4) && leb (number-at h 4) most-workers))
 
--- "6: a vertex line out of order, a wrong mark, or an owner too large": "Vertex lines come in order, accepting is 0 or 1, owner is below workers"
+-- "6: a vertex line out of order, a wrong mark, or an owner too large": "Vertex lines come in order, accepting is 0
+-- or 1, owner is below workers"
 unfoldable pub vertex-good : (v workers : ℕ) → Line → Bool
 vertex-good v p l = eqb (number-at l 0) v && (ltb (number-at l 1) 2 && ltb (number-at l 2) p)
 
@@ -80,7 +85,8 @@ edges-refusal (suc k) n b ls =
     ∷ edges-refusal k n (some (edge-of l)) (drop 1 ls)
     ∷ [])
 
--- THE REFUSAL of a text as a case file. "1 comes before that file's first byte is read"; 3 is "checked before the rest of lines 1 and 2"; "4: any other break of the layout"; "nothing follows the last line"
+-- THE REFUSAL of a text as a case file. "1 comes before that file's first byte is read"; 3 is "checked before the
+-- rest of lines 1 and 2"; "4: any other break of the layout"; "nothing follows the last line"
 unfoldable pub case-refusal : (file : List ℕ) → ℕ
 case-refusal bs =
     let ls = lines bs in

@@ -1,4 +1,5 @@
--- What the entries `run_list`, `run_rounds` and `check_answer` return and leave in every buffer, for all inputs: 11 first, then 1 to 8, then 9, then the run, then 10. Assumes nothing: these are definitions.
+-- What the entries `run_list`, `run_rounds` and `check_answer` return and leave in every buffer, for all inputs: 11
+-- first, then 1 to 8, then 9, then the run, then 10. Assumes nothing: these are definitions.
 use mathlib.Core.Path.{_≡_}
 use mathlib.Core.Bool.{Bool, true, false, _||_, cond}
 use mathlib.Core.List.{List, [], _∷_, _++_}
@@ -43,7 +44,8 @@ in-front new old = new ++ drop (length new) old
 unfoldable pub zeros : List ℤ → List ℤ
 zeros ws = replicate (length ws) (pos 0)
 
--- A REFUSED CALL. "A refusal returns its number, answer length 0 and 0 acts. It changes neither output nor work." Buffers: output o before and z after, work w before and v after
+-- A REFUSED CALL. "A refusal returns its number, answer length 0 and 0 acts. It changes neither output nor work."
+-- Buffers: output o before and z after, work w before and v after
 pub record Refused (k : ℕ) (r : Outcome) (o z : List ℕ) (w v : List ℤ) : Type 0 where
   pub refusal : r .refusal ≡ k
   pub verdict : r .verdict ≡ no-verdict
@@ -52,7 +54,8 @@ pub record Refused (k : ℕ) (r : Outcome) (o z : List ℕ) (w v : List ℤ) : T
   pub output : z ≡ o
   pub work : v ≡ w
 
--- A RUN CUT SHORT. "10: the list ran out before the run ended"; "10 returns the acts counted" and "leaves work all zeros"
+-- A RUN CUT SHORT. "10: the list ran out before the run ended"; "10 returns the acts counted" and "leaves work all
+-- zeros"
 pub record Cut-short (x : State) (r : Outcome) (o z : List ℕ) (w v : List ℤ) : Type 0 where
   pub refusal : r .refusal ≡ 10
   pub verdict : r .verdict ≡ no-verdict
@@ -61,7 +64,8 @@ pub record Cut-short (x : State) (r : Outcome) (o z : List ℕ) (w v : List ℤ)
   pub output : z ≡ o
   pub work : v ≡ zeros w
 
--- A FINISHED RUN. "After a result the answer is at the front of the output, the rest unchanged, and the work buffer all zeros"
+-- A FINISHED RUN. "After a result the answer is at the front of the output, the rest unchanged, and the work buffer
+-- all zeros"
 pub record Finished (c : Case) (x : State) (r : Outcome) (o z : List ℕ) (w v : List ℤ) : Type 0 where
   pub refusal : r .refusal ≡ 0
   pub verdict : r .verdict ≡ verdict x

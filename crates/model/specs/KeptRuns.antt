@@ -1,4 +1,5 @@
--- "Bench runs kept": K1 to K11 as one table, and examples of each refusal as a second, each with a test that computes. proofs/KeptRuns.antt proves both tests. Assumes nothing: these are definitions.
+-- "Bench runs kept": K1 to K11 as one table, and examples of each refusal as a second, each with a test that
+-- computes. proofs/KeptRuns.antt proves both tests. Assumes nothing: these are definitions.
 use mathlib.Core.Bool.{Bool, true, false, _&&_}
 use mathlib.Core.List.{List, [], _∷_, _++_}
 use mathlib.Core.Option.{Option, none, some}
@@ -15,7 +16,8 @@ use Rattle.model.specs.Answer.{lasso-verdict, empty-verdict, no-verdict,
 use Rattle.model.specs.Passing.{check-refusal}
 use Rattle.model.specs.Entry.{list-refusal, rounds-refusal, verdict}
 
--- TEXTS: a case by its line 2, vertex lines and edge lines; an answer by its line 2, its names and the lines that follow
+-- TEXTS: a case by its line 2, vertex lines and edge lines; an answer by its line 2, its names and the lines that
+-- follow
 abbrev pub case-text : (head vertices edges : String) → List ℕ
 case-text h vs es = ascii "version vertices edges source workers\n" ++ ascii h ++ ascii "\nvertex accepting owner\n" ++ ascii vs ++ ascii "from to\n" ++ ascii es
 
@@ -80,7 +82,8 @@ kept-runs =
     ∷ refused (case-text "1 3 4 0 2" "0 0 0\n1 1 1\n2 0 0\n" "0 1\n1 2\n1 2\n2 1\n") none 8
     ∷ []
 
--- EXAMPLES OF REFUSALS: what is asked of a case (to be judged; to be run by a list, with buffers so long; to be the case of an answer), and the refusal, 0 where there is none
+-- EXAMPLES OF REFUSALS: what is asked of a case (to be judged; to be run by a list, with buffers so long; to be the
+-- case of an answer), and the refusal, 0 where there is none
 pub data Asked : Type 0 where
   judge : Asked
   run : (acts : List ℕ) → (output work : ℕ) → Asked

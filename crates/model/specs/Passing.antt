@@ -1,4 +1,5 @@
--- "The checker reads a case and an answer": the answer file's refusals 1, 12, 3, 12, 13 in their order, and the passing rule. Assumes nothing: these are definitions.
+-- "The checker reads a case and an answer": the answer file's refusals 1, 12, 3, 12, 13 in their order, and the
+-- passing rule. Assumes nothing: these are definitions.
 use mathlib.Core.Bool.{Bool, true, false, _&&_, _||_, not, cond}
 use mathlib.Core.List.{List, [], _∷_}
 use mathlib.Core.Option.{Option, none, some}
@@ -27,7 +28,8 @@ head-layout h =
     (h .closed && eqb (length (fields (h .text))) 5)
     && ((is-number (field h 0) && (says-lasso h || says-empty h)) && (is-number (field h 2) && (is-number (field h 3) && is-number (field h 4))))
 
--- "12: a count above 500, or counts that do not suit the verdict ("lasso": cycle at least 1, reached 0; "empty": stem and cycle 0, reached at least 1)"
+-- "12: a count above 500, or counts that do not suit the verdict ("lasso": cycle at least 1, reached 0; "empty": stem
+-- and cycle 0, reached at least 1)"
 unfoldable pub counts-suit : (lasso : Bool) → (stem cycle reached : ℕ) → Bool
 counts-suit true s k r = leb 1 k && eqb r 0
 counts-suit false s k r = (eqb s 0 && eqb k 0) && leb 1 r
@@ -47,7 +49,8 @@ listed-edges-refusal (suc k) m ls =
     ∷ listed-edges-refusal k m (drop 1 ls)
     ∷ [])
 
--- VERTEX LINES, so many, after the vertex before them if there is one: "12: layout"; "13: a vertex number out of range, vertices not rising"; "12: a distance outside −500 to 500, `-0`"
+-- VERTEX LINES, so many, after the vertex before them if there is one: "12: layout"; "13: a vertex number out of
+-- range, vertices not rising"; "12: a distance outside −500 to 500, `-0`"
 unfoldable pub vertex-layout : Line → Bool
 vertex-layout l = (l .closed && eqb (length (fields (l .text))) 2) && (is-number (field l 0) && is-signed (field l 1))
 
@@ -68,9 +71,12 @@ listed-vertices-refusal (suc k) n b ls =
     ∷ listed-vertices-refusal k n (some (number-at l 0)) (drop 1 ls)
     ∷ [])
 
--- THE PASSING RULE for "lasso" is `is-lasso`: "the first edge listed leaves the source (a cycle edge where the stem is empty), each edge starts where the one before ended, the cycle's last edge ends where its first one starts, and a cycle edge leaves an accepting vertex"
+-- THE PASSING RULE for "lasso" is `is-lasso`: "the first edge listed leaves the source (a cycle edge where the stem
+-- is empty), each edge starts where the one before ended, the cycle's last edge ends where its first one starts, and
+-- a cycle edge leaves an accepting vertex"
 
--- THE PASSING RULE for "empty": "the source is listed, and every edge from a listed vertex leads to a listed one whose number is at most the first one's plus the edge's length"
+-- THE PASSING RULE for "empty": "the source is listed, and every edge from a listed vertex leads to a listed one
+-- whose number is at most the first one's plus the edge's length"
 pub record Listed : Type 0 where
   pub vertex : ℕ
   pub number : ℤ

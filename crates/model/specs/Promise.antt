@@ -1,4 +1,5 @@
--- What is promised: the three demands, as statements about any sound case, about accepted files, and about what the entries return. A statement is a type; docs/PROOF-MAP.md names its proof. Assumes nothing: these are definitions.
+-- What is promised: the three demands, as statements about any sound case, about accepted files, and about what the
+-- entries return. A statement is a type; docs/PROOF-MAP.md names its proof. Assumes nothing: these are definitions.
 use mathlib.Core.Path.{_≡_}
 use mathlib.Core.Bool.{true, false}
 use mathlib.Core.List.{List, [], _∷_, _++_}
@@ -25,7 +26,9 @@ pub record Ended (c : Case) (x : State) : Type 0 where
   pub ended : has-ended x ≡ true
   pub run : ((xs : List ℕ) × (x ≡ by-list c xs)) ⊎ (x ≡ by-rounds c)
 
--- demand 2, of an ended run: "says lasso exactly if a cycle through an accepting vertex can be reached from the source, and shows one; otherwise empty, with each reachable vertex's least walk length". The stem is the one that 01 names
+-- demand 2, of an ended run: "says lasso exactly if a cycle through an accepting vertex can be reached from the
+-- source, and shows one; otherwise empty, with each reachable vertex's least walk length". The stem is the one that
+-- 01 names
 pub record Finding (g : Graph) (x : State) : Type 0 where
   pub shown : (b : ℕ) → x .broken ≡ some b → is-lasso g (stem g (cycle-start g (x .parents) b)) (cycle g (x .parents) b) ≡ true
   pub fewest : (b : ℕ) → x .broken ≡ some b → Fewest g (cycle-start g (x .parents) b) (stem g (cycle-start g (x .parents) b))
@@ -38,7 +41,9 @@ unfoldable pub whole-rounds : (many : ℕ) → Case → List ℕ
 whole-rounds zero c = []
 whole-rounds (suc k) c = round-acts c ++ whole-rounds k c
 
--- every run of one case: demand 2 at its end; of demand 3, that "at most (n + m) × (A + 1) acts do something, and once that many have, the run has ended", for any list, in range or not, and that rounds end and are a list of enough whole rounds
+-- every run of one case: demand 2 at its end; of demand 3, that "at most (n + m) × (A + 1) acts do something, and
+-- once that many have, the run has ended", for any list, in range or not, and that rounds end and are a list of
+-- enough whole rounds
 pub record Runs-kept (c : Case) : Type 0 where
   pub finds : (x : State) → Ended c x → Finding (c .graph) x
   pub few-acts : (xs : List ℕ) → by-list c xs .count ≤ most-acts c
@@ -46,7 +51,9 @@ pub record Runs-kept (c : Case) : Type 0 where
   pub rounds-end : has-ended (by-rounds c) ≡ true
   pub rounds-listed : (k : ℕ) → most-acts c ≤ k → by-rounds c ≡ by-list c (whole-rounds k c)
 
--- at every moment, ended or not: each distance and each waiting offer is the length of a real walk; further acts never raise a distance; an offer that joins a waiting message is always the lower of the two, so "the lower remains" and "the newer remains" agree
+-- at every moment, ended or not: each distance and each waiting offer is the length of a real walk; further acts
+-- never raise a distance; an offer that joins a waiting message is always the lower of the two, so "the lower
+-- remains" and "the newer remains" agree
 pub record Moments-kept (c : Case) : Type 0 where
   pub real-distances : (xs : List ℕ) (v d : ℕ) → getD (by-list c xs .depths) v none ≡ some d → Has-walk (c .graph) v (distance d)
   pub real-offers : (xs : List ℕ) (e o : ℕ) → getD (by-list c xs .cells) e none ≡ some o → Has-walk (c .graph) (edge (c .graph) e .to) (distance o)
@@ -58,7 +65,8 @@ pub record Moments-kept (c : Case) : Type 0 where
       has-ended x ≡ false → getD (x .queues) w [] ≡ v ∷ q → edge (c .graph) e .from ≡ v →
       getD (scan-from e 0 c v d (with-queues (set (x .queues) w q) x) .cells) e none ≡ some waiting → waiting < d + edge-depth (c .graph) e
 
--- within the limits: an answer fits the least output, a count fits 32 bits, and the checker "passes all that our finished runs write"
+-- within the limits: an answer fits the least output, a count fits 32 bits, and the checker "passes all that our
+-- finished runs write"
 pub record Limits-kept (c : Case) : Type 0 where
   pub answers-fit : (x : State) → Ended c x → length (answer (c .graph) x) ≤ least-output
   pub counts-fit : most-acts c < 2 ^ 32
@@ -71,7 +79,8 @@ Of-cases = (c : Case) → Sound c → Runs-kept c × Moments-kept c × (Within c
 unfoldable pub One-stem : Type 0
 One-stem = (g : Graph) (v : ℕ) (ss es : List ℕ) → Fewest g v ss → Fewest g v es → ss ≡ es
 
--- demand 3: "Any two ended runs on one graph, whatever their acts, workers and owners, by list or by rounds, have the same finding, and where it is empty their answer files are equal byte for byte"
+-- demand 3: "Any two ended runs on one graph, whatever their acts, workers and owners, by list or by rounds, have the
+-- same finding, and where it is empty their answer files are equal byte for byte"
 unfoldable pub Agree : Case → Case → Type 0
 Agree c d =
     c .graph ≡ d .graph → (x y : State) → Ended c x → Ended d y →
@@ -100,7 +109,8 @@ Files-agree = (bs ds : List ℕ) → accepted bs ≡ true → accepted ds ≡ tr
 unfoldable pub Says : (case : List ℕ) → Outcome → (output output-now : List ℕ) → (work work-now : List ℤ) → Type 0
 Says bs r o z w v = ((xs : List ℕ) × List-says bs xs r o z w v) ⊎ Rounds-say bs r o z w v
 
--- demand 1: "a result or a listed refusal"; "A refused call leaves the output buffer untouched, and the work buffer too, save that refusal 10 leaves the latter all zeros"
+-- demand 1: "a result or a listed refusal"; "A refused call leaves the output buffer untouched, and the work buffer
+-- too, save that refusal 10 leaves the latter all zeros"
 pub record Definite (r : Outcome) (o z : List ℕ) (w v : List ℤ) : Type 0 where
   pub listed : r .refusal ≤ 11
   pub output : (r .refusal ≡ 0 → ⊥) → z ≡ o
@@ -160,7 +170,8 @@ Rounds-as-list =
     (bs : List ℕ) (k : ℕ) (r : Outcome) (o z : List ℕ) (w v : List ℤ) → most-acts (case-in bs) ≤ k → Rounds-say bs r o z w v →
     List-says bs (whole-rounds k (case-in bs)) r o z w v
 
--- "Refusal 10 is given exactly when the list leaves the run unended and no other refusal applies"; so it comes only with fewer acts than the bound, and never by rounds
+-- "Refusal 10 is given exactly when the list leaves the run unended and no other refusal applies"; so it comes only
+-- with fewer acts than the bound, and never by rounds
 pub record Ten (bs xs : List ℕ) (r : Outcome) (output work : ℕ) : Type 0 where
   pub only : r .refusal ≡ 10 → (list-refusal bs xs output work ≡ 0) × (has-ended (by-list (case-in bs) xs) ≡ false)
   pub always : list-refusal bs xs output work ≡ 0 → has-ended (by-list (case-in bs) xs) ≡ false → r .refusal ≡ 10

@@ -1,4 +1,5 @@
--- "The acts": the state of a run, turns, scans, deliveries, lists and rounds. A distance is never above 0 and is kept as its depth, how far it is below; so a lower offer is a deeper one. Assumes nothing: these are definitions.
+-- "The acts": the state of a run, turns, scans, deliveries, lists and rounds. A distance is never above 0 and is kept
+-- as its depth, how far it is below; so a lower offer is a deeper one. Assumes nothing: these are definitions.
 use mathlib.Core.Bool.{Bool, true, false, _&&_, _||_, not, cond}
 use mathlib.Core.List.{List, [], _∷_, _++_}
 use mathlib.Core.Option.{Option, none, some}
@@ -35,7 +36,8 @@ ended-lasso x = is-some (x .broken)
 unfoldable pub has-ended : State → Bool
 has-ended x = ended-lasso x || x .ended-empty
 
--- THE FRESH RUN. "Before its first act a run has the source at distance 0 and in its owner's queue; all else is without distance, parent or message"
+-- THE FRESH RUN. "Before its first act a run has the source at distance 0 and in its owner's queue; all else is
+-- without distance, parent or message"
 unfoldable pub fresh : Case → State
 fresh c =
     let g = c .graph in
@@ -57,7 +59,8 @@ abbrev pub with-cells : List (Option ℕ) → State → State
 with-cells os x =
     record { depths = x .depths; parents = x .parents; queues = x .queues; cells = os; broken = x .broken; ended-empty = x .ended-empty; count = x .count }
 
--- RELAXING an edge (01: trying an offer). "If the target has no distance or a greater one, it takes the offer, its parent becomes that edge, and it joins the tail of its owner's queue unless it is there"
+-- RELAXING an edge (01: trying an offer). "If the target has no distance or a greater one, it takes the offer, its
+-- parent becomes that edge, and it joins the tail of its owner's queue unless it is there"
 unfoldable pub takes : (depth : Option ℕ) → (offer : ℕ) → Bool
 takes none o = true
 takes (some d) o = ltb d o
@@ -89,7 +92,8 @@ taken c e o x =
 unfoldable pub relax : Case → (e offer : ℕ) → State → State
 relax c e o x = cond (takes (getD (x .depths) (edge (c .graph) e .to) none) o) (taken c e o x) x
 
--- SENDING. "An edge to another owner puts the offer in its cell; if a message waits there, the lower of the two remains"
+-- SENDING. "An edge to another owner puts the offer in its cell; if a message waits there, the lower of the two
+-- remains"
 unfoldable pub lower : (waiting : Option ℕ) → (offer : ℕ) → ℕ
 lower none o = o
 lower (some k) o = cond (ltb k o) o k
@@ -97,7 +101,9 @@ lower (some k) o = cond (ltb k o) o k
 abbrev pub send : (e offer : ℕ) → State → State
 send e o x = with-cells (set (x .cells) e (some (lower (getD (x .cells) e none) o))) x
 
--- SCANNING. "Its edges follow in number order, each offering that distance plus the edge's length. An edge to a vertex of the same owner is tried on the spot." Nothing more is done once the floor is broken, "even in the middle of a scan"
+-- SCANNING. "Its edges follow in number order, each offering that distance plus the edge's length. An edge to a
+-- vertex of the same owner is tried on the spot." Nothing more is done once the floor is broken, "even in the middle
+-- of a scan"
 unfoldable pub scan-edge : Case → (v depth e : ℕ) → State → State
 scan-edge c v d e x =
     let f = edge (c .graph) e in
@@ -112,7 +118,8 @@ scan-from (suc k) e c v d x = scan-from k (suc e) c v d (scan-edge c v d e x)
 unfoldable pub scan : Case → (v depth : ℕ) → State → State
 scan c v d x = scan-from (length (c .graph .edges)) 0 c v d x
 
--- AFTER AN ACT that did something it is counted, "the one that ends the run included". "It ends as empty when, after a whole act, all queues and cells are empty"
+-- AFTER AN ACT that did something it is counted, "the one that ends the run included". "It ends as empty when, after
+-- a whole act, all queues and cells are empty"
 unfoldable pub no-vertex : (queues : List (List ℕ)) → Bool
 no-vertex [] = true
 no-vertex (q ∷ qs) = eqb (length q) 0 && no-vertex qs
@@ -133,7 +140,8 @@ counted x =
       count = suc (x .count);
     }
 
--- TURN. "The head of the worker's queue is taken off and scanned. Its distance is read once, at the start"; "a turn with an empty queue is idle: it changes nothing and isn't counted"
+-- TURN. "The head of the worker's queue is taken off and scanned. Its distance is read once, at the start"; "a turn
+-- with an empty queue is idle: it changes nothing and isn't counted"
 unfoldable pub depth-or : Option ℕ → ℕ
 depth-or none = 0
 depth-or (some d) = d
@@ -145,7 +153,8 @@ turn-of c w (v ∷ q) x = counted (scan c v (depth-or (getD (x .depths) v none))
 unfoldable pub turn : Case → (w : ℕ) → State → State
 turn c w x = turn-of c w (getD (x .queues) w []) x
 
--- DELIVERY. "The cell is emptied and its offer tried"; "a delivery from an empty cell or one on an edge that has no cell is idle". Within one owner no message is ever sent, so that edge's cell stays empty
+-- DELIVERY. "The cell is emptied and its offer tried"; "a delivery from an empty cell or one on an edge that has no
+-- cell is idle". Within one owner no message is ever sent, so that edge's cell stays empty
 unfoldable pub delivery-of : Case → (e : ℕ) → (message : Option ℕ) → State → State
 delivery-of c e none x = x
 delivery-of c e (some o) x = counted (relax c e o (with-cells (set (x .cells) e none) x))
@@ -153,7 +162,8 @@ delivery-of c e (some o) x = counted (relax c e o (with-cells (set (x .cells) e 
 unfoldable pub delivery : Case → (e : ℕ) → State → State
 delivery c e x = delivery-of c e (getD (x .cells) e none) x
 
--- ACTS. "With P workers, act a below P is a turn of worker a, and act P + e a delivery on edge e"; "acts after the end are not done"
+-- ACTS. "With P workers, act a below P is a turn of worker a, and act P + e a delivery on edge e"; "acts after the
+-- end are not done"
 unfoldable pub act : Case → (a : ℕ) → State → State
 act c a x = cond (has-ended x) x (cond (ltb a (c .workers)) (turn c a x) (delivery c (a - c .workers) x))
 
@@ -170,7 +180,8 @@ range (suc k) i = i ∷ range k (suc i)
 unfoldable pub round-acts : Case → List ℕ
 round-acts c = range (c .workers + length (c .graph .edges)) 0
 
--- "the run by rounds repeats it to the end": at most so many rounds; `Promise` has that most-acts of them always reach the end
+-- "the run by rounds repeats it to the end": at most so many rounds; `Promise` has that most-acts of them always
+-- reach the end
 unfoldable pub rounds : (left : ℕ) → Case → State → State
 rounds zero c x = x
 rounds (suc k) c x = cond (has-ended x) x (rounds k c (acted c (round-acts c) x))

@@ -1,4 +1,5 @@
--- Laws of decimals: how long they are, how they are written digit by digit, and that what is written is read back. Assumes nothing.
+-- Laws of decimals: how long they are, how they are written digit by digit, and that what is written is read back.
+-- Assumes nothing.
 use mathlib.Core.Path.{_≡_, refl, sym, ap, _∙_}
 use mathlib.Core.Bool.{Bool, true, false, _&&_, _||_, not, cond}
 use mathlib.Core.List.{List, [], _∷_, _++_, append-nil}

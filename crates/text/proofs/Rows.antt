@@ -1,4 +1,5 @@
--- What rows write, lines and fields read back: a text of rows has those rows as its lines, and a row its fields. Assumes nothing.
+-- What rows write, lines and fields read back: a text of rows has those rows as its lines, and a row its fields.
+-- Assumes nothing.
 use mathlib.Core.Path.{_≡_, refl, ap, _∙_}
 use mathlib.Core.Bool.{true, false}
 use mathlib.Core.List.{List, [], _∷_, _++_}

@@ -1,4 +1,5 @@
--- Tests and their cases: what a Boolean, or an equation of two numbers, can be, and what && and || say. Assumes nothing.
+-- Tests and their cases: what a Boolean, or an equation of two numbers, can be, and what && and || say. Assumes
+-- nothing.
 use mathlib.Core.Path.{_≡_, refl, sym}
 use mathlib.Core.Bool.{Bool, true, false, _&&_, _||_}
 use mathlib.Core.Logic.{_⊎_, inl, inr}

@@ -1,4 +1,5 @@
--- Laws of writing: a longer text by several writers one after the other, and what each writer's loop keeps. Assumes nothing.
+-- Laws of writing: a longer text by several writers one after the other, and what each writer's loop keeps. Assumes
+-- nothing.
 use mathlib.Core.Path.{_≡_, refl, sym, ap, _∙_}
 use mathlib.Core.Bool.{Bool, true, false, not}
 use mathlib.Core.List.{List, [], _∷_, _++_, append-assoc}

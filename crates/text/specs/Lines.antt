@@ -1,4 +1,5 @@
--- "Text, each line ended by one line feed, fields parted by one space": read by lines and fields, written by rows. Assumes nothing: these are definitions.
+-- "Text, each line ended by one line feed, fields parted by one space": read by lines and fields, written by rows.
+-- Assumes nothing: these are definitions.
 use mathlib.Core.Bool.{Bool, true, false, _&&_, cond}
 use mathlib.Core.List.{List, [], _∷_, _++_}
 use Prim.Native.Nat.{ℕ}

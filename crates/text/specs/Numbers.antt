@@ -1,4 +1,5 @@
--- "Numbers decimal of 1 to 9 digits without leading zeros", read and written, and the same with a minus sign. Assumes nothing: these are definitions.
+-- "Numbers decimal of 1 to 9 digits without leading zeros", read and written, and the same with a minus sign. Assumes
+-- nothing: these are definitions.
 use mathlib.Core.Bool.{Bool, true, false, _&&_, _||_, not, cond}
 use mathlib.Core.List.{List, [], _∷_, _++_}
 use Prim.Native.Nat.{ℕ, zero, suc, _+_, _*_, _-_, _/_, _%_}

@@ -1,4 +1,5 @@
--- What a writer does to its output: bytes in their place, or nothing where they have no room. Assumes nothing: these are definitions.
+-- What a writer does to its output: bytes in their place, or nothing where they have no room. Assumes nothing: these
+-- are definitions.
 use mathlib.Core.Path.{_≡_}
 use mathlib.Core.List.{List, _++_}
 use Prim.Native.Nat.{ℕ, _+_, _≤_, _<_}
@@ -8,7 +9,8 @@ use lib.ListN.{length, take, drop}
 unfoldable pub put : (at : ℕ) → (bs output : List ℕ) → List ℕ
 put at bs o = take at o ++ bs ++ drop (at + length bs) o
 
--- what a writer answers where it has no room: a place past every text's end, so a later write there finds no room either
+-- what a writer answers where it has no room: a place past every text's end, so a later write there finds no room
+-- either
 abbrev pub no-room : ℕ
 no-room = 18446744073709551615
 
