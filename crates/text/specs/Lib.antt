@@ -2,4 +2,5 @@
 pub mod Ascii
 pub mod Lines
 pub mod Numbers
+pub mod Reading
 pub mod Writing
