@@ -1,16 +1,22 @@
 -- What the readers' answers mean for a caller that walks a text line by line. Assumes nothing.
 use mathlib.Core.Path.{_≡_, refl, sym, ap, _∙_}
-use mathlib.Core.Bool.{Bool, true, false, _&&_, cond}
-use mathlib.Core.List.{List, [], _∷_}
-use Prim.Native.Nat.{ℕ, zero, suc, _+_, _≤_, _<_}
+use mathlib.Core.Bool.{Bool, true, false, _&&_, not, cond, and-false}
+use mathlib.Core.List.{List, [], _∷_, _++_}
+use Prim.Native.Nat.{ℕ, zero, suc, _+_, _*_, _-_, _^_, _≤_, _<_}
 use native.Mathlib.Omega.{arith}
-use lib.Dec.{eqb, eqb·suc-suc, lit<}
+use native.Mathlib.Nat.{add-zero, pow-succ', pow-le-pow-right}
+use lib.Dec.{leb, ltb, eqb, eqb·suc-suc, lit<}
 use lib.ListN.{length, getD, drop, drop-of-length-le, length-drop}
 use lib.Seq.{drop-drop}
-use Rattle.text.specs.Ascii.{line-feed}
-use Rattle.text.specs.Lines.{Line, lines, put-byte, fields, field}
-use Rattle.text.specs.Numbers.{value, all-numbers, numbers-line, number-at}
-use Rattle.text.specs.Reading.{line-here, past-line, row1-here, row2-here, row3-here, row5-here}
+use borrow.Author.Tests.{leb-true, leb-false, eqb-true, eqb-false, ne-eqb, not-true}
+use Rattle.text.specs.Ascii.{line-feed, digit-0, digit-9}
+use Rattle.text.specs.Lines.{Line, lines, put-byte, fields, field, equal, begins, line-is}
+use Rattle.text.specs.Numbers.{most-digits, is-digit, all-digits, no-leading-zero, is-number, value, value-from, all-numbers, numbers-line, number-at}
+use Rattle.text.specs.Reading.{line-here, past-line, field-here, named-here, field-number-here, leading-here, row1-here, row2-here, row3-here, row5-here}
+use Rattle.text.specs.declared.read.Number.{Number}
+use Rattle.text.specs.declared.read.Number.the-variants.{Is, Not}
+use Rattle.text.specs.declared.read.Named.{Named}
+use Rattle.text.specs.declared.read.Named.the-variants.{Past, Other}
 use Rattle.text.specs.declared.read.Row1.{Row1}
 use Rattle.text.specs.declared.read.Row1.the-variants.{Read as Read1, Fault as Fault1}
 use Rattle.text.specs.declared.read.Row2.{Row2}
@@ -19,9 +25,9 @@ use Rattle.text.specs.declared.read.Row3.{Row3}
 use Rattle.text.specs.declared.read.Row3.the-variants.{Read as Read3, Fault as Fault3}
 use Rattle.text.specs.declared.read.Row5.{Row5}
 use Rattle.text.specs.declared.read.Row5.the-variants.{Read as Read5, Fault as Fault5}
-use Rattle.text.proofs.Lines.{size, rest-lines, size-within}
+use Rattle.text.proofs.Lines.{size, first, first-nil, first-feed, first-byte, rest-lines, size-within}
 use Rattle.text.proofs.ReadingSteps.{past-size}
-use Rattle.text.proofs.ReadingRows.{Parted, Not-parted, numbers-more}
+use Rattle.text.proofs.ReadingRows.{Parted, Not-parted, numbers-more, leading-number, parted}
 
 -- THE NEXT LINE: past a line come the lines after it
 pub past-lines : (s : List ℕ) (at : ℕ) → lines (drop (past-line s at) s) ≡ drop 1 (lines (drop at s))
@@ -61,11 +67,156 @@ some-lines-go (b ∷ bs) h = go (eqb b line-feed)
 pub some-lines : (s : List ℕ) (z : ℕ) → z < length s → 0 < length (lines (drop z s))
 some-lines s z h = some-lines-go (drop z s) (omega (arith, length-drop z s))
 
+pub lines-end : (s : List ℕ) (z : ℕ) → length (lines (drop z s)) ≡ 0 → length s ≤ z
+lines-end s z h = go (leb (length s) z) refl
+  where
+    go : (t : Bool) → leb (length s) z ≡ t → length s ≤ z
+    go true e = leb-true (length s) z e
+    go false e = absurd (omega (arith, some-lines s z (leb-false (length s) z e)))
+
+-- A NAMED LINE: names that have no line feed are the line at a place, and what is past them is past it
+abbrev pub without-feed : List ℕ → Bool
+without-feed [] = true
+without-feed (b ∷ bs) = not (eqb b line-feed) && without-feed bs
+
+and-both : (x y : Bool) → (x && y) ≡ true → (x ≡ true) × (y ≡ true)
+and-both true y e = (refl, e)
+and-both false y e = (e, cc)
+
+and-swap : (x y z : Bool) → (x && (y && z)) ≡ (y && (x && z))
+and-swap true y z = refl
+and-swap false y z = sym (and-false y)
+
+line-is-go : (y : ℕ) (ys : List ℕ) (b : ℕ) (bs : List ℕ) (t : Bool) → eqb b line-feed ≡ t → not (eqb y line-feed) ≡ true
+    → begins (ys ++ line-feed ∷ []) bs ≡ line-is ys (first bs) → (eqb b y && begins (ys ++ line-feed ∷ []) bs) ≡ line-is (y ∷ ys) (first (b ∷ bs))
+unfolding line-is equal
+line-is-go y ys b bs true e n h =
+    let d : b ≡ line-feed = eqb-true b line-feed e in
+    rw (first-feed b bs e, ne-eqb b y (λ q. eqb-false y line-feed (not-true (eqb y line-feed) n) (sym q ∙ d)))
+line-is-go y ys b bs false e n h =
+    rw (first-byte b bs e, h) (and-swap (eqb b y) (first bs .closed) (equal (first bs .text) ys))
+
+line-is-nil : (b : ℕ) (bs : List ℕ) (t : Bool) → eqb b line-feed ≡ t → (t && true) ≡ line-is [] (first (b ∷ bs))
+unfolding line-is equal
+line-is-nil b bs true e = rw (first-feed b bs e)
+line-is-nil b bs false e = rw (first-byte b bs e) (sym (and-false (first bs .closed)))
+
+line-is-begins : (names bs : List ℕ) → without-feed names ≡ true → begins (names ++ line-feed ∷ []) bs ≡ line-is names (first bs)
+unfolding begins equal line-is
+line-is-begins [] [] h = rw first-nil
+line-is-begins [] (b ∷ bs) h = line-is-nil b bs (eqb b line-feed) refl
+line-is-begins (y ∷ ys) [] h = rw first-nil
+line-is-begins (y ∷ ys) (b ∷ bs) h =
+    let n = and-both (not (eqb y line-feed)) (without-feed ys) h in
+    line-is-go y ys b bs (eqb b line-feed) refl (n .0) (line-is-begins ys bs (n .1))
+
+pub named-line : (names : List ℕ) (s : List ℕ) (at : ℕ) → without-feed names ≡ true → begins (names ++ line-feed ∷ []) (drop at s) ≡ line-is names (line-here s at)
+named-line names s at h = line-is-begins names (drop at s) h
+
+equal-is : (a b : List ℕ) → equal a b ≡ true → a ≡ b
+unfolding equal
+equal-is [] [] h = refl
+equal-is [] (y ∷ ys) h = cc
+equal-is (x ∷ xs) [] h = cc
+equal-is (x ∷ xs) (y ∷ ys) h =
+    let g = and-both (eqb x y) (equal xs ys) h in
+    ap (λ (z : ℕ). z ∷ xs) (eqb-true x y (g .0)) ∙ ap (λ (zs : List ℕ). y ∷ zs) (equal-is xs ys (g .1))
+
+pub named-past : (names : List ℕ) (s : List ℕ) (at : ℕ) → line-is names (line-here s at) ≡ true → at + suc (length names) ≡ past-line s at
+unfolding line-is past-line
+named-past names s at h =
+    let l = line-here s at in
+    let g = and-both (l .closed) (equal (l .text) names) h in
+    let n : length (l .text) ≡ length names = ap length (equal-is (l .text) names (g .1)) in
+    let k : _≡_ {A = ℕ} (cond (l .closed) 1 0) 1 = ap (λ (t : Bool). cond t 1 0) (g .0) in
+    omega arith
+
+-- the line at a place is this one, and z is past it
+pub record Line-named (s : List ℕ) (at : ℕ) (names : List ℕ) (z : ℕ) : Type 0 where
+  pub line : line-is names (line-here s at) ≡ true
+  pub past : past-line s at ≡ z
+  pub rest : lines (drop z s) ≡ drop 1 (lines (drop at s))
+  pub within : z ≤ length s
+
+named-go : (t : Bool) (x z : ℕ) → cond t (Past x) Other ≡ Past z → (t ≡ true) × (x ≡ z)
+named-go true x z h = (refl, cc)
+named-go false x z h = (cc, cc)
+
+other-go : (t : Bool) (x : ℕ) → cond t (Past x) Other ≡ Other → t ≡ false
+other-go true x h = cc
+other-go false x h = refl
+
+pub named-read : {s : List ℕ} {at : ℕ} {names : List ℕ} {z : ℕ} {r : Named} → without-feed names ≡ true → r ≡ named-here s at names → r ≡ Past z → Line-named s at names z
+unfolding named-here line-is
+named-read {s} {at} {names} {z} h p q =
+    let g = named-go (begins (names ++ line-feed ∷ []) (drop at s)) (at + suc (length names)) z (sym p ∙ q) in
+    let l : line-is names (line-here s at) ≡ true = sym (named-line names s at h) ∙ g .0 in
+    let e : past-line s at ≡ z = sym (named-past names s at l) ∙ g .1 in
+    record {
+      line = l;
+      past = e;
+      rest = ap (λ (k : ℕ). lines (drop k s)) (sym e) ∙ past-lines s at;
+      within = omega (arith, closed-within s at (and-both (line-here s at .closed) (equal (line-here s at .text) names) l .0));
+    }
+
+pub named-other : (names : List ℕ) (s : List ℕ) (at : ℕ) {r : Named} → without-feed names ≡ true → r ≡ named-here s at names → r ≡ Other → line-is names (line-here s at) ≡ false
+unfolding named-here
+named-other names s at h p q =
+    sym (named-line names s at h) ∙ other-go (begins (names ++ line-feed ∷ []) (drop at s)) (at + suc (length names)) (sym p ∙ q)
+
+-- A NUMBER: its value has at most nine digits
+digit-high : (b : ℕ) → is-digit b ≡ true → b ≤ digit-9
+unfolding is-digit
+digit-high b h = leb-true b digit-9 (and-both (leb digit-0 b) (leb b digit-9) h .1)
+
+value-below : (v k : ℕ) (w : List ℕ) → v < 10 ^ k → all-digits w ≡ true → value-from v w < 10 ^ (k + length w)
+unfolding value-from all-digits
+value-below v k [] h d = rw add-zero h
+value-below v k (b ∷ w) h d =
+    let g = and-both (is-digit b) (all-digits w) d in
+    let n : k + suc (length w) ≡ suc k + length w = omega arith in
+    rw n (value-below (10 * v + (b - digit-0)) (suc k) w (rw (pow-succ' 10 k) (omega (arith, digit-high b (g .0)))) (g .1))
+
+pub value-small : (w : List ℕ) → is-number w ≡ true → value w < 1000000000
+unfolding is-number value
+value-small w h =
+    let g = and-both (leb 1 (length w) && leb (length w) most-digits) (all-digits w && no-leading-zero w) h in
+    let few : length w ≤ 9 = leb-true (length w) most-digits (and-both (leb 1 (length w)) (leb (length w) most-digits) (g .0) .1) in
+    let n : 0 + length w ≡ length w = omega arith in
+    omega (arith, rw n at (value-below 0 0 w (lit< tt) (and-both (all-digits w) (no-leading-zero w) (g .1) .0)), pow-le-pow-right {n = 10} (lit< tt) few)
+
+numbers-small-go : (fs : List (List ℕ)) (i : ℕ) → all-numbers fs ≡ true → value (getD fs i []) < 1000000000
+unfolding all-numbers value value-from
+numbers-small-go [] i h = lit< tt
+numbers-small-go (f ∷ fs) zero h = value-small f (and-both (is-number f) (all-numbers fs) h .0)
+numbers-small-go (f ∷ fs) (suc i) h = numbers-small-go fs i (and-both (is-number f) (all-numbers fs) h .1)
+
+pub number-small : (k : ℕ) (l : Line) (i : ℕ) → numbers-line k l ≡ true → number-at l i < 1000000000
+unfolding numbers-line number-at field
+number-small k l i h =
+    let g = and-both (l .closed) (eqb (length (fields (l .text))) k && all-numbers (fields (l .text))) h in
+    numbers-small-go (fields (l .text)) i (and-both (eqb (length (fields (l .text))) k) (all-numbers (fields (l .text))) (g .1) .1)
+
 -- ROWS: the line at a place has these numbers and no other field, and z is past it
 pub record Row (s : List ℕ) (at : ℕ) (vs : List ℕ) (z : ℕ) : Type 0 where
   pub line : numbers-line (length vs) (line-here s at) ≡ true
   pub are : (i : ℕ) → i < length vs → number-at (line-here s at) i ≡ getD vs i 0
   pub past : past-line s at ≡ z
+
+-- so z is in the text and what follows it are the lines after this one, and each number is small
+module _ {s : List ℕ} {at : ℕ} {vs : List ℕ} {z : ℕ} (r : Row s at vs z) where
+  pub row-rest : lines (drop z s) ≡ drop 1 (lines (drop at s))
+  row-rest = ap (λ (k : ℕ). lines (drop k s)) (sym (r .past)) ∙ past-lines s at
+
+  row-closed : line-here s at .closed ≡ true
+  unfolding numbers-line
+  row-closed = and-both (line-here s at .closed) (eqb (length (fields (line-here s at .text))) (length vs) && all-numbers (fields (line-here s at .text))) (r .line) .0
+
+  pub row-within : z ≤ length s
+  row-within = omega (arith, r .past, closed-within s at row-closed)
+
+  pub row-small : (i : ℕ) → i < length vs → getD vs i 0 < 1000000000
+  row-small i h = omega (arith, r .are i h, number-small (length vs) (line-here s at) i (r .line))
 
 -- the line at a place is no row of so many numbers
 pub record No-row (many : ℕ) (s : List ℕ) (at : ℕ) : Type 0 where
@@ -227,3 +378,33 @@ row5-is r = sym (rw (r .line, r .are 0 (lit< tt), r .are 1 (lit< tt), r .are 2 (
 pub row5-none : {s : List ℕ} {at : ℕ} → No-row 5 s at → Fault5 ≡ row5-here s at
 unfolding row5-here
 row5-none r = sym (rw (r .none))
+
+-- THE FIELD AS A NUMBER
+is-go : (t : Bool) (x v : ℕ) → cond t (Is x) Not ≡ Is v → (t ≡ true) × (x ≡ v)
+is-go true x v h = (refl, cc)
+is-go false x v h = (cc, cc)
+
+not-go : (t : Bool) (x : ℕ) → cond t (Is x) Not ≡ Not → t ≡ false
+not-go true x h = cc
+not-go false x h = refl
+
+pub number-is : (s : List ℕ) (at : ℕ) {v : ℕ} {r : Number} → r ≡ field-number-here s at → r ≡ Is v → (is-number (field-here s at) ≡ true) × (value (field-here s at) ≡ v)
+unfolding field-number-here
+number-is s at {v} p q = is-go (is-number (field-here s at)) (value (field-here s at)) v (sym p ∙ q)
+
+pub number-not : (s : List ℕ) (at : ℕ) {r : Number} → r ≡ field-number-here s at → r ≡ Not → is-number (field-here s at) ≡ false
+unfolding field-number-here
+number-not s at p q = not-go (is-number (field-here s at)) (value (field-here s at)) (sym p ∙ q)
+
+-- THE FIRST NUMBER OF A LONGER LINE: the fields that follow it are those at p, and the line ends where the one at p does
+pub leading-read : {s : List ℕ} {at v p : ℕ} {r : Row1} → r ≡ leading-here s at → r ≡ Read1 v p → Parted s at v p
+leading-read {s} {at} e q = parted (e ∙ sym (leading-number s at)) q
+
+leading-go : (t : Bool) (x y : ℕ) → cond t (Read1 x y) Fault1 ≡ Fault1 → t ≡ false
+leading-go true x y h = cc
+leading-go false x y h = refl
+
+pub leading-fault : (s : List ℕ) (at : ℕ) {r : Row1} → r ≡ leading-here s at → r ≡ Fault1 → (is-number (field-here s at) && ltb 1 (length (fields (line-here s at .text)))) ≡ false
+unfolding leading-here
+leading-fault s at p q =
+    leading-go (is-number (field-here s at) && ltb 1 (length (fields (line-here s at .text)))) (value (field-here s at)) (at + suc (length (field-here s at))) (sym p ∙ q)

@@ -7,11 +7,12 @@ use native.Mathlib.Omega.{arith}
 use native.Mathlib.Numerals.{add-one}
 use lib.Dec.{leb, ltb, eqb, eqb·suc-suc}
 use lib.ListN.{length, getD, drop, drop-of-length-le}
+use lib.IntN.{pos, negℤ}
 use lib.Seq.{drop-cons}
 use borrow.Author.Tests.{ne-eqb, eqb-true, leb-true, leb-false, ltb-false}
 use Rattle.text.specs.Ascii.{minus}
-use Rattle.text.specs.Lines.{Line, put-first, fields, field}
-use Rattle.text.specs.Numbers.{is-number, value, has-minus, without-minus, is-signed, all-numbers, numbers-line, number-at}
+use Rattle.text.specs.Lines.{Line, lines, put-first, fields, field}
+use Rattle.text.specs.Numbers.{is-number, value, has-minus, without-minus, is-signed, signed-value, all-numbers, numbers-line, number-at}
 use Rattle.text.specs.Reading.{line-here, past-line, field-here, is-separator, signed-last, signed-line, signed-row-here}
 use Rattle.text.specs.declared.read.Signed.{Signed}
 use Rattle.text.specs.declared.read.Signed.the-variants.{Read as Read-signed, Fault as Fault-signed}
@@ -20,7 +21,7 @@ use Rattle.text.specs.declared.read.SignedRow.the-variants.{Read as Read
 use Rattle.text.proofs.Lines.{first, first-byte, field-nil, field-stop, field-byte, fields-byte, fields-some, glue}
 use Rattle.text.proofs.ReadingSteps.{past-byte}
 use Rattle.text.proofs.ReadingRows.{Parted, Not-parted, fields-more}
-use Rattle.text.proofs.Reading.{Row, No-row}
+use Rattle.text.proofs.Reading.{Row, No-row, past-lines, closed-within, value-small}
 
 -- THE MINUS SIGN at a place
 separator-minus : (b : ℕ) → is-separator b ≡ true → b ≡ minus → ⊥
@@ -97,6 +98,11 @@ one-number l = one-number-go (l .closed) (fields (l .text))
 abbrev signed-in : (closed : Bool) → (many : ℕ) → (field : List ℕ) → (past : ℕ) → Signed
 signed-in c n f p = cond ((c && eqb n 1) && is-signed f) (Read-signed (has-minus f) (value (without-minus f)) p) Fault-signed
 
+no-minus : (w : List ℕ) → has-minus w ≡ false → without-minus w ≡ w
+unfolding has-minus without-minus
+no-minus [] h = refl
+no-minus (b ∷ w) h = rw h
+
 module _ (s : List ℕ) (at : ℕ) where
   signed-is : {c : Bool} {n : ℕ} {f : List ℕ} {p : ℕ} → line-here s at .closed ≡ c → length (fields (line-here s at .text)) ≡ n → field-here s at ≡ f → past-line s at ≡ p
       → signed-last s at ≡ signed-in c n f p
@@ -116,11 +122,6 @@ module _ (s : List ℕ) (at : ℕ) where
       let g = minus-laws s at h in
       signed-is (g .closed) (g .many) (g .first-field) (g .past)
       ∙ ap (λ (t : Bool). cond t (Read-signed true (value (field-here s (at + 1))) (past-line s (at + 1))) Fault-signed) (sym (one-number (line-here s (at + 1))))
-
-  no-minus : (w : List ℕ) → has-minus w ≡ false → without-minus w ≡ w
-  unfolding has-minus without-minus
-  no-minus [] h = refl
-  no-minus (b ∷ w) h = rw h
 
   signed-plain : false ≡ has-minus (field-here s at)
       → signed-last s at ≡ cond (numbers-line 1 (line-here s at)) (Read-signed false (number-at (line-here s at) 0) (past-line s at)) Fault-signed
@@ -197,3 +198,61 @@ signed-row-none {s} {at} g =
     let t = none-go (l .closed) (length (fields (l .text))) (is-number (field-here s at)) (is-signed (field l 1)) (ltb 1 (length (fields (l .text)))) refl
     (ap (λ (x : Bool). is-number (field-here s at) && x) (fields-more s at) ∙ g .none) in
     sym (rw t)
+
+-- FOR CALLERS: the line at a place is a number and a signed number, and z is past it
+pub record Signed-at (s : List ℕ) (at a : ℕ) (sign : Bool) (v z : ℕ) : Type 0 where
+  pub line : signed-line (line-here s at) ≡ true
+  pub number : number-at (line-here s at) 0 ≡ a
+  pub minus : has-minus (field (line-here s at) 1) ≡ sign
+  pub worth : value (without-minus (field (line-here s at) 1)) ≡ v
+  pub past : past-line s at ≡ z
+  pub rest : lines (drop z s) ≡ drop 1 (lines (drop at s))
+  pub within : z ≤ length s
+  pub first-small : a < 1000000000
+  pub second-small : v < 1000000000
+
+at-go : (t m : Bool) (x w y : ℕ) {a : ℕ} {n : Bool} {v z : ℕ} → cond t (Read-row x m w y) Fault-row ≡ Read-row a n v z → (t ≡ true) × (x ≡ a) × (m ≡ n) × (w ≡ v) × (y ≡ z)
+at-go true m x w y h = (refl, cc, cc, cc, cc)
+at-go false m x w y h = (cc, cc, cc, cc, cc)
+
+at-fault-go : (t m : Bool) (x w y : ℕ) → cond t (Read-row x m w y) Fault-row ≡ Fault-row → t ≡ false
+at-fault-go true m x w y h = cc
+at-fault-go false m x w y h = refl
+
+and-both : (x y : Bool) → (x && y) ≡ true → (x ≡ true) × (y ≡ true)
+and-both true y e = (refl, e)
+and-both false y e = (e, cc)
+
+pub signed-at : {s : List ℕ} {at a : ℕ} {n : Bool} {v z : ℕ} {r : SignedRow} → r ≡ signed-row-here s at → r ≡ Read-row a n v z → Signed-at s at a n v z
+unfolding signed-row-here signed-line is-signed number-at
+signed-at {s} {at} {a} {n} {v} {z} p q =
+    let l = line-here s at in
+    let g = at-go (signed-line l) (has-minus (field l 1)) (number-at l 0) (value (without-minus (field l 1))) (past-line s at) (sym p ∙ q) in
+    let t = and-both (l .closed && eqb (length (fields (l .text))) 2) (is-number (field l 0) && is-signed (field l 1)) (g .0) in
+    let k = and-both (is-number (field l 0)) (is-signed (field l 1)) (t .1) in
+    record {
+      line = g .0;
+      number = g .1;
+      minus = g .2;
+      worth = g .3;
+      past = g .4;
+      rest = ap (λ (i : ℕ). lines (drop i s)) (sym (g .4)) ∙ past-lines s at;
+      within = omega (arith, g .4, closed-within s at (and-both (l .closed) (eqb (length (fields (l .text))) 2) (t .0) .0));
+      first-small = omega (arith, g .1, value-small (field l 0) (k .0));
+      second-small = omega (arith, g .3, value-small (without-minus (field l 1)) (k .1));
+    }
+
+pub signed-fault : (s : List ℕ) (at : ℕ) {r : SignedRow} → r ≡ signed-row-here s at → r ≡ Fault-row → signed-line (line-here s at) ≡ false
+unfolding signed-row-here
+signed-fault s at p q =
+    let l = line-here s at in
+    at-fault-go (signed-line l) (has-minus (field l 1)) (number-at l 0) (value (without-minus (field l 1))) (past-line s at) (sym p ∙ q)
+
+-- the value of a signed number by its sign and what follows it
+pub signed-worth : (w : List ℕ) → signed-value w ≡ cond (has-minus w) (negℤ (pos (value (without-minus w)))) (pos (value (without-minus w)))
+unfolding signed-value
+signed-worth w = go (has-minus w) refl
+  where
+    go : (t : Bool) → has-minus w ≡ t → cond t (negℤ (pos (value (without-minus w)))) (pos (value w)) ≡ cond t (negℤ (pos (value (without-minus w)))) (pos (value (without-minus w)))
+    go true e = refl
+    go false e = ap (λ (f : List ℕ). pos (value f)) (sym (no-minus w e))
