@@ -1,7 +1,7 @@
 -- Tests and their cases: what a Boolean, or an equation of two numbers, can be, and what && and || say. Assumes
 -- nothing.
 use mathlib.Core.Path.{_≡_, refl, sym}
-use mathlib.Core.Bool.{Bool, true, false, _&&_, _||_}
+use mathlib.Core.Bool.{Bool, true, false, _&&_, _||_, not}
 use mathlib.Core.Logic.{_⊎_, inl, inr}
 use Prim.Native.Nat.{ℕ}
 use native.Mathlib.Omega.{arith}
@@ -56,3 +56,12 @@ clash b e f = let z : _≡_ {A = ℕ} 0 1 = cc in absurd (omega arith)
 
 pub eqb-swap : (a b : ℕ) → eqb a b ≡ false → eqb b a ≡ false
 eqb-swap a b e = ne-eqb b a (λ q. eqb-false a b e (sym q))
+
+-- a test that code negates: where `!b` came out true b is false, and where it came out false b is true
+pub refuted : (b t : Bool) → t ≡ true → t ≡ not b → b ≡ false
+refuted true t e q = clash t e q
+refuted false t e q = refl
+
+pub upheld : (b t : Bool) → t ≡ false → t ≡ not b → b ≡ true
+upheld true t e q = refl
+upheld false t e q = clash t q e

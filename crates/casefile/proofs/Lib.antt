@@ -1,0 +1,6 @@
+-- Laws of the judge: places of lines, blocks of lines, the whole file.
+pub mod Places
+pub mod Refusals
+pub mod Blocks
+pub mod Whole
+pub mod Loading

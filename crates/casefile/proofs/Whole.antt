@@ -1,0 +1,301 @@
+-- Whole: lines 1 to 3, then the blocks: what the judge answers at each fault, and the case where there is none.
+-- Assumes nothing.
+use mathlib.Core.Path.{_≡_, refl, sym, ap, _∙_}
+use mathlib.Core.Bool.{Bool, true, false, _&&_, not, cond, and-false}
+use mathlib.Core.List.{List, [], _∷_}
+use mathlib.Core.Option.{none}
+use Prim.Native.Nat.{ℕ, suc, _+_, _-_, _≤_, _<_}
+use native.Mathlib.Omega.{arith}
+use lib.Dec.{ltb, leb, eqb}
+use lib.ListN.{length, drop, length-drop}
+use borrow.Author.Tests.{eqb-true, eqb-false, lt-ltb, le-ltb, le-leb, lt-leb, ne-eqb}
+use Rattle.text.specs.Lines.{Line, lines, line-at, line-is, field}
+use Rattle.text.specs.Numbers.{numbers-line, number-at}
+use Rattle.text.specs.Reading.{line-here, past-line, field-here, field-number-here}
+use Rattle.text.specs.declared.read.Number.{Number}
+use Rattle.text.specs.declared.read.Number.the-variants.{Is, Not}
+use Rattle.text.proofs.Reading.{Row, No-row, no-lines, some-lines, Line-named, number-is, number-not}
+use Rattle.text.proofs.Tests.{both-true}
+use Rattle.model.specs.Case.{most-vertices, most-edges, most-workers, longest-file, known-version}
+use Rattle.model.specs.CaseFile.{refuse, first-of, head-names, vertex-names, edge-names, begins-version, other-version, counts-good, vertices-refusal, edges-refusal, case-refusal, accepted, case-in}
+use Rattle.model.proofs.Accepting.{edge-ends}
+use Rattle.casefile.specs.Judging.{skip, header, judged, counts-in-range, head-refusal, head-says, block-says}
+use Rattle.casefile.specs.declared.Judged.the-variants.{Refused, Accepted}
+use Rattle.casefile.specs.declared.Head.the-variants.{Refused as Bad-head, Counts}
+use Rattle.casefile.specs.declared.Block.the-variants.{Refused as Bad-block, Past}
+use Rattle.casefile.proofs.Places.{skip-one, skip-add, skip-last, skip-lines, skip-line}
+use Rattle.casefile.proofs.Refusals.{first-append, first-decides}
+
+both-false : (a : Bool) {b : Bool} → b ≡ false → (a && b) ≡ false
+both-false a e = rw (e, and-false) refl
+
+-- LINES 1 TO 3
+head-refused : (s : List ℕ) (j : ℕ) → head-refusal s ≡ suc j → Bad-head (suc j) ≡ head-says s
+unfolding head-says
+head-refused s j e = rw (e, ne-eqb (suc j) 0 (λ z. omega arith)) refl
+
+module _ (s : List ℕ) where
+  pub head-1 : longest-file < length s → Bad-head 1 ≡ head-says s
+  head-1 h = head-refused s 0 (unfold head-refusal in (rw (lt-ltb longest-file (length s) h) (unfold refuse first-of in refl)))
+
+  module _ (short : length s ≤ longest-file) where
+    pub head-2 : begins-version s ≡ false → Bad-head 2 ≡ head-says s
+    head-2 b = head-refused s 1 (unfold head-refusal in (rw (le-ltb longest-file (length s) short, b) (unfold refuse first-of in refl)))
+
+    module _ (begun : begins-version s ≡ true) where
+      pub head-3 : other-version (lines s) ≡ true → Bad-head 3 ≡ head-says s
+      head-3 v = head-refused s 2 (unfold head-refusal in (rw (le-ltb longest-file (length s) short, begun, v) (unfold refuse first-of in refl)))
+
+      module _ (version : other-version (lines s) ≡ false) where
+        pub head-4 : (line-is head-names (line-at (lines s) 0) && numbers-line 5 (line-at (lines s) 1)) ≡ false → Bad-head 4 ≡ head-says s
+        head-4 l = head-refused s 3 (unfold head-refusal in (rw (le-ltb longest-file (length s) short, begun, version, l) (unfold refuse first-of in refl)))
+
+        module _ (laid : (line-is head-names (line-at (lines s) 0) && numbers-line 5 (line-at (lines s) 1)) ≡ true) where
+          pub head-5 : counts-good (line-at (lines s) 1) ≡ false → Bad-head 5 ≡ head-says s
+          head-5 g = head-refused s 4 (unfold head-refusal in (rw (le-ltb longest-file (length s) short, begun, version, laid, g) (unfold refuse first-of in refl)))
+
+          module _ (good : counts-good (line-at (lines s) 1) ≡ true) where
+            pub head-names-4 : line-is vertex-names (line-at (lines s) 2) ≡ false → Bad-head 4 ≡ head-says s
+            head-names-4 l = head-refused s 3 (unfold head-refusal in (rw (le-ltb longest-file (length s) short, begun, version, laid, good, l) (unfold refuse first-of in refl)))
+
+            pub head-right : line-is vertex-names (line-at (lines s) 2) ≡ true → head-refusal s ≡ 0
+            unfolding head-refusal
+            head-right l = rw (le-ltb longest-file (length s) short, begun, version, laid, good, l) (unfold refuse first-of in refl)
+
+-- what the numbers of line 2 say
+pub record Counted (s : List ℕ) (n m u p : ℕ) : Type 0 where
+  pub vertices : number-at (line-at (lines s) 1) 1 ≡ n
+  pub edges : number-at (line-at (lines s) 1) 2 ≡ m
+  pub source : number-at (line-at (lines s) 1) 3 ≡ u
+  pub workers : number-at (line-at (lines s) 1) 4 ≡ p
+
+pub counted : {s : List ℕ} {a n m u p z : ℕ} → Row s (skip 1 s 0) (a ∷ n ∷ m ∷ u ∷ p ∷ []) z → Counted s n m u p
+counted {s} r =
+    let e : line-here s (skip 1 s 0) ≡ line-at (lines s) 1 = skip-line 1 s in
+    record {
+      vertices = rw e at (r .are 1 (omega arith));
+      edges = rw e at (r .are 2 (omega arith));
+      source = rw e at (r .are 3 (omega arith));
+      workers = rw e at (r .are 4 (omega arith));
+    }
+
+pub counts-are : {s : List ℕ} {n m u p : ℕ} → Counted s n m u p → counts-good (line-at (lines s) 1) ≡ counts-in-range n m u p
+unfolding counts-good counts-in-range
+counts-are k = rw (k .vertices, k .edges, k .source, k .workers) refl
+
+pub head-counts : {s : List ℕ} {n m u p : ℕ} → Counted s n m u p → head-refusal s ≡ 0 → Counts n m u p (skip 3 s 0) ≡ head-says s
+unfolding head-says
+head-counts k e = rw (e, k .vertices, k .edges, k .source, k .workers) refl
+
+-- lines 1 to 3, fault by fault: what is known before line 1's names are read
+pub record Opened (s : List ℕ) : Type 0 where
+  pub short : length s ≤ longest-file
+  pub begun : begins-version s ≡ true
+  pub version : other-version (lines s) ≡ false
+
+module _ {s : List ℕ} (o : Opened s) where
+  pub head-unnamed : line-is head-names (line-here s 0) ≡ false → Bad-head 4 ≡ head-says s
+  head-unnamed h = head-4 s (o .short) (o .begun) (o .version) (rw h refl)
+
+  module _ {z : ℕ} (named : Line-named s 0 head-names z) where
+    second : z ≡ skip 1 s 0
+    second = sym (named .past) ∙ sym (skip-one s 0)
+
+    line-2 : line-here s z ≡ line-at (lines s) 1
+    line-2 = rw second (skip-line 1 s)
+
+    pub head-torn : No-row 5 s z → Bad-head 4 ≡ head-says s
+    head-torn b = head-4 s (o .short) (o .begun) (o .version) (both-false (line-is head-names (line-at (lines s) 0)) (rw line-2 at (b .none)))
+
+    module _ {a n m u p y : ℕ} (r : Row s z (a ∷ n ∷ m ∷ u ∷ p ∷ []) y) where
+      counts : Counted s n m u p
+      counts = counted (rw second at r)
+
+      laid : (line-is head-names (line-at (lines s) 0) && numbers-line 5 (line-at (lines s) 1)) ≡ true
+      laid = both-true _ _ (named .line) (rw line-2 at (r .line))
+
+      pub head-miscounted : counts-in-range n m u p ≡ false → Bad-head 5 ≡ head-says s
+      head-miscounted g = head-5 s (o .short) (o .begun) (o .version) laid (counts-are counts ∙ g)
+
+      line-3 : line-here s y ≡ line-at (lines s) 2
+      line-3 = rw (← r .past, second, ← skip-last 1 s 0) (skip-line 2 s)
+
+      pub head-untitled : counts-in-range n m u p ≡ true → line-is vertex-names (line-here s y) ≡ false → Bad-head 4 ≡ head-says s
+      head-untitled g b = head-names-4 s (o .short) (o .begun) (o .version) laid (counts-are counts ∙ g) (rw line-3 at b)
+
+      pub head-whole : {x : ℕ} → counts-in-range n m u p ≡ true → Line-named s y vertex-names x → Counts n m u p x ≡ head-says s
+      head-whole {x} g b =
+          let e : x ≡ skip 3 s 0 = sym (b .past) ∙ (rw (← r .past, second, ← skip-last 1 s 0) (sym (skip-last 2 s 0))) in
+          rw e (head-counts counts (head-right s (o .short) (o .begun) (o .version) laid (counts-are counts ∙ g) (rw line-3 at (b .line))))
+
+-- AFTER LINE 3
+pub record Headed (s : List ℕ) (n m u p rows : ℕ) : Type 0 where
+  pub right : head-refusal s ≡ 0
+  pub counts : Counted s n m u p
+  pub place : skip 3 s 0 ≡ rows
+
+pub headed : (s : List ℕ) (n m u p rows : ℕ) → head-says s ≡ Counts n m u p rows → Headed s n m u p rows
+unfolding head-says
+headed s n m u p rows h = go (eqb (head-refusal s) 0) refl h
+  where
+    go : (b : Bool) → eqb (head-refusal s) 0 ≡ b → let l = line-at (lines s) 1 in
+        cond b (Counts (number-at l 1) (number-at l 2) (number-at l 3) (number-at l 4) (skip 3 s 0)) (Bad-head (head-refusal s)) ≡ Counts n m u p rows → Headed s n m u p rows
+    go true e q = record { right = eqb-true (head-refusal s) 0 e; counts = record { vertices = cc; edges = cc; source = cc; workers = cc }; place = cc }
+    go false e q = let z : _≡_ {A = ℕ} 0 1 = cc in absurd (omega arith)
+
+-- the refusals of what follows line 3; the first three lines decide before them
+unfoldable after-3 : List ℕ → List ℕ
+after-3 s =
+    let ls = lines s in let l = line-at ls 1 in let i = number-at l 1 in let j = number-at l 2 in
+    vertices-refusal i 0 (number-at l 4) (drop 3 ls) ∷ refuse (not (line-is edge-names (line-at ls (3 + i)))) 4 ∷ edges-refusal j i none (drop (4 + i) ls) ∷ refuse (ltb (4 + i + j) (length ls)) 4 ∷ []
+
+case-split : (s : List ℕ) → case-refusal s ≡ first-of (head-refusal s ∷ after-3 s)
+unfolding case-refusal head-refusal after-3
+case-split s = first-append _ (after-3 s)
+
+judged-refused : (s : List ℕ) (k : ℕ) → case-refusal s ≡ k → (k ≡ 0 → ⊥) → Refused k ≡ judged s
+unfolding judged accepted
+judged-refused s k e n = rw (e, ne-eqb k 0 n) refl
+
+pub head-judged : (s : List ℕ) (k : ℕ) → Bad-head k ≡ head-says s → Refused k ≡ judged s
+unfolding head-says
+head-judged s k h = go (eqb (head-refusal s) 0) refl h
+  where
+    go : (b : Bool) → eqb (head-refusal s) 0 ≡ b → let l = line-at (lines s) 1 in
+        Bad-head k ≡ cond b (Counts (number-at l 1) (number-at l 2) (number-at l 3) (number-at l 4) (skip 3 s 0)) (Bad-head (head-refusal s)) → Refused k ≡ judged s
+    go true e q = let z : _≡_ {A = ℕ} 0 1 = cc in absurd (omega arith)
+    go false e q =
+        let z : head-refusal s ≡ k = cc in
+        let n : k ≡ 0 → ⊥ = λ w. eqb-false (head-refusal s) 0 e (z ∙ w) in
+        judged-refused s k (case-split s ∙ (rw z (first-decides k (after-3 s) n))) n
+
+-- a block's answer gives its refusal
+block-bad : (r k : ℕ) (s : List ℕ) (at j : ℕ) → Bad-block j ≡ block-says r k s at → (r ≡ j) × (j ≡ 0 → ⊥)
+unfolding block-says
+block-bad r k s at j e = go (eqb r 0) refl e
+  where
+    go : (b : Bool) → eqb r 0 ≡ b → Bad-block j ≡ cond b (Past (skip k s at)) (Bad-block r) → (r ≡ j) × (j ≡ 0 → ⊥)
+    go true q e = let z : _≡_ {A = ℕ} 0 1 = cc in absurd (omega arith)
+    go false q e = let z : r ≡ j = cc in (z, λ w. eqb-false r 0 q (z ∙ w))
+
+block-good : (r k : ℕ) (s : List ℕ) (at z : ℕ) → Past z ≡ block-says r k s at → (r ≡ 0) × (skip k s at ≡ z)
+unfolding block-says
+block-good r k s at z e = go (eqb r 0) refl e
+  where
+    go : (b : Bool) → eqb r 0 ≡ b → Past z ≡ cond b (Past (skip k s at)) (Bad-block r) → (r ≡ 0) × (skip k s at ≡ z)
+    go true q e = (eqb-true r 0 q, cc)
+    go false q e = let z : _≡_ {A = ℕ} 0 1 = cc in absurd (omega arith)
+
+module _ {s : List ℕ} {n m u p rows : ℕ} (h : Headed s n m u p rows) where
+  names-place : skip n s rows ≡ skip (3 + n) s 0
+  names-place = rw (← h .place) (sym (skip-add 3 n s 0))
+
+  edges-place : past-line s (skip n s rows) ≡ skip (4 + n) s 0
+  edges-place =
+      let e : 3 + n + 1 ≡ 4 + n = omega arith in
+      rw names-place (sym (skip-last (3 + n) s 0) ∙ ap (λ (k : ℕ). skip k s 0) e)
+
+  -- the case's refusal, by the blocks that the judge reads
+  after-head : case-refusal s ≡ first-of (vertices-refusal n 0 p (lines (drop rows s))
+      ∷ refuse (not (line-is edge-names (line-here s (skip n s rows)))) 4
+      ∷ edges-refusal m n none (lines (drop (skip (4 + n) s 0) s))
+      ∷ refuse (ltb (4 + n + m) (length (lines s))) 4
+      ∷ [])
+  after-head = case-split s ∙ (rw (h .right) (unfold first-of in tail))
+    where
+      tail : first-of (after-3 s) ≡ first-of (vertices-refusal n 0 p (lines (drop rows s)) ∷ refuse (not (line-is edge-names (line-here s (skip n s rows)))) 4 ∷ edges-refusal m n none (lines (drop (skip (4 + n) s 0) s)) ∷ refuse (ltb (4 + n + m) (length (lines s))) 4 ∷ [])
+      tail = unfold after-3 in (rw (← h .place, h .counts .vertices, h .counts .edges, h .counts .workers, skip-lines 3 s 0, skip-lines (4 + n) s 0, ← skip-add 3 n s 0, skip-line (3 + n) s) refl)
+
+  -- a fault in the blocks, by the first that has one
+  pub vertices-refused : (k : ℕ) → Bad-block k ≡ block-says (vertices-refusal n 0 p (lines (drop rows s))) n s rows → Refused k ≡ judged s
+  vertices-refused k b =
+      let r = block-bad _ n s rows k b in
+      judged-refused s k (after-head ∙ (rw (r .0) (first-decides k _ (r .1)))) (r .1)
+
+  module _ (q : ℕ) (v : Past q ≡ block-says (vertices-refusal n 0 p (lines (drop rows s))) n s rows) where
+    pub names-refused : line-is edge-names (line-here s q) ≡ false → Refused 4 ≡ judged s
+    names-refused b =
+        let r = block-good _ n s rows q v in
+        judged-refused s 4 (after-head ∙ (rw (r .0, r .1, b) (unfold refuse first-of in refl))) (λ z. omega arith)
+
+    module _ (rest : ℕ) (named : Line-named s q edge-names rest) where
+      rest-place : rest ≡ skip (4 + n) s 0
+      rest-place = sym (named .past) ∙ (rw (block-good _ n s rows q v .1) at edges-place)
+
+      after-names : case-refusal s ≡ first-of (edges-refusal m n none (lines (drop (rest) s)) ∷ refuse (ltb (4 + n + m) (length (lines s))) 4 ∷ [])
+      after-names =
+          let r = block-good _ n s rows q v in
+          rw rest-place (after-head ∙ (rw (r .0, r .1, named .line) (unfold refuse first-of in refl)))
+
+      pub edges-refused : (k : ℕ) → Bad-block k ≡ block-says (edges-refusal m n none (lines (drop (rest) s))) m s (rest) → Refused k ≡ judged s
+      edges-refused k b =
+          let r = block-bad _ m s (rest) k b in
+          judged-refused s k (after-names ∙ (rw (r .0) (first-decides k _ (r .1)))) (r .1)
+
+      module _ (end : ℕ) (g : Past end ≡ block-says (edges-refusal m n none (lines (drop (rest) s))) m s (rest)) where
+        end-place : end ≡ skip (4 + n + m) s 0
+        end-place =
+            sym (block-good _ m s (rest) end g .1) ∙ ap (λ (k : ℕ). skip m s k) rest-place ∙ sym (skip-add (4 + n) m s 0)
+
+        left-over : length (lines (drop end s)) ≡ length (lines s) - (4 + n + m)
+        left-over = rw (end-place, skip-lines (4 + n + m) s 0) (length-drop (4 + n + m) (lines s))
+
+        pub end-refused : end < length s → Refused 4 ≡ judged s
+        end-refused l =
+            let t : 4 + n + m < length (lines s) = omega (arith, some-lines s end l, left-over) in
+            judged-refused s 4 (after-names ∙ (rw (block-good _ m s (rest) end g .0, lt-ltb _ _ t) (unfold refuse first-of in refl))) (λ z. omega arith)
+
+        module _ (last : length s ≤ end) where
+          right : case-refusal s ≡ 0
+          right =
+              let t : length (lines s) ≤ 4 + n + m = omega (arith, left-over, ap length (no-lines s end last)) in
+              after-names ∙ (rw (block-good _ m s (rest) end g .0, le-ltb _ _ t) (unfold refuse first-of in refl))
+
+          many : length (case-in s .graph .edges) ≡ m
+          unfolding case-in
+          many =
+              let f : edges-refusal m n none (drop (4 + n) (lines s)) ≡ 0 = rw (rest-place, skip-lines (4 + n) s 0) at (block-good _ m s (rest) end g .0) in
+              rw (h .counts .vertices, h .counts .edges) (edge-ends m n none (drop (4 + n) (lines s)) f .many)
+
+          pub all-accepted : Accepted (record { vertices = n; edges = m; source = u; workers = p; «vertex_lines» = rows; «edge_lines» = rest }) ≡ judged s
+          unfolding judged accepted header
+          all-accepted =
+              rw (right, many, rest-place, ← h .place) (unfold case-in in (rw (h .counts .vertices, h .counts .source, h .counts .workers) refl))
+
+-- THE VERSION: line 2's first field
+version-field : (s : List ℕ) (z : ℕ) → z ≡ past-line s 0 → field-here s z ≡ field (line-at (lines s) 1) 0
+version-field s z e = ap (λ (l : Line). field l 0) (rw (e, ← skip-one s 0) (skip-line 1 s))
+
+pub version-none : (s : List ℕ) {z : ℕ} {r : Number} → z ≡ past-line s 0 → r ≡ field-number-here s z → r ≡ Not → false ≡ other-version (lines s)
+unfolding other-version
+version-none s {z} e f g = rw (← version-field s z e, number-not s z f g) refl
+
+pub version-some : (s : List ℕ) {z v : ℕ} {r : Number} → z ≡ past-line s 0 → r ≡ field-number-here s z → r ≡ Is v → not (eqb v known-version) ≡ other-version (lines s)
+unfolding other-version
+version-some s {z} {v} e f g = let n = number-is s z f g in rw (← version-field s z e, n .0, n .1) refl
+
+-- COUNTS in range, test by test
+module _ (n m u p : ℕ) where
+  pub few-vertices : n < 1 → false ≡ counts-in-range n m u p
+  unfolding counts-in-range
+  few-vertices h = rw (lt-leb 1 n h) refl
+
+  pub many-vertices : most-vertices < n → false ≡ counts-in-range n m u p
+  unfolding counts-in-range
+  many-vertices h = rw (lt-leb n most-vertices h, and-false) refl
+
+  pub many-edges : most-edges < m → false ≡ counts-in-range n m u p
+  unfolding counts-in-range
+  many-edges h = rw (lt-leb m most-edges h, and-false) refl
+
+  pub far-source : n ≤ u → false ≡ counts-in-range n m u p
+  unfolding counts-in-range
+  far-source h = rw (le-ltb u n h, and-false) refl
+
+  pub few-workers : p < 1 → false ≡ counts-in-range n m u p
+  unfolding counts-in-range
+  few-workers h = simp (lt-leb 1 p h, and-false) refl
+
+  pub right-so-far : 1 ≤ n → n ≤ most-vertices → m ≤ most-edges → u < n → 1 ≤ p → leb p most-workers ≡ counts-in-range n m u p
+  unfolding counts-in-range
+  right-so-far a b c d e = rw (le-leb 1 n a, le-leb n most-vertices b, le-leb m most-edges c, lt-ltb u n d, le-leb 1 p e) refl

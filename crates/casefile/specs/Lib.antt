@@ -1,0 +1,2 @@
+-- What the case file's reader answers.
+pub mod Judging

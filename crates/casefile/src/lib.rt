@@ -1,0 +1,248 @@
+// The case file's reader: refusals 1 to 8 or the case, judged in one pass over the lent text; no buffer is written.
+// Contracts cite specs/Judging.antt.
+ghost use mathlib.Core.Path.{_≡_};
+ghost use mathlib.Core.Bool.{_&&_};
+ghost use mathlib.Core.Option.{none};
+ghost use lib.Dec.{ltb, eqb};
+ghost use lib.ListN.{drop};
+ghost use Rattle.text.specs.Lines.{lines};
+ghost use Rattle.model.specs.CaseFile.{other-version, rises, vertices-refusal, edges-refusal};
+ghost use Rattle.casefile.specs.Judging.{counts-in-range, edge-before, block-says, head-says, judged};
+use text::read::Named;
+use text::read::Number;
+use text::read::Row2;
+use text::read::Row3;
+use text::read::Row5;
+use text::read::begins_at;
+use text::read::field_number;
+use text::read::name_line;
+use text::read::next_line;
+use text::read::row_of_2;
+use text::read::row_of_3;
+use text::read::row_of_5;
+
+// An accepted case: its counts, and where its vertex lines and its edge lines start in the text.
+pub struct Case {
+    pub vertices: usize,
+    pub edges: usize,
+    pub source: usize,
+    pub workers: usize,
+    pub vertex_lines: usize,
+    pub edge_lines: usize,
+}
+
+impl Case {
+    // "Vertices 1 to 500, edges 0 to 2,000, workers 1 to 16"
+    pub const MOST_VERTICES: usize = 500;
+
+    pub const MOST_EDGES: usize = 2000;
+
+    pub const MOST_WORKERS: usize = 16;
+    // "over 65,536 bytes"
+    pub const LONGEST_FILE: usize = 65536;
+    // "output under 8,192 bytes, or work under 16,384 signed 32-bit cells"
+    pub const LEAST_OUTPUT: usize = 8192;
+
+    pub const LEAST_WORK: usize = 16384;
+    // The one version that is read and written.
+    pub const VERSION: u32 = 1;
+}
+
+// What a text is as a case file: its refusal, or the case.
+pub enum Judged {
+    Refused(u32),
+    Accepted(Case),
+}
+
+// Whether line 2's first field is a number other than the known version: refusal 3, also of an answer file.
+pub fn other_version(text: &[u8]) -> bool
+    ensures { λ r. ⌜ r ≡ other-version (lines (now (text .entry))) ⌝ }
+{
+    match field_number(text, next_line(text, 0)) {
+        Number::Not => false,
+        Number::Is(v) => v != Case::VERSION,
+    }
+}
+
+// Whether the counts and the source are in range.
+fn in_range(n: usize, m: usize, source: usize, workers: usize) -> bool
+    ensures { λ r. ⌜ r ≡ counts-in-range n m source workers ⌝ }
+{
+    if n < 1 {
+        return false;
+    }
+    if Case::MOST_VERTICES < n {
+        return false;
+    }
+    if Case::MOST_EDGES < m {
+        return false;
+    }
+    if n <= source {
+        return false;
+    }
+    if workers < 1 {
+        return false;
+    }
+    workers <= Case::MOST_WORKERS
+}
+
+// Lines 1 to 3: the refusal, or the counts and the place past them.
+enum Head {
+    Refused(u32),
+    Counts(usize, usize, usize, usize, usize),
+}
+
+fn read_head(text: &[u8]) -> Head
+    ensures { λ r. ⌜ r ≡ head-says (now (text .entry)) ⌝ }
+{
+    if Case::LONGEST_FILE < text.len() {
+        return Head::Refused(1);
+    }
+    if !begins_at(text, 0, b"version ") {
+        return Head::Refused(2);
+    }
+    if other_version(text) {
+        return Head::Refused(3);
+    }
+    let Named::Past(second) = name_line(text, 0, b"version vertices edges source workers") else {
+        return Head::Refused(4);
+    };
+    let Row5::Read(_, n, m, source, workers, third) = row_of_5(text, second) else {
+        return Head::Refused(4);
+    };
+    if !in_range(n as usize, m as usize, source as usize, workers as usize) {
+        return Head::Refused(5);
+    }
+    let Named::Past(rows) = name_line(text, third, b"vertex accepting owner") else {
+        return Head::Refused(4);
+    };
+    Head::Counts(
+        n as usize,
+        m as usize,
+        source as usize,
+        workers as usize,
+        rows,
+    )
+}
+
+// A block of lines: the refusal, or the place past it.
+enum Block {
+    Refused(u32),
+    Past(usize),
+}
+
+// Whether a vertex line's values are those of vertex v.
+fn vertex_right(v: usize, workers: usize, vertex: u32, mark: u32, owner: u32) -> bool
+    ensures { λ r. ⌜ r ≡ (eqb vertex v && (ltb mark 2 && ltb owner workers)) ⌝ }
+{
+    if vertex as usize != v {
+        return false;
+    }
+    if 2 <= mark {
+        return false;
+    }
+    (owner as usize) < workers
+}
+
+// The lines of n vertices from `at` on.
+fn vertex_block(text: &[u8], at: usize, n: usize, workers: usize) -> Block
+    ensures { λ r. ⌜ r ≡ block-says (vertices-refusal n 0 workers (lines (drop at (now (text .entry))))) n (now (text .entry)) at ⌝ }
+{
+    let mut here = at;
+    let mut v: usize = 0;
+    while v < n {
+        let Row3::Read(vertex, mark, owner, next) = row_of_3(text, here) else {
+            return Block::Refused(4);
+        };
+        if !vertex_right(v, workers, vertex, mark, owner) {
+            return Block::Refused(6);
+        }
+        here = next;
+        v += 1;
+    }
+    Block::Past(here)
+}
+
+// Whether an edge comes after the one before it, number e − 1, or is the first.
+fn rising(e: usize, f: u32, t: u32, from: u32, to: u32) -> bool
+    ensures { λ r. ⌜ r ≡ rises (edge-before e f t) (record { from = from; to = to }) ⌝ }
+{
+    if e == 0 {
+        return true;
+    }
+    if f < from {
+        return true;
+    }
+    if f == from {
+        return t < to;
+    }
+    false
+}
+
+// The lines of m edges from `at` on.
+fn edge_block(text: &[u8], at: usize, m: usize, n: usize) -> Block
+    ensures { λ r. ⌜ r ≡ block-says (edges-refusal m n none (lines (drop at (now (text .entry))))) m (now (text .entry)) at ⌝ }
+{
+    let mut here = at;
+    let mut e: usize = 0;
+    let mut before_from: u32 = 0;
+    let mut before_to: u32 = 0;
+    while e < m {
+        let Row2::Read(from, to, next) = row_of_2(text, here) else {
+            return Block::Refused(4);
+        };
+        if n <= from as usize {
+            return Block::Refused(7);
+        }
+        if n <= to as usize {
+            return Block::Refused(7);
+        }
+        if !rising(e, before_from, before_to, from, to) {
+            return Block::Refused(8);
+        }
+        before_from = from;
+        before_to = to;
+        here = next;
+        e += 1;
+    }
+    Block::Past(here)
+}
+
+// The lines after line 3, of a text whose first three are right.
+fn read_body(text: &[u8], n: usize, m: usize, source: usize, workers: usize, rows: usize) -> Judged
+    requires { ⌜ head-says (now text) ≡ Head.Counts n m source workers rows ⌝ }
+    ensures { λ r. ⌜ r ≡ judged (now (text .entry)) ⌝ }
+{
+    match vertex_block(text, rows, n, workers) {
+        Block::Refused(k) => Judged::Refused(k),
+        Block::Past(names) => match name_line(text, names, b"from to") {
+            Named::Other => Judged::Refused(4),
+            Named::Past(edge_rows) => match edge_block(text, edge_rows, m, n) {
+                Block::Refused(k) => Judged::Refused(k),
+                Block::Past(end) => {
+                    if end < text.len() {
+                        return Judged::Refused(4);
+                    }
+                    Judged::Accepted(Case {
+                        vertices: n,
+                        edges: m,
+                        source: source,
+                        workers: workers,
+                        vertex_lines: rows,
+                        edge_lines: edge_rows,
+                    })
+                }
+            },
+        },
+    }
+}
+
+// Judges a whole text as a case file.
+pub fn judge(text: &[u8]) -> Judged
+    ensures { λ r. ⌜ r ≡ judged (now (text .entry)) ⌝ }
+{
+    match read_head(text) {
+        Head::Refused(k) => Judged::Refused(k),
+        Head::Counts(n, m, source, workers, rows) => read_body(text, n, m, source, workers, rows),
+    }
+}
