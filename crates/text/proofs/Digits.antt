@@ -1,6 +1,6 @@
 -- Laws of the digits that stand in front of a text: a number that is read digit by digit is the field there. Assumes nothing.
 use mathlib.Core.Path.{_≡_, refl, sym, ap, _∙_}
-use mathlib.Core.Bool.{Bool, true, false, _&&_, cond, and-false, or-true}
+use mathlib.Core.Bool.{Bool, true, false, cond, and-false, or-true}
 use mathlib.Core.List.{List, [], _∷_, _++_, append-nil}
 use Prim.Native.Nat.{ℕ, zero, suc, _+_, _*_, _-_, _^_, _≤_, _<_, min}
 use native.Mathlib.Omega.{arith}
@@ -16,13 +16,9 @@ use Rattle.text.specs.Reading.{field-here, run, run-here, Digits-read, d
 use Rattle.text.specs.declared.read.Number.the-variants.{Is, Not}
 use Rattle.text.specs.declared.read.Row1.{Row1}
 use Rattle.text.specs.declared.read.Row1.the-variants.{Read as Read1, Fault as Fault1}
-use Rattle.text.proofs.Lines.{field-in, field-nil, field-stop, field-byte, ended}
+use Rattle.text.proofs.Lines.{and-both, field-in, field-nil, field-stop, field-byte, ended}
 
 -- THE RUN of digits, k at most
-and-both : (x y : Bool) → (x && y) ≡ true → (x ≡ true) × (y ≡ true)
-and-both true y e = (refl, e)
-and-both false y e = (e, cc)
-
 pub digit-low : (b : ℕ) → is-digit b ≡ true → digit-0 ≤ b
 unfolding is-digit
 digit-low b h = leb-true digit-0 b (and-both (leb digit-0 b) (leb b digit-9) h .0)
@@ -228,11 +224,12 @@ pub record Run-read (s : List ℕ) (at v e : ℕ) : Type 0 where
   pub worth : value (run-here s at) ≡ v
   pub ends : at + length (run-here s at) ≡ e
 
-read-go : (t : Bool) (x y v e : ℕ) → cond t (Read1 x y) Fault1 ≡ Read1 v e → (t ≡ true) × (x ≡ v) × (y ≡ e)
+-- what a number that was read, or a fault, tells of the test
+pub read-go : (t : Bool) (x y v e : ℕ) → cond t (Read1 x y) Fault1 ≡ Read1 v e → (t ≡ true) × (x ≡ v) × (y ≡ e)
 read-go true x y v e h = (refl, cc, cc)
 read-go false x y v e h = (cc, cc, cc)
 
-fault-go : (t : Bool) (x y : ℕ) → cond t (Read1 x y) Fault1 ≡ Fault1 → t ≡ false
+pub fault-go : (t : Bool) (x y : ℕ) → cond t (Read1 x y) Fault1 ≡ Fault1 → t ≡ false
 fault-go true x y h = cc
 fault-go false x y h = refl
 

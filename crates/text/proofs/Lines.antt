@@ -1,6 +1,6 @@
 -- Laws of the first line and the first field of a text, over plain lists. Assumes nothing.
 use mathlib.Core.Path.{_≡_, refl, sym, ap, _∙_}
-use mathlib.Core.Bool.{Bool, true, false, _||_, cond}
+use mathlib.Core.Bool.{Bool, true, false, _&&_, _||_, cond}
 use mathlib.Core.List.{List, [], _∷_, _++_, append-nil}
 use Prim.Native.Nat.{ℕ, suc, _+_, _≤_}
 use native.Mathlib.Omega.{arith}
@@ -10,6 +10,11 @@ use lib.ListN.{length, getD, take, drop}
 use Rattle.text.specs.Ascii.{line-feed, space}
 use Rattle.text.specs.Lines.{Line, lines, line-at, put-byte, put-first, fields, field, open-line, closed-line}
 use Rattle.text.specs.Reading.{is-separator}
+
+-- both parts of a test that holds
+pub and-both : (x y : Bool) → (x && y) ≡ true → (x ≡ true) × (y ≡ true)
+and-both true y e = (refl, e)
+and-both false y e = (e, cc)
 
 -- LINES: the first line of a text, and how many bytes it has with its line feed
 abbrev pub first : List ℕ → Line

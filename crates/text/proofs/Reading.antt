@@ -9,7 +9,7 @@ use lib.Dec.{leb, ltb, eqb, eqb·suc-suc, lit<}
 use lib.ListN.{length, getD, drop, drop-of-length-le, length-drop}
 use lib.Seq.{drop-drop}
 use borrow.Author.Tests.{leb-true, leb-false, eqb-true, eqb-false, ne-eqb, not-true}
-use Rattle.text.specs.Ascii.{line-feed, digit-0, digit-9}
+use Rattle.text.specs.Ascii.{line-feed, digit-0}
 use Rattle.text.specs.Lines.{Line, lines, put-byte, fields, field, equal, begins, line-is}
 use Rattle.text.specs.Numbers.{most-digits, is-digit, all-digits, no-leading-zero, is-number, value, value-from, all-numbers, numbers-line, number-at}
 use Rattle.text.specs.Reading.{line-here, past-line, field-here, named-here, field-number-here, leading-here, row1-here, row2-here, row3-here, row5-here}
@@ -25,7 +25,8 @@ use Rattle.text.specs.declared.read.Row3.{Row3}
 use Rattle.text.specs.declared.read.Row3.the-variants.{Read as Read3, Fault as Fault3}
 use Rattle.text.specs.declared.read.Row5.{Row5}
 use Rattle.text.specs.declared.read.Row5.the-variants.{Read as Read5, Fault as Fault5}
-use Rattle.text.proofs.Lines.{size, first, first-nil, first-feed, first-byte, rest-lines, size-within}
+use Rattle.text.proofs.Lines.{and-both, size, first, first-nil, first-feed, first-byte, rest-lines, size-within}
+use Rattle.text.proofs.Digits.{digit-high, read-go, fault-go}
 use Rattle.text.proofs.ReadingSteps.{past-size}
 use Rattle.text.proofs.ReadingRows.{Parted, Not-parted, numbers-more, leading-number, parted}
 
@@ -78,10 +79,6 @@ lines-end s z h = go (leb (length s) z) refl
 abbrev pub without-feed : List ℕ → Bool
 without-feed [] = true
 without-feed (b ∷ bs) = not (eqb b line-feed) && without-feed bs
-
-and-both : (x y : Bool) → (x && y) ≡ true → (x ≡ true) × (y ≡ true)
-and-both true y e = (refl, e)
-and-both false y e = (e, cc)
 
 and-swap : (x y z : Bool) → (x && (y && z)) ≡ (y && (x && z))
 and-swap true y z = refl
@@ -165,10 +162,6 @@ named-other names s at h p q =
     sym (named-line names s at h) ∙ other-go (begins (names ++ line-feed ∷ []) (drop at s)) (at + suc (length names)) (sym p ∙ q)
 
 -- A NUMBER: its value has at most nine digits
-digit-high : (b : ℕ) → is-digit b ≡ true → b ≤ digit-9
-unfolding is-digit
-digit-high b h = leb-true b digit-9 (and-both (leb digit-0 b) (leb b digit-9) h .1)
-
 value-below : (v k : ℕ) (w : List ℕ) → v < 10 ^ k → all-digits w ≡ true → value-from v w < 10 ^ (k + length w)
 unfolding value-from all-digits
 value-below v k [] h d = rw add-zero h
@@ -256,23 +249,15 @@ are1 : (s : List ℕ) (at a : ℕ) → number-at (line-here s at) 0 ≡ a → (i
 are1 s at a h0 zero l = h0
 are1 s at a h0 (suc i) l = absurd (omega arith)
 
-row1-go : (t : Bool) (x o a z : ℕ) → cond t (Read1 x o) Fault1 ≡ Read1 a z → (t ≡ true) × (x ≡ a) × (o ≡ z)
-row1-go true x o a z h = (refl, cc, cc)
-row1-go false x o a z h = (cc, cc, cc)
-
-fault1-go : (t : Bool) (x o : ℕ) → cond t (Read1 x o) Fault1 ≡ Fault1 → t ≡ false
-fault1-go true x o h = cc
-fault1-go false x o h = refl
-
 pub row1-read : {s : List ℕ} {at a z : ℕ} {r : Row1} → r ≡ row1-here s at → r ≡ Read1 a z → Row s at (a ∷ []) z
 unfolding row1-here
 row1-read {s} {at} {a} {z} p q =
-    let g = row1-go (numbers-line 1 (line-here s at)) (number-at (line-here s at) 0) (past-line s at) a z (sym p ∙ q) in
+    let g = read-go (numbers-line 1 (line-here s at)) (number-at (line-here s at) 0) (past-line s at) a z (sym p ∙ q) in
     record { line = g .0; are = are1 s at a (g .1); past = g .2 }
 
 pub row1-fault : (s : List ℕ) (at : ℕ) {r : Row1} → r ≡ row1-here s at → r ≡ Fault1 → No-row 1 s at
 unfolding row1-here
-row1-fault s at p q = record { none = fault1-go (numbers-line 1 (line-here s at)) (number-at (line-here s at) 0) (past-line s at) (sym p ∙ q) }
+row1-fault s at p q = record { none = fault-go (numbers-line 1 (line-here s at)) (number-at (line-here s at) 0) (past-line s at) (sym p ∙ q) }
 
 pub row1-is : {s : List ℕ} {at a z : ℕ} → Row s at (a ∷ []) z → Read1 a z ≡ row1-here s at
 unfolding row1-here
@@ -400,11 +385,7 @@ number-not s at p q = not-go (is-number (field-here s at)) (value (field-here s 
 pub leading-read : {s : List ℕ} {at v p : ℕ} {r : Row1} → r ≡ leading-here s at → r ≡ Read1 v p → Parted s at v p
 leading-read {s} {at} e q = parted (e ∙ sym (leading-number s at)) q
 
-leading-go : (t : Bool) (x y : ℕ) → cond t (Read1 x y) Fault1 ≡ Fault1 → t ≡ false
-leading-go true x y h = cc
-leading-go false x y h = refl
-
 pub leading-fault : (s : List ℕ) (at : ℕ) {r : Row1} → r ≡ leading-here s at → r ≡ Fault1 → (is-number (field-here s at) && ltb 1 (length (fields (line-here s at .text)))) ≡ false
 unfolding leading-here
 leading-fault s at p q =
-    leading-go (is-number (field-here s at) && ltb 1 (length (fields (line-here s at .text)))) (value (field-here s at)) (at + suc (length (field-here s at))) (sym p ∙ q)
+    fault-go (is-number (field-here s at) && ltb 1 (length (fields (line-here s at .text)))) (value (field-here s at)) (at + suc (length (field-here s at))) (sym p ∙ q)

@@ -14,10 +14,8 @@ use Rattle.text.specs.Numbers.{is-number, value, all-numbers, numbers-li
 use Rattle.text.specs.Reading.{line-here, past-line, field-here, number-before, leading-here, row1-here}
 use Rattle.text.specs.declared.read.Row1.{Row1}
 use Rattle.text.specs.declared.read.Row1.the-variants.{Read as Read1, Fault as Fault1}
-use Rattle.text.specs.declared.read.Row2.the-variants.{Read as Read2, Fault as Fault2}
-use Rattle.text.specs.declared.read.Row3.the-variants.{Read as Read3, Fault as Fault3}
-use Rattle.text.specs.declared.read.Row5.the-variants.{Read as Read5, Fault as Fault5}
-use Rattle.text.proofs.Lines.{size, first, field-in, after-field, ended, glue, field-first, fields-some, space-pieces, space-closed, space-long, feed-pieces, feed-closed, feed-long, end-pieces, end-closed}
+use Rattle.text.proofs.Lines.{and-both, size, first, field-in, after-field, ended, glue, field-first, fields-some, space-pieces, space-closed, space-long, feed-pieces, feed-closed, feed-long, end-pieces, end-closed}
+use Rattle.text.proofs.Digits.{read-go, fault-go}
 use Rattle.text.proofs.ReadingSteps.{past-size}
 
 -- WHAT FOLLOWS A FIELD: a space, a line feed or nothing
@@ -137,10 +135,6 @@ cond-same : {A : Type 0} (t : Bool) (x y z : A) → (t ≡ true → x ≡ y) →
 cond-same true x y z h = h refl
 cond-same false x y z h = refl
 
-and-both : (x y : Bool) → (x && y) ≡ true → (x ≡ true) × (y ≡ true)
-and-both true y e = (refl, e)
-and-both false y e = (e, cc)
-
 -- the place past a line whose first field is its last
 module _ (s : List ℕ) (at : ℕ) where
   feed-past-go : Stop (after-field (drop at s)) → getD (after-field (drop at s)) 0 0 ≡ line-feed → size (line-here s at) ≡ suc (length (field-here s at))
@@ -178,14 +172,6 @@ pub record Parted (s : List ℕ) (at v p : ℕ) : Type 0 where
 -- it is not so
 pub record Not-parted (s : List ℕ) (at : ℕ) : Type 0 where
   pub none : (is-number (field-here s at) && eqb (getD s (at + length (field-here s at)) 0) space) ≡ false
-
-read-go : (t : Bool) (x y v e : ℕ) → cond t (Read1 x y) Fault1 ≡ Read1 v e → (t ≡ true) × (x ≡ v) × (y ≡ e)
-read-go true x y v e h = (refl, cc, cc)
-read-go false x y v e h = (cc, cc, cc)
-
-fault-go : (t : Bool) (x y : ℕ) → cond t (Read1 x y) Fault1 ≡ Fault1 → t ≡ false
-fault-go true x y h = cc
-fault-go false x y h = refl
 
 -- what follows is a space
 record Space (s : List ℕ) (at : ℕ) : Type 0 where

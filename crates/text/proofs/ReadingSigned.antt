@@ -18,7 +18,7 @@ use Rattle.text.specs.declared.read.Signed.{Signed}
 use Rattle.text.specs.declared.read.Signed.the-variants.{Read as Read-signed, Fault as Fault-signed}
 use Rattle.text.specs.declared.read.SignedRow.{SignedRow}
 use Rattle.text.specs.declared.read.SignedRow.the-variants.{Read as Read-row, Fault as Fault-row}
-use Rattle.text.proofs.Lines.{first, first-byte, field-nil, field-stop, field-byte, fields-byte, fields-some, glue}
+use Rattle.text.proofs.Lines.{and-both, first, first-byte, field-nil, field-stop, field-byte, fields-byte, fields-some, glue}
 use Rattle.text.proofs.ReadingSteps.{past-byte}
 use Rattle.text.proofs.ReadingRows.{Parted, Not-parted, fields-more}
 use Rattle.text.proofs.Reading.{Row, No-row, past-lines, closed-within, value-small}
@@ -218,10 +218,6 @@ at-go false m x w y h = (cc, cc, cc, cc, cc)
 at-fault-go : (t m : Bool) (x w y : ℕ) → cond t (Read-row x m w y) Fault-row ≡ Fault-row → t ≡ false
 at-fault-go true m x w y h = cc
 at-fault-go false m x w y h = refl
-
-and-both : (x y : Bool) → (x && y) ≡ true → (x ≡ true) × (y ≡ true)
-and-both true y e = (refl, e)
-and-both false y e = (e, cc)
 
 pub signed-at : {s : List ℕ} {at a : ℕ} {n : Bool} {v z : ℕ} {r : SignedRow} → r ≡ signed-row-here s at → r ≡ Read-row a n v z → Signed-at s at a n v z
 unfolding signed-row-here signed-line is-signed number-at
