@@ -17,6 +17,8 @@ const DIGIT_0: u8 = 48;
 
 const DIGIT_9: u8 = 57;
 
+const MOST_DIGITS: usize = 9;
+
 // The place past the line at `at`.
 pub fn next_line(text: &[u8], at: usize) -> usize
     ensures { λ r. ⌜ r ≡ past-line (now (text .entry)) at ⌝ }
@@ -31,6 +33,16 @@ pub fn next_line(text: &[u8], at: usize) -> usize
     e
 }
 
+// Whether a byte ends a field.
+fn separates(b: u8) -> bool
+    ensures { λ r. ⌜ r ≡ is-separator b ⌝ }
+{
+    if b == SPACE {
+        return true;
+    }
+    b == LINE_FEED
+}
+
 // Where the field at `at` ends: at a space, a line feed or the text's end.
 fn field_end(text: &[u8], at: usize) -> usize
     ensures { λ r. ⌜ r ≡ at + length (field-here (now (text .entry)) at) ⌝ }
@@ -43,16 +55,6 @@ fn field_end(text: &[u8], at: usize) -> usize
         e += 1;
     }
     e
-}
-
-// Whether a byte ends a field.
-fn separates(b: u8) -> bool
-    ensures { λ r. ⌜ r ≡ is-separator b ⌝ }
-{
-    if b == SPACE {
-        return true;
-    }
-    b == LINE_FEED
 }
 
 // The field at `at`: that very part of the text.
@@ -90,10 +92,10 @@ fn reach(n: usize, at: usize) -> usize
     if n <= at {
         return n;
     }
-    if n - at < 9 {
+    if n - at < MOST_DIGITS {
         return n;
     }
-    at + 9
+    at + MOST_DIGITS
 }
 
 // What the digits from `at` to `e`, of the value `v`, say: none at all is a fault, and so is a leading zero.
