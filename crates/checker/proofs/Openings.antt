@@ -1,0 +1,238 @@
+-- Lines 1 and 2 of an answer, fault by fault, and what they say where there is none; then what decides after them.
+-- Assumes nothing.
+use mathlib.Core.Path.{_≡_, refl, sym, _∙_}
+use mathlib.Core.Bool.{Bool, true, false, _&&_, cond, and-false}
+use mathlib.Core.List.{List, [], _∷_}
+use Prim.Native.Nat.{ℕ, suc, _+_, _-_, _≤_, _<_}
+use native.Mathlib.Omega.{arith}
+use lib.Dec.{ltb, eqb}
+use lib.ListN.{length, drop, length-drop}
+use borrow.Author.Tests.{eqb-true, eqb-false, ltb-true, ltb-false, lt-ltb, le-ltb, ne-eqb}
+use Rattle.text.specs.Lines.{lines, line-at, line-is}
+use Rattle.text.specs.Numbers.{number-at}
+use Rattle.text.specs.Reading.{line-here, past-line}
+use Rattle.text.proofs.Reading.{Line-named}
+use Rattle.text.proofs.Tests.{both-true}
+use Rattle.model.specs.Graph.{Graph}
+use Rattle.model.specs.Case.{longest-file}
+use Rattle.model.specs.CaseFile.{refuse, first-of, begins-version, other-version, case-refusal, accepted, case-in}
+use Rattle.model.specs.Answer.{answer-names, lasso-names, empty-names, lasso-verdict, empty-verdict, no-verdict}
+use Rattle.model.specs.Passing.{says-lasso, head-layout, counts-fit, stem-in, cycle-in, lasso-refusal, empty-refusal, answer-refusal, check-refusal, answer-verdict}
+use Rattle.model.specs.Entry.{Check-says}
+use Rattle.model.specs.declared.Checked.{Checked}
+use Rattle.casefile.specs.Judging.{skip}
+use Rattle.casefile.proofs.Places.{skip-one, skip-last, skip-lines, skip-line}
+use Rattle.casefile.proofs.Refusals.{first-one, first-append, first-decides}
+use Rattle.checker.specs.Checking.{Told, head-here, counts-right, opening-refusal, opening, edge-lines-refusal, vertex-lines-refusal}
+use Rattle.checker.specs.declared.opening.Head.{Head}
+use Rattle.checker.specs.declared.opening.Head.the-variants.{Says, Fault}
+use Rattle.checker.specs.declared.opening.Opening.the-variants.{Refused, Lasso, Empty}
+
+-- LINE 2 as its reader gives it
+pub record Headed (s : List ℕ) (at : ℕ) (b : Bool) (x y k z : ℕ) : Type 0 where
+  pub layout : head-layout (line-here s at) ≡ true
+  pub word : says-lasso (line-here s at) ≡ b
+  pub stem : number-at (line-here s at) 2 ≡ x
+  pub cycle : number-at (line-here s at) 3 ≡ y
+  pub reached : number-at (line-here s at) 4 ≡ k
+  pub past : past-line s at ≡ z
+
+pub headed : {s : List ℕ} {at : ℕ} {r : Head} {b : Bool} {x y k z : ℕ} → r ≡ head-here s at → r ≡ Says b x y k z → Headed s at b x y k z
+unfolding head-here
+headed {s} {at} {r} {b} {x} {y} {k} {z} e f = go (head-layout (line-here s at)) refl (sym e ∙ f)
+  where
+    go : (t : Bool) → head-layout (line-here s at) ≡ t → let l = line-here s at in
+        cond t (Says (says-lasso l) (number-at l 2) (number-at l 3) (number-at l 4) (past-line s at)) Fault ≡ Says b x y k z → Headed s at b x y k z
+    go true h q = record { layout = h; word = cc; stem = cc; cycle = cc; reached = cc; past = cc }
+    go false h q = let n : _≡_ {A = ℕ} 0 1 = cc in absurd (omega arith)
+
+pub no-head : (s : List ℕ) (at : ℕ) {r : Head} → r ≡ head-here s at → r ≡ Fault → head-layout (line-here s at) ≡ false
+unfolding head-here
+no-head s at {r} e f = go (head-layout (line-here s at)) refl (sym e ∙ f)
+  where
+    go : (t : Bool) → head-layout (line-here s at) ≡ t → let l = line-here s at in
+        cond t (Says (says-lasso l) (number-at l 2) (number-at l 3) (number-at l 4) (past-line s at)) Fault ≡ Fault → head-layout (line-here s at) ≡ false
+    go true h q = let n : _≡_ {A = ℕ} 0 1 = cc in absurd (omega arith)
+    go false h q = h
+
+-- FAULT BY FAULT
+opening-refused : (s : List ℕ) (j : ℕ) → opening-refusal s ≡ suc j → Refused (suc j) ≡ opening s
+unfolding opening
+opening-refused s j e = rw (e, ne-eqb (suc j) 0 (λ z. omega arith)) refl
+
+pub too-long : (s : List ℕ) → longest-file < length s → Refused 1 ≡ opening s
+too-long s h = opening-refused s 0 (unfold opening-refusal in (rw (lt-ltb longest-file (length s) h) (unfold refuse first-of in refl)))
+
+module _ (s : List ℕ) (short : length s ≤ longest-file) where
+  pub no-version : begins-version s ≡ false → Refused 12 ≡ opening s
+  no-version b = opening-refused s 11 (unfold opening-refusal in (rw (le-ltb longest-file (length s) short, b) (unfold refuse first-of in refl)))
+
+  module _ (begun : begins-version s ≡ true) where
+    pub another-version : other-version (lines s) ≡ true → Refused 3 ≡ opening s
+    another-version v = opening-refused s 2 (unfold opening-refusal in (rw (le-ltb longest-file (length s) short, begun, v) (unfold refuse first-of in refl)))
+
+    module _ (version : other-version (lines s) ≡ false) where
+      mislaid : (line-is answer-names (line-at (lines s) 0) && head-layout (line-at (lines s) 1)) ≡ false → Refused 12 ≡ opening s
+      mislaid l = opening-refused s 11 (unfold opening-refusal in (rw (le-ltb longest-file (length s) short, begun, version, l) (unfold refuse first-of in refl)))
+
+      pub unnamed : line-is answer-names (line-here s 0) ≡ false → Refused 12 ≡ opening s
+      unnamed h = mislaid (rw h refl)
+
+      module _ {z : ℕ} (named : Line-named s 0 answer-names z) where
+        line-2 : line-here s z ≡ line-at (lines s) 1
+        line-2 = rw (sym (named .past) ∙ sym (skip-one s 0)) (skip-line 1 s)
+
+        pub unheaded : head-layout (line-here s z) ≡ false → Refused 12 ≡ opening s
+        unheaded h = mislaid (rw (rw line-2 at h, and-false) refl)
+
+        module _ {b : Bool} {x y k q : ℕ} (h : Headed s z b x y k q) where
+          laid : (line-is answer-names (line-at (lines s) 0) && head-layout (line-at (lines s) 1)) ≡ true
+          laid = both-true _ _ (named .line) (rw line-2 at (h .layout))
+
+          counts : counts-fit (line-at (lines s) 1) ≡ counts-right b x y k
+          unfolding counts-fit counts-right
+          counts = rw (← line-2, h .word, h .stem, h .cycle, h .reached) refl
+
+          place : skip 2 s 0 ≡ q
+          place = skip-last 1 s 0 ∙ (rw (skip-one s 0, named .past) (h .past))
+
+          pub miscounted : counts-right b x y k ≡ false → Refused 12 ≡ opening s
+          miscounted g =
+              opening-refused s 11 (unfold opening-refusal in (rw (le-ltb longest-file (length s) short, begun, version, laid, counts ∙ g) (unfold refuse first-of in refl)))
+
+          module _ (g : counts-right b x y k ≡ true) where
+            right : opening-refusal s ≡ 0
+            unfolding opening-refusal
+            right = rw (le-ltb longest-file (length s) short, begun, version, laid, counts ∙ g) (unfold refuse first-of in refl)
+
+            pub says-a-lasso : b ≡ true → Lasso x y q ≡ opening s
+            unfolding opening
+            says-a-lasso e = sym (rw (right, ← line-2, h .word, e, h .stem, h .cycle, place) refl)
+
+            pub says-none : b ≡ false → Empty k q ≡ opening s
+            unfolding opening
+            says-none e = sym (rw (right, ← line-2, h .word, e, h .reached, place) refl)
+
+-- WHAT THEY SAY where there is no fault
+pub record Said-lasso (s : List ℕ) (x y z : ℕ) : Type 0 where
+  pub right : opening-refusal s ≡ 0
+  pub word : says-lasso (line-at (lines s) 1) ≡ true
+  pub stem : number-at (line-at (lines s) 1) 2 ≡ x
+  pub cycle : number-at (line-at (lines s) 1) 3 ≡ y
+  pub place : skip 2 s 0 ≡ z
+
+pub record Said-empty (s : List ℕ) (k z : ℕ) : Type 0 where
+  pub right : opening-refusal s ≡ 0
+  pub word : says-lasso (line-at (lines s) 1) ≡ false
+  pub reached : number-at (line-at (lines s) 1) 4 ≡ k
+  pub place : skip 2 s 0 ≡ z
+
+pub said-lasso : (s : List ℕ) {x y z : ℕ} → opening s ≡ Lasso x y z → Said-lasso s x y z
+unfolding opening
+said-lasso s {x} {y} {z} h = go (eqb (opening-refusal s) 0) (says-lasso (line-at (lines s) 1)) refl refl h
+  where
+    go : (t b : Bool) → eqb (opening-refusal s) 0 ≡ t → says-lasso (line-at (lines s) 1) ≡ b → let l = line-at (lines s) 1 in
+        cond t (cond b (Lasso (number-at l 2) (number-at l 3) (skip 2 s 0)) (Empty (number-at l 4) (skip 2 s 0))) (Refused (opening-refusal s)) ≡ Lasso x y z → Said-lasso s x y z
+    go true true e f q = record { right = eqb-true (opening-refusal s) 0 e; word = f; stem = cc; cycle = cc; place = cc }
+    go true false e f q = let n : _≡_ {A = ℕ} 0 1 = cc in absurd (omega arith)
+    go false b e f q = let n : _≡_ {A = ℕ} 0 1 = cc in absurd (omega arith)
+
+pub said-empty : (s : List ℕ) {k z : ℕ} → opening s ≡ Empty k z → Said-empty s k z
+unfolding opening
+said-empty s {k} {z} h = go (eqb (opening-refusal s) 0) (says-lasso (line-at (lines s) 1)) refl refl h
+  where
+    go : (t b : Bool) → eqb (opening-refusal s) 0 ≡ t → says-lasso (line-at (lines s) 1) ≡ b → let l = line-at (lines s) 1 in
+        cond t (cond b (Lasso (number-at l 2) (number-at l 3) (skip 2 s 0)) (Empty (number-at l 4) (skip 2 s 0))) (Refused (opening-refusal s)) ≡ Empty k z → Said-empty s k z
+    go true false e f q = record { right = eqb-true (opening-refusal s) 0 e; word = f; reached = cc; place = cc }
+    go true true e f q = let n : _≡_ {A = ℕ} 0 1 = cc in absurd (omega arith)
+    go false b e f q = let n : _≡_ {A = ℕ} 0 1 = cc in absurd (omega arith)
+
+pub said-refused : (s : List ℕ) {k : ℕ} → opening s ≡ Refused k → (opening-refusal s ≡ k) × (k ≡ 0 → ⊥)
+unfolding opening
+said-refused s {k} h = go (eqb (opening-refusal s) 0) (says-lasso (line-at (lines s) 1)) refl h
+  where
+    go : (t b : Bool) → eqb (opening-refusal s) 0 ≡ t → let l = line-at (lines s) 1 in
+        cond t (cond b (Lasso (number-at l 2) (number-at l 3) (skip 2 s 0)) (Empty (number-at l 4) (skip 2 s 0))) (Refused (opening-refusal s)) ≡ Refused k → (opening-refusal s ≡ k) × (k ≡ 0 → ⊥)
+    go true true e q = let n : _≡_ {A = ℕ} 0 1 = cc in absurd (omega arith)
+    go true false e q = let n : _≡_ {A = ℕ} 0 1 = cc in absurd (omega arith)
+    go false b e q = let z : opening-refusal s ≡ k = cc in (z, λ w. eqb-false (opening-refusal s) 0 e (z ∙ w))
+
+-- FROM LINE 3 ON: its names, then the lines that are read
+fewer : (k n : ℕ) → ltb (3 + k) n ≡ ltb k (n - 3)
+fewer k n = go (ltb (3 + k) n) refl
+  where
+    go : (t : Bool) → ltb (3 + k) n ≡ t → t ≡ ltb k (n - 3)
+    go true e = sym (lt-ltb k (n - 3) (omega (arith, ltb-true (3 + k) n e)))
+    go false e = sym (le-ltb k (n - 3) (omega (arith, ltb-false (3 + k) n e)))
+
+module _ (s : List ℕ) {z : ℕ} (place : skip 2 s 0 ≡ z) where
+  line-3 : line-here s z ≡ line-at (lines s) 2
+  line-3 = rw (← place) (skip-line 2 s)
+
+  after-3 : {names : List ℕ} {rows : ℕ} → Line-named s z names rows → lines (drop rows s) ≡ drop 3 (lines s)
+  after-3 {names} {rows} n =
+      let e : skip 3 s 0 ≡ rows = skip-last 2 s 0 ∙ (rw place (n .past)) in
+      rw (← e) (skip-lines 3 s 0)
+
+module _ {s : List ℕ} {x y z : ℕ} (o : Said-lasso s x y z) (g : Graph) where
+  pub lasso-untitled : line-is lasso-names (line-here s z) ≡ false → 12 ≡ lasso-refusal g (line-at (lines s) 1) (lines s)
+  unfolding lasso-refusal
+  lasso-untitled h = sym (rw (rw (line-3 s (o .place)) at h) (unfold refuse first-of in refl))
+
+  pub lasso-rest : {rows : ℕ} → Line-named s z lasso-names rows → edge-lines-refusal g x y (lines (drop rows s)) ≡ lasso-refusal g (line-at (lines s) 1) (lines s)
+  unfolding lasso-refusal edge-lines-refusal stem-in cycle-in
+  lasso-rest n =
+      rw (after-3 s (o .place) n, length-drop 3 (lines s), ← fewer (x + y) (length (lines s)), o .stem, o .cycle, rw (line-3 s (o .place)) at (n .line)) (unfold refuse first-of in refl)
+
+module _ {s : List ℕ} {k z : ℕ} (o : Said-empty s k z) (g : Graph) where
+  pub empty-untitled : line-is empty-names (line-here s z) ≡ false → 12 ≡ empty-refusal g (line-at (lines s) 1) (lines s)
+  unfolding empty-refusal
+  empty-untitled h = sym (rw (rw (line-3 s (o .place)) at h) (unfold refuse first-of in refl))
+
+  pub empty-rest : {rows : ℕ} → Line-named s z empty-names rows → vertex-lines-refusal g k (lines (drop rows s)) ≡ empty-refusal g (line-at (lines s) 1) (lines s)
+  unfolding empty-refusal vertex-lines-refusal
+  empty-rest n =
+      rw (after-3 s (o .place) n, length-drop 3 (lines s), ← fewer k (length (lines s)), o .reached, rw (line-3 s (o .place)) at (n .line)) (unfold refuse first-of in refl)
+
+-- THE WHOLE CHECK
+answer-is : (g : Graph) (s : List ℕ) → answer-refusal g s
+    ≡ first-of (opening-refusal s ∷ cond (says-lasso (line-at (lines s) 1)) (lasso-refusal g (line-at (lines s) 1) (lines s)) (empty-refusal g (line-at (lines s) 1) (lines s)) ∷ [])
+unfolding answer-refusal opening-refusal
+answer-is g s = first-append _ (cond (says-lasso (line-at (lines s) 1)) (lasso-refusal g (line-at (lines s) 1) (lines s)) (empty-refusal g (line-at (lines s) 1) (lines s)) ∷ [])
+
+told-go : (t : Bool) (k v w : ℕ) → eqb k 0 ≡ t → (k ≡ 0 → w ≡ v) → cond t v no-verdict ≡ cond t w no-verdict
+told-go true k v w e h = sym (h (eqb-true k 0 e))
+told-go false k v w e h = refl
+
+says : {bs ts : List ℕ} {k v : ℕ} {r : Checked} → Told k v r → check-refusal bs ts ≡ k → (k ≡ 0 → answer-verdict ts ≡ v) → Check-says bs ts r
+says {bs} {ts} {k} {v} t e h = record { refusal = t .refused ∙ sym e; verdict = t .passed ∙ (rw e (told-go (eqb k 0) k v (answer-verdict ts) refl h)) }
+
+not-zero : (bs : List ℕ) → accepted bs ≡ false → case-refusal bs ≡ 0 → ⊥
+unfolding accepted
+not-zero bs h e = eqb-false (case-refusal bs) 0 h e
+
+pub case-refused : (bs ts : List ℕ) {k v : ℕ} {r : Checked} → (case-refusal bs ≡ k) × (accepted bs ≡ false) → Told k v r → Check-says bs ts r
+unfolding check-refusal
+case-refused bs ts {k} {v} h t =
+    let n : k ≡ 0 → ⊥ = λ z. not-zero bs (h .1) (h .0 ∙ z) in
+    says t (rw (h .0) (first-decides k _ n)) (λ z. absurd (n z))
+
+module _ (bs : List ℕ) (a : accepted bs ≡ true) (ts : List ℕ) where
+  passed : check-refusal bs ts ≡ answer-refusal (case-in bs .graph) ts
+  unfolding check-refusal accepted
+  passed = rw (eqb-true (case-refusal bs) 0 a) (unfold first-of in (first-one (answer-refusal (case-in bs .graph) ts)))
+
+  pub opening-told : {k v : ℕ} {r : Checked} → opening ts ≡ Refused k → Told k v r → Check-says bs ts r
+  opening-told {k} h t =
+      let o = said-refused ts h in
+      says t (passed ∙ answer-is (case-in bs .graph) ts ∙ (rw (o .0) (first-decides k _ (o .1)))) (λ z. absurd (o .1 z))
+
+  pub lasso-told : {x y z k : ℕ} {r : Checked} → opening ts ≡ Lasso x y z → k ≡ lasso-refusal (case-in bs .graph) (line-at (lines ts) 1) (lines ts) → Told k lasso-verdict r → Check-says bs ts r
+  lasso-told {x} {y} {z} {k} h e t =
+      let o = said-lasso ts h in
+      says t (passed ∙ answer-is (case-in bs .graph) ts ∙ (rw (o .right, o .word, ← e) (unfold first-of in (first-one k)))) (λ z. unfold answer-verdict in (rw (o .word) refl))
+
+  pub empty-told : {j z k : ℕ} {r : Checked} → opening ts ≡ Empty j z → k ≡ empty-refusal (case-in bs .graph) (line-at (lines ts) 1) (lines ts) → Told k empty-verdict r → Check-says bs ts r
+  empty-told {j} {z} {k} h e t =
+      let o = said-empty ts h in
+      says t (passed ∙ answer-is (case-in bs .graph) ts ∙ (rw (o .right, o .word, ← e) (unfold first-of in (first-one k)))) (λ z. unfold answer-verdict in (rw (o .word) refl))

@@ -1,0 +1,2 @@
+-- What the checker's functions answer.
+pub mod Checking

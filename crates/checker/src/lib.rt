@@ -1,0 +1,59 @@
+// The checker of answers: refusals 1 to 8 of the case, then 1, 3, 12 and 13 of the answer, or the verdict of one that passes.
+// Contracts cite specs/Checking.antt.
+ghost use Rattle.model.specs.Entry.{Check-says};
+ghost use Rattle.checker.specs.Checking.{Told};
+use casefile::Judged;
+use casefile::judge;
+use listing::check_empty;
+use model::Checked;
+use opening::Opening;
+use opening::read_opening;
+use walk::check_lasso;
+
+mod listing;
+mod opening;
+mod tables;
+mod walk;
+
+// What a check returns of an answer's verdict.
+const LASSO: u32 = 1;
+
+const EMPTY: u32 = 2;
+
+const NONE: u32 = 0;
+
+// A refusal, or the verdict where it is 0.
+fn told(refusal: u32, verdict: u32) -> Checked
+    ensures { λ r. ⌜ Told refusal verdict r ⌝ }
+{
+    if refusal == 0 {
+        return Checked {
+            refusal: 0,
+            verdict: verdict,
+        };
+    }
+    Checked {
+        refusal: refusal,
+        verdict: NONE,
+    }
+}
+
+// Checks an answer to a case: the whole case first.
+pub fn check_answer(case: &[u8], answer: &[u8]) -> Checked
+    ensures { λ r. ⌜ Check-says (now (case .entry)) (now (answer .entry)) r ⌝ }
+{
+    match judge(case) {
+        Judged::Refused(k) => told(k, NONE),
+        Judged::Accepted(c) => match read_opening(answer) {
+            Opening::Refused(k) => told(k, NONE),
+            Opening::Lasso(stem, cycle, third) => {
+                let k = check_lasso(case, c, answer, stem, cycle, third);
+                told(k, LASSO)
+            }
+            Opening::Empty(reached, third) => {
+                let k = check_empty(case, c, answer, reached, third);
+                told(k, EMPTY)
+            }
+        },
+    }
+}

@@ -1,0 +1,191 @@
+// Answers that say "empty": vertex lines, and whether their numbers prove that there is no lasso.
+ghost use mathlib.Core.Path.{_≡_};
+ghost use mathlib.Core.Bool.{_&&_, not};
+ghost use Prim.Native.Nat.{_≤_};
+ghost use lib.Dec.{ltb, leb, eqb};
+ghost use lib.ListN.{getD};
+ghost use Rattle.text.specs.Lines.{lines, line-at};
+ghost use Rattle.model.specs.Case.{most-vertices, farthest};
+ghost use Rattle.model.specs.CaseFile.{case-in};
+ghost use Rattle.model.specs.Passing.{leads, empty-refusal};
+ghost use Rattle.casefile.specs.Judging.{judged};
+ghost use Rattle.casefile.specs.declared.Judged.the-variants.{Accepted};
+ghost use Rattle.checker.specs.Checking.{opening, not-listed, held, signed-by, length-by, Blank, Listing-says, Lead-says, Empty-says};
+ghost use Rattle.checker.specs.declared.opening.Opening.the-variants.{Empty};
+use crate::tables::cell;
+use crate::tables::load_edges;
+use crate::tables::load_marks;
+use casefile::Case;
+use text::read::Named;
+use text::read::SignedRow;
+use text::read::name_line;
+use text::read::signed_row;
+
+// The farthest number of a vertex that is listed.
+const FARTHEST: i32 = Case::MOST_VERTICES as i32;
+
+// The number of a vertex that is not listed: one more than any that is.
+const NOT_LISTED: i32 = FARTHEST + 1;
+
+// The number of a vertex.
+fn number_of(t: &[i32], v: usize) -> i32
+    ensures { λ r. ⌜ r ≡ getD (now (t .entry)) v not-listed ⌝ }
+{
+    if v < t.len() {
+        return t[v];
+    }
+    NOT_LISTED
+}
+
+// Whether a vertex is below n and not below `least`.
+fn in_order(v: usize, n: usize, least: usize) -> bool
+    ensures { λ r. ⌜ r ≡ (ltb v n && leb least v) ⌝ }
+{
+    if n <= v {
+        return false;
+    }
+    least <= v
+}
+
+// Whether a number, perhaps after a minus sign, is a distance: no farther than can be, and not `-0`.
+fn is_distance(minus: bool, d: u32) -> bool
+    ensures { λ r. ⌜ r ≡ (leb d farthest && not (minus && eqb d 0)) ⌝ }
+{
+    if Case::MOST_VERTICES < d as usize {
+        return false;
+    }
+    if minus {
+        return d != 0;
+    }
+    true
+}
+
+// A number after a minus sign or none.
+fn signed(minus: bool, d: u32) -> i32
+    requires { ⌜ d ≤ farthest ⌝ }
+    ensures { λ r. ⌜ r ≡ signed-by minus d ⌝ }
+{
+    if minus {
+        return 0 - d as i32;
+    }
+    d as i32
+}
+
+// A block of lines: the refusal, or the place past it.
+enum Block {
+    Refused(u32),
+    Past(usize),
+}
+
+// The lines of k vertices of n from `at` on; the number of each goes into the table.
+fn vertex_lines(text: &[u8], at: usize, k: usize, n: usize, numbers: &mut [i32]) -> Block
+    requires { ⌜ Blank n (now numbers) ⌝ }
+    ensures { λ r. ⌜ Listing-says (now (text .entry)) at k n (now (numbers .exit)) r ⌝ }
+{
+    let mut here = at;
+    let mut i: usize = 0;
+    let mut least: usize = 0;
+    while i < k {
+        let SignedRow::Read(vertex, minus, d, next) = signed_row(text, here) else {
+            return Block::Refused(12);
+        };
+        let v = vertex as usize;
+        if !in_order(v, n, least) {
+            return Block::Refused(13);
+        }
+        if !is_distance(minus, d) {
+            return Block::Refused(12);
+        }
+        numbers[v] = signed(minus, d);
+        least = v + 1;
+        here = next;
+        i += 1;
+    }
+    Block::Past(here)
+}
+
+// Whether an edge leads right between vertices of these numbers, from one of this mark.
+fn leads_right(mark: usize, a: i32, b: i32) -> bool
+    ensures { λ r. ⌜ r ≡ leads (held a) (held b) (length-by mark) ⌝ }
+{
+    if FARTHEST < a {
+        return true;
+    }
+    if FARTHEST < b {
+        return false;
+    }
+    if mark == 0 {
+        return b <= a;
+    }
+    b < a
+}
+
+// Whether every edge of m leads right.
+fn all_lead(m: usize, marks: &[u32], froms: &[u32], tos: &[u32], numbers: &[i32]) -> bool
+    ensures { λ r. ⌜ Lead-says m (now (marks .entry)) (now (froms .entry)) (now (tos .entry)) (now (numbers .entry)) r ⌝ }
+{
+    let mut e: usize = 0;
+    while e < m {
+        let from = cell(froms, e);
+        let to = cell(tos, e);
+        let a = number_of(numbers, from);
+        let b = number_of(numbers, to);
+        if !leads_right(cell(marks, from), a, b) {
+            return false;
+        }
+        e += 1;
+    }
+    true
+}
+
+// The vertex lines, then nothing, then the passing rule: the refusal.
+fn listed(
+    text: &[u8],
+    at: usize,
+    reached: usize,
+    n: usize,
+    m: usize,
+    source: usize,
+    marks: &[u32],
+    froms: &[u32],
+    tos: &[u32],
+) -> u32
+    requires { ⌜ n ≤ most-vertices ⌝ }
+    ensures { λ r. ⌜ Empty-says (now (text .entry)) at reached n m source (now (marks .entry)) (now (froms .entry)) (now (tos .entry)) r ⌝ }
+{
+    let mut numbers = [NOT_LISTED; Case::MOST_VERTICES];
+    match vertex_lines(text, at, reached, n, &mut numbers) {
+        Block::Refused(k) => k,
+        Block::Past(last) => {
+            if last < text.len() {
+                return 12;
+            }
+            if FARTHEST < number_of(&numbers, source) {
+                return 13;
+            }
+            if all_lead(m, marks, froms, tos, &numbers) {
+                return 0;
+            }
+            13
+        }
+    }
+}
+
+// The answer from line 3 on, against the case.
+pub(crate) fn check_empty(case: &[u8], c: Case, answer: &[u8], reached: usize, third: usize) -> u32
+    requires { ⌜ (judged (now case) ≡ Accepted c) × (opening (now answer) ≡ Empty reached third) ⌝ }
+    ensures { λ r. ⌜ r ≡ empty-refusal (case-in (now (case .entry)) .graph) (line-at (lines (now (answer .entry))) 1) (lines (now (answer .entry))) ⌝ }
+{
+    let Named::Past(rows) = name_line(answer, third, b"vertex distance") else {
+        return 12;
+    };
+    let mut marks = [0u32; Case::MOST_VERTICES];
+    let mut froms = [0u32; Case::MOST_EDGES];
+    let mut tos = [0u32; Case::MOST_EDGES];
+    load_marks(case, c, &mut marks);
+    load_edges(case, c, &mut froms, &mut tos);
+    let n = c.vertices;
+    let m = c.edges;
+    let source = c.source;
+    listed(answer, rows, reached, n, m, source, &marks, &froms, &tos)
+}
