@@ -1,0 +1,2 @@
+-- Laws about cells and runs, by topic; the functions' proofs are in the folders.
+pub mod Regions

@@ -1,0 +1,2 @@
+-- How runs lie in the lent cells, and what the functions over them ask and say.
+pub mod Cells

@@ -1,0 +1,101 @@
+// The lent work cells: where each table stands, and loads and stores of single cells. All casts between cells and
+// indices are here. Contracts cite specs/Cells.antt.
+ghost use mathlib.Core.Path.{_≡_};
+ghost use Prim.Native.Nat.{ℕ, _+_, _<_, _≤_, _^_};
+ghost use lib.IntN.{ℤ, pos};
+ghost use lib.ListN.{length, getD, set};
+ghost use Rattle.search.specs.Cells.{Below, Filled};
+ghost use Rattle.model.specs.Entry.{zeros};
+use casefile::Case;
+
+pub(crate) struct Cells {}
+
+impl Cells {
+    // The case, written once: by vertex its mark and owner; by edge its ends; by vertex its first edge, and one more for the end.
+    pub const ACCEPTING: usize = 0;
+
+    pub const OWNER: usize = Cells::ACCEPTING + Case::MOST_VERTICES;
+
+    pub const FROM: usize = Cells::OWNER + Case::MOST_VERTICES;
+
+    pub const TO: usize = Cells::FROM + Case::MOST_EDGES;
+
+    pub const FIRST: usize = Cells::TO + Case::MOST_EDGES;
+    // The run: by vertex its distance, parent edge and queue link; by edge its message; by worker its queue's head and tail.
+    pub const DISTANCE: usize = Cells::FIRST + Case::MOST_VERTICES + 1;
+
+    pub const PARENT: usize = Cells::DISTANCE + Case::MOST_VERTICES;
+
+    pub const LINK: usize = Cells::PARENT + Case::MOST_VERTICES;
+
+    pub const MESSAGE: usize = Cells::LINK + Case::MOST_VERTICES;
+
+    pub const HEAD: usize = Cells::MESSAGE + Case::MOST_EDGES;
+
+    pub const TAIL: usize = Cells::HEAD + Case::MOST_WORKERS;
+    // Scratch: the vertices scanned in a round; the breadth-first search's first edges and its queue; stem and cycle.
+    pub const SCANNED: usize = Cells::TAIL + Case::MOST_WORKERS;
+
+    pub const FOUND: usize = Cells::SCANNED + Case::MOST_WORKERS;
+
+    pub const QUEUE: usize = Cells::FOUND + Case::MOST_VERTICES;
+
+    pub const STEM: usize = Cells::QUEUE + Case::MOST_VERTICES;
+
+    pub const CYCLE: usize = Cells::STEM + Case::MOST_VERTICES;
+}
+
+// The signed number in a cell.
+pub(crate) fn load(work: &[i32], i: usize) -> i32
+    requires { ⌜ i < length (now work) ⌝ }
+    ensures { λ r. ⌜ r ≡ getD (now (work .entry)) i (pos 0) ⌝ }
+{
+    work[i]
+}
+
+// The number in a cell that is known to hold one below a limit.
+pub(crate) fn load_below(work: &[i32], i: usize, limit: usize) -> usize
+    requires { ⌜ (i < length (now work)) × Below limit (getD (now work) i (pos 0)) ⌝ }
+    ensures { λ r. ⌜ (getD (now (work .entry)) i (pos 0) ≡ pos r) × (r < limit) ⌝ }
+{
+    work[i] as usize
+}
+
+// Puts a signed number into a cell.
+pub(crate) fn store(work: &mut [i32], i: usize, z: i32)
+    requires { ⌜ i < length (now work) ⌝ }
+    ensures { λ r. ⌜ now (work .exit) ≡ set (now (work .entry)) i z ⌝ }
+{
+    work[i] = z;
+}
+
+// Puts a number into a cell.
+pub(crate) fn store_number(work: &mut [i32], i: usize, v: usize)
+    requires { ⌜ (i < length (now work)) × (v < 2 ^ 31) ⌝ }
+    ensures { λ r. ⌜ now (work .exit) ≡ set (now (work .entry)) i (pos v) ⌝ }
+{
+    work[i] = v as i32;
+}
+
+// Puts one number into each of `count` cells from `at` on.
+pub(crate) fn fill(work: &mut [i32], at: usize, count: usize, z: i32)
+    requires { ⌜ at + count ≤ length (now work) ⌝ }
+    ensures { λ r. ⌜ Filled at count z (now (work .entry)) (now (work .exit)) ⌝ }
+{
+    let mut i: usize = 0;
+    while i < count {
+        work[at + i] = z;
+        i += 1;
+    }
+}
+
+// Makes every cell 0.
+pub(crate) fn clear(work: &mut [i32])
+    ensures { λ r. ⌜ now (work .exit) ≡ zeros (now (work .entry)) ⌝ }
+{
+    let mut i: usize = 0;
+    while i < work.len() {
+        work[i] = 0;
+        i += 1;
+    }
+}

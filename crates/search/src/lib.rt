@@ -1,0 +1,2 @@
+// Runs of the search in lent buffers. Contracts cite `model`'s Entry definitions.
+mod cells;
