@@ -1,2 +1,6 @@
 -- Laws about cells and runs, by topic; the functions' proofs are in the folders.
 pub mod Regions
+pub mod Stores
+pub mod Numbers
+pub mod Queues
+pub mod Steps

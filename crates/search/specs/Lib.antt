@@ -1,2 +1,4 @@
 -- How runs lie in the lent cells, and what the functions over them ask and say.
 pub mod Cells
+pub mod Rep
+pub mod Asks

@@ -1,2 +1,4 @@
 // Runs of the search in lent buffers. Contracts cite `model`'s Entry definitions.
 mod cells;
+mod queue;
+mod run;

@@ -1,17 +1,11 @@
-use borrow.Author.Needs.{needs}
 use mir.Syntax.{w32}
 use mir.Val.{toZ}
 use mir.Facts.{toZ-ofZ}
 use Rattle.search.specs.Cells.{Filled}
 use Rattle.search.proofs.Regions.{fill-start, fill-step}
-use mathlib.Core.Path.{_≡_, refl, sym, ap, _∙_}
-use mathlib.Core.Bool.{Bool, true, false}
-use mathlib.Core.List.{List, [], _∷_, _++_}
-use mathlib.Core.Option.{Option, none, some}
-use Prim.Native.Nat.{ℕ, suc, _+_, _-_, _≤_, _<_}
+use mathlib.Core.Path.{_≡_}
+use Prim.Native.Nat.{_-_, _≤_}
 use native.Mathlib.Omega.{arith}
-use lib.ListN.{length, getD, set}
-use lib.IntN.{ℤ, pos, negℤ}
 use Rattle.search.proofs.cells.fill.Statement.{statement}
 use Rattle.search.proofs.cells.fill.Tie as tie
 use Rattle.search.proofs.cells.fill.Reads as reads

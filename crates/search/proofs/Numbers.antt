@@ -1,0 +1,85 @@
+-- Offers compared as signed numbers; full cells and busy queues counted. Assumes nothing.
+use mathlib.Core.Path.{_≡_, refl, sym, _∙_}
+use mathlib.Core.Bool.{Bool, true, false}
+use mathlib.Core.List.{List, [], _∷_, _++_}
+use mathlib.Core.Option.{Option, none, some}
+use Prim.Native.Nat.{ℕ, zero, suc, _+_, _≤_, _<_}
+use native.Mathlib.Nat.{not-suc-le-zero, le-of-suc-le-suc}
+use native.Mathlib.Omega.{arith}
+use lib.Dec.{ltb, leb·zero, leb·suc-zero, leb·suc-suc}
+use lib.ListN.{length, getD, set}
+use lib.IntN.{ℤ, pos, negℤ}
+use lib.Signed.{ltZ}
+use mir.Syntax.{w32}
+use mir.Val.{SFits, toZ, ofZ}
+use mir.Facts.{toZ-ofZ}
+use Rattle.model.specs.Run.{takes}
+use Rattle.search.specs.Cells.{far}
+use Rattle.search.specs.Rep.{tally, busy, one-if}
+
+pub lower-is : (a b : ℕ) → ltZ (negℤ (pos a)) (negℤ (pos b)) ≡ ltb b a
+lower-is zero zero = refl
+lower-is zero (suc b) = sym (leb·suc-zero (suc b))
+lower-is (suc a) zero = sym (leb·suc-suc zero a ∙ leb·zero a)
+lower-is (suc a) (suc b) = sym (leb·suc-suc (suc b) a)
+
+pub below-none : (a : ℕ) → ltZ (negℤ (pos a)) (pos 1) ≡ true
+below-none zero = refl
+below-none (suc a) = refl
+
+-- an offer is taken exactly where the program's test says so
+pub takes-is : (o : Option ℕ) (d : ℕ) → ltZ (negℤ (pos d)) (far o) ≡ takes o d
+unfolding takes
+takes-is none d = below-none d
+takes-is (some k) d = lower-is d k
+
+pub none-is : (o : Option ℕ) → ltZ (pos 0) (far o) ≡ true → o ≡ none
+none-is none h = refl
+none-is (some zero) h = cc
+none-is (some (suc k)) h = cc
+
+pub some-is : (o : Option ℕ) → ltZ (pos 0) (far o) ≡ false → one-if o ≡ 1
+unfolding one-if
+some-is none h = cc
+some-is (some k) h = refl
+
+pub tally-set : {A : Type 0} (f : A → ℕ) (l : List A) (i : ℕ) (a d : A) → i < length l → tally f (set l i a) + f (getD l i d) ≡ tally f l + f a
+unfolding tally
+tally-set f [] i a d h = absurd (not-suc-le-zero h)
+tally-set f (o ∷ l) zero a d h = omega arith
+tally-set f (o ∷ l) (suc i) a d h = omega (arith, tally-set f l i a d (le-of-suc-le-suc h))
+
+pub tally-le : {A : Type 0} (f : A → ℕ) → ((a : A) → f a ≤ 1) → (l : List A) → tally f l ≤ length l
+unfolding tally
+tally-le f h [] = omega arith
+tally-le f h (o ∷ l) = omega (arith, h o, tally-le f h l)
+
+pub one-le : (o : Option ℕ) → one-if o ≤ 1
+unfolding one-if
+one-le none = omega arith
+one-le (some d) = omega arith
+
+pub busy-le : (q : List ℕ) → busy q ≤ 1
+unfolding busy
+busy-le [] = omega arith
+busy-le (v ∷ q) = omega arith
+
+pub busy-snoc : (q : List ℕ) (v : ℕ) → busy (q ++ (v ∷ [])) ≡ 1
+unfolding busy
+busy-snoc [] v = refl
+busy-snoc (x ∷ q) v = refl
+
+-- a signed local holds bits: what a test and a store of it say, said of the numbers
+pub taken-test : (b : Bool) (d old : ℤ) (o : ℕ) (s : Option ℕ) → SFits w32 d → SFits w32 old → b ≡ ltZ (toZ w32 (ofZ w32 d)) (toZ w32 (ofZ w32 old))
+    → d ≡ negℤ (pos o) → old ≡ far s → b ≡ takes s o
+taken-test b d old o s f g e p q = e ∙ rw (toZ-ofZ f, toZ-ofZ g, p, q) (takes-is s o)
+
+pub stored : (v w : List ℤ) (i : ℕ) (d : ℤ) (o : ℕ) → SFits w32 d → v ≡ set w i (toZ w32 (ofZ w32 d)) → d ≡ negℤ (pos o) → v ≡ set w i (negℤ (pos o))
+stored v w i d o f e p = e ∙ rw (toZ-ofZ f, p)
+
+pub none-test : (b : Bool) (old : ℤ) (s : Option ℕ) → SFits w32 old → b ≡ ltZ (pos 0) (toZ w32 (ofZ w32 old)) → old ≡ far s → b ≡ ltZ (pos 0) (far s)
+none-test b old s g e q = e ∙ rw (toZ-ofZ g, q)
+
+pub floor-test : (b : Bool) (d z : ℤ) (o A : ℕ) → SFits w32 d → SFits w32 z → b ≡ ltZ (toZ w32 (ofZ w32 d)) (toZ w32 (ofZ w32 z))
+    → d ≡ negℤ (pos o) → z ≡ negℤ (pos A) → b ≡ ltb A o
+floor-test b d z o A f g e p q = e ∙ rw (toZ-ofZ f, toZ-ofZ g, p, q) (lower-is o A)

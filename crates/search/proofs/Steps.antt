@@ -1,0 +1,217 @@
+-- One law for each step of a run: what the loads find and the stores do is what the model says. Assumes nothing.
+use mathlib.Core.Path.{_≡_, refl, sym, ap, _∙_}
+use mathlib.Core.Bool.{true, false}
+use mathlib.Core.List.{List, [], _∷_, _++_}
+use mathlib.Core.Logic.{_⊎_, inl, inr}
+use Prim.Native.Nat.{ℕ, _+_, _≤_, _<_}
+use native.Mathlib.Omega.{arith}
+use lib.ListN.{length, getD, set}
+use lib.IntN.{ℤ, pos}
+use Rattle.model.specs.Graph.{mark}
+use Rattle.model.specs.Case.{Case, owner}
+use Rattle.model.specs.Run.{State, with-queues, member, enqueue}
+use Rattle.model.proofs.Tools.{member-first}
+use Rattle.search.specs.declared.run.Run.{Run}
+use Rattle.search.specs.Cells.{Below, accepting-at, owner-at, link-at, head-at, tail-at}
+use Rattle.search.specs.Rep.{Table, Laid, Rep, link, busy}
+use Rattle.search.proofs.Stores.{held-link, held-head, held-tail}
+use Rattle.search.proofs.Queues.{join-first, join-next, leave, chain-marked, true-or, link-one, link-low, links-low, last-below}
+use Rattle.search.proofs.Numbers.{tally-set, busy-snoc}
+
+-- a number that was loaded is the table's
+pub cell-is : {base size : ℕ} {l : List ℕ} {w : List ℤ} → Table pos 0 base size l w → (i r : ℕ) → i < size → getD w (base + i) (pos 0) ≡ pos r → getD l i 0 ≡ r
+cell-is {base} {size} {l} t i r h e = let z : pos (getD l i 0) ≡ pos r = sym (t .each i h) ∙ e in cc
+
+-- THE CASE
+module _ (c : Case) (w : List ℤ) (v : ℕ) (laid : Laid c w) (below : v < c .graph .vertices) where
+  pub owner-there : Below 16 (getD w (owner-at + v) (pos 0))
+  unfolding owner
+  owner-there =
+      record {
+        number = owner c v;
+        is = laid .owner-cells .each v (omega (arith, laid .sound .owned));
+        less = omega (arith, laid .sound .owner v below, laid .within .workers);
+      }
+
+  pub owner-is : (p : ℕ) → getD w (owner-at + v) (pos 0) ≡ pos p → owner c v ≡ p
+  unfolding owner
+  owner-is p e = let z : pos (owner c v) ≡ pos p = sym (laid .owner-cells .each v (omega (arith, laid .sound .owned))) ∙ e in cc
+
+  pub mark-is : getD w (accepting-at + v) (pos 0) ≡ pos (mark (c .graph) v)
+  mark-is = laid .mark-cells .each v (omega (arith, laid .sound .marks))
+
+-- PUSH
+none-busy : busy [] ≡ 0
+unfolding busy
+none-busy = refl
+
+busy-head : (v : ℕ) (q : List ℕ) → busy (v ∷ q) ≡ 1
+unfolding busy
+busy-head v q = refl
+
+some-busy : (q : List ℕ) → (q ≡ [] → ⊥) → busy q ≡ 1
+unfolding busy
+some-busy [] n = absurd (n refl)
+some-busy (v ∷ q) n = refl
+
+enqueue-kept : (p v : ℕ) (qs : List (List ℕ)) → member v (getD qs p []) ≡ true → enqueue p v qs ≡ qs
+unfolding enqueue
+enqueue-kept p v qs h = rw h
+
+enqueue-joined : (p v : ℕ) (qs : List (List ℕ)) → member v (getD qs p []) ≡ false → enqueue p v qs ≡ set qs p (getD qs p [] ++ (v ∷ []))
+unfolding enqueue
+enqueue-joined p v qs h = rw h
+
+pub head-there : (c : Case) (x : State) (k : Run) (w : List ℤ) (p : ℕ) → Rep c x k w → p < c .workers → Below 502 (getD w (head-at + p) (pos 0))
+head-there c x k w p rep h =
+    record {
+      number = link (getD (x .queues) p []);
+      is = rep .held .heads .each p h ∙ ap pos (rep .lined .heads p h);
+      less = omega (arith, link-low (c .graph .vertices) (getD (x .queues) p []) (λ u m. rep .lined .mine p u m .0), rep .held .laid .within .vertices);
+    }
+
+pub head-is : (c : Case) (x : State) (k : Run) (w : List ℤ) (p : ℕ) → Rep c x k w → p < c .workers → (h : ℕ) → getD w (head-at + p) (pos 0) ≡ pos h → link (getD (x .queues) p []) ≡ h
+head-is c x k w p rep b h e = sym (rep .lined .heads p b) ∙ cell-is (rep .held .heads) p h b e
+
+module _ (c : Case) (x : State) (k : Run) (w : List ℤ) (v : ℕ) (rep : Rep c x k w) (below : v < c .graph .vertices) where
+  pub link-there : Below 502 (getD w (link-at + v) (pos 0))
+  link-there =
+      record {
+        number = getD (rep .links) v 0;
+        is = rep .held .links .each v below;
+        less = omega (arith, links-low c (x .queues) (rep .links) (rep .heads) (rep .tails) v (rep .lined) below, rep .held .laid .within .vertices);
+      }
+
+  -- it is in its queue
+  pub push-kept : (r : ℕ) → getD w (link-at + v) (pos 0) ≡ pos r → (r ≡ 0 → ⊥) → Rep c (with-queues (enqueue (owner c v) v (x .queues)) x) k w
+  push-kept r e n = rw (enqueue-kept (owner c v) v (x .queues) (go (true-or (member v (getD (x .queues) (owner c v) []))))) rep
+    where
+      go : (member v (getD (x .queues) (owner c v) []) ≡ true) ⊎ (member v (getD (x .queues) (owner c v) []) ≡ false) → member v (getD (x .queues) (owner c v) []) ≡ true
+      go (inl t) = t
+      go (inr f) = absurd (n (sym (cell-is (rep .held .links) v r below e) ∙ rep .lined .clear v below f))
+
+  module _ (p : ℕ) (free : getD w (link-at + v) (pos 0) ≡ pos 0) (own : getD w (owner-at + v) (pos 0) ≡ pos p) where
+    owned : owner c v ≡ p
+    owned = owner-is c w v (rep .held .laid) below p own
+
+    pub worker-below : p < c .workers
+    worker-below = rw owned at (rep .held .laid .sound .owner v below)
+
+    free-is : member v (getD (x .queues) p []) ≡ false
+    free-is = go (true-or (member v (getD (x .queues) p [])))
+      where
+        go : (member v (getD (x .queues) p []) ≡ true) ⊎ (member v (getD (x .queues) p []) ≡ false) → member v (getD (x .queues) p []) ≡ false
+        go (inl t) =
+            let z = cell-is (rep .held .links) v 0 below free in
+            absurd (omega (arith, chain-marked (rep .links) v (getD (x .queues) p []) (rep .lined .chains p) t))
+        go (inr f) = f
+
+    joined-is : enqueue (owner c v) v (x .queues) ≡ set (x .queues) p (getD (x .queues) p [] ++ (v ∷ []))
+    joined-is = rw owned (enqueue-joined p v (x .queues) free-is)
+
+    -- the queue is empty
+    pub push-first : getD w (head-at + p) (pos 0) ≡ pos 1
+        → Rep c (with-queues (enqueue (owner c v) v (x .queues)) x) (record { queued = k .queued + 1; full = k .full; acts = k .acts; broken = k .broken; marks = k .marks; ended = k .ended })
+        (set (set (set w (link-at + v) (pos 1)) (head-at + p) (pos (v + 2))) (tail-at + p) (pos v))
+    push-first head =
+        let hp : getD (rep .heads) p 0 ≡ 1 = cell-is (rep .held .heads) p 1 worker-below head in
+        let e : getD (x .queues) p [] ≡ [] = link-one (getD (x .queues) p []) (sym (rep .lined .heads p worker-below) ∙ hp) in
+        let pq : p < length (x .queues) = omega (arith, rep .lined .sized, worker-below) in
+        let z : busy (getD (x .queues) p []) ≡ 0 = rw e none-busy in
+        let q = rep .counted in
+        rw joined-is
+        (record {
+          links = set (rep .links) v 1;
+          heads = set (rep .heads) p (v + 2);
+          tails = set (rep .tails) p v;
+          held = held-tail (held-head (held-link (rep .held) v 1 below) p (v + 2) worker-below) p v worker-below;
+          lined = join-first c (x .queues) (rep .links) (rep .heads) (rep .tails) v p (rep .lined) owned below worker-below (rep .held .links .sized) (rep .held .heads .sized) (rep .held .tails .sized) free-is hp;
+          counted = record {
+            queued = omega (arith, tally-set busy (x .queues) p (getD (x .queues) p [] ++ (v ∷ [])) [] pq, busy-snoc (getD (x .queues) p []) v, q .queued);
+            full = q .full;
+            acts = q .acts;
+            broke = q .broke;
+            marks = q .marks;
+            over = q .over;
+          };
+        })
+
+    -- behind the last
+    pub push-next : (h t : ℕ) → getD w (head-at + p) (pos 0) ≡ pos h → (h ≡ 1 → ⊥) → getD w (tail-at + p) (pos 0) ≡ pos t
+        → Rep c (with-queues (enqueue (owner c v) v (x .queues)) x) k (set (set (set w (link-at + t) (pos (v + 2))) (link-at + v) (pos 1)) (tail-at + p) (pos v))
+    push-next h t head n tail =
+        let hp : getD (rep .heads) p 0 ≡ h = cell-is (rep .held .heads) p h worker-below head in
+        let tp : getD (rep .tails) p 0 ≡ t = cell-is (rep .held .tails) p t worker-below tail in
+        let pq : p < length (x .queues) = omega (arith, rep .lined .sized, worker-below) in
+        let z : busy (getD (x .queues) p []) ≡ 1 = some-busy (getD (x .queues) p []) (λ e. n (sym hp ∙ rep .lined .heads p worker-below ∙ ap link e)) in
+        let tb : t < c .graph .vertices = rw tp at (last-below c (x .queues) (rep .links) (rep .heads) (rep .tails) p (rep .lined) worker-below (λ e. n (sym hp ∙ e))) in
+        let q = rep .counted in
+        rw joined-is
+        (record {
+          links = set (set (rep .links) t (v + 2)) v 1;
+          heads = rep .heads;
+          tails = set (rep .tails) p v;
+          held = held-tail (held-link (held-link (rep .held) t (v + 2) tb) v 1 below) p v worker-below;
+          lined = join-next c (x .queues) (rep .links) (rep .heads) (rep .tails) v p (rep .lined) owned below worker-below (rep .held .links .sized) (rep .held .heads .sized) (rep .held .tails .sized) free-is t (sym tp) (λ e. n (sym hp ∙ e));
+          counted = record {
+            queued = omega (arith, tally-set busy (x .queues) p (getD (x .queues) p [] ++ (v ∷ [])) [] pq, busy-snoc (getD (x .queues) p []) v, q .queued);
+            full = q .full;
+            acts = q .acts;
+            broke = q .broke;
+            marks = q .marks;
+            over = q .over;
+          };
+        })
+
+    -- the last of a queue that is not empty
+    pub tail-there : (h : ℕ) → getD w (head-at + p) (pos 0) ≡ pos h → (h ≡ 1 → ⊥) → Below 500 (getD w (tail-at + p) (pos 0))
+    tail-there h head n =
+        let hp : getD (rep .heads) p 0 ≡ h = cell-is (rep .held .heads) p h worker-below head in
+        record {
+          number = getD (rep .tails) p 0;
+          is = rep .held .tails .each p worker-below;
+          less = omega (arith, rep .held .laid .within .vertices, last-below c (x .queues) (rep .links) (rep .heads) (rep .tails) p (rep .lined) worker-below (λ e. n (sym hp ∙ e)));
+        }
+
+-- POP
+pub busy-rest : (q : List ℕ) → (link q ≡ 1 → busy q ≡ 0) × ((link q ≡ 1 → ⊥) → busy q ≡ 1)
+unfolding busy
+busy-rest [] = (λ h. refl, λ n. absurd (n refl))
+busy-rest (u ∷ q) = (λ h. absurd (omega arith), λ n. refl)
+
+module _ (c : Case) (x : State) (k : Run) (w : List ℤ) (p v : ℕ) (q : List ℕ) (rep : Rep c x k w) (pw : p < c .workers) (head : getD (x .queues) p [] ≡ v ∷ q) where
+  pub head-below : v < c .graph .vertices
+  head-below = rep .lined .mine p v (rw head (member-first v q)) .0
+
+  pub next-is : (r : ℕ) → getD w (link-at + v) (pos 0) ≡ pos r → r ≡ link q
+  next-is r e = sym (cell-is (rep .held .links) v r head-below e) ∙ (rw head at (rep .lined .chains p)) .0
+
+  pub some-queued : 1 ≤ k .queued
+  some-queued =
+      let pq : p < length (x .queues) = omega (arith, rep .lined .sized) in
+      let z : busy (getD (x .queues) p []) ≡ 1 = rw head (busy-head v q) in
+      omega (arith, tally-set busy (x .queues) p [] [] pq, none-busy, rep .counted .queued)
+
+  pub pop-step : (n r : ℕ) → getD w (link-at + v) (pos 0) ≡ pos r → n + 1 ≡ k .queued + busy q
+      → Rep c (with-queues (set (x .queues) p q) x) (record { queued = n; full = k .full; acts = k .acts; broken = k .broken; marks = k .marks; ended = k .ended })
+      (set (set w (head-at + p) (pos r)) (link-at + v) (pos 0))
+  pop-step n r e kq =
+      let pq : p < length (x .queues) = omega (arith, rep .lined .sized) in
+      let z : busy (getD (x .queues) p []) ≡ 1 = rw head (busy-head v q) in
+      let s = rep .counted in
+      rw (next-is r e)
+      (record {
+        links = set (rep .links) v 0;
+        heads = set (rep .heads) p (link q);
+        tails = rep .tails;
+        held = held-link (held-head (rep .held) p (link q) pw) v 0 head-below;
+        lined = leave c (x .queues) (rep .links) (rep .heads) (rep .tails) v p q (rep .lined) head pw (rep .held .links .sized) (rep .held .heads .sized);
+        counted = record {
+          queued = omega (arith, tally-set busy (x .queues) p q [] pq, s .queued);
+          full = s .full;
+          acts = s .acts;
+          broke = s .broke;
+          marks = s .marks;
+          over = s .over;
+        };
+      })

@@ -1,0 +1,116 @@
+-- How a case and a run of it lie in the lent cells: the tables of specs/Cells.antt, queues by links, and the counters of `Run`. Assumes nothing: these are definitions.
+use mathlib.Core.Path.{_≡_}
+use mathlib.Core.Bool.{Bool, true, false}
+use mathlib.Core.List.{List, [], _∷_}
+use mathlib.Core.Option.{Option, none, some}
+use Prim.Native.Nat.{ℕ, _+_, _≤_, _<_}
+use lib.ListN.{length, getD}
+use lib.IntN.{ℤ, pos}
+use Rattle.model.specs.Graph.{Edge, Graph, edge, accepting-count}
+use Rattle.model.specs.Case.{Case, owner, least-work, Sound, Within}
+use Rattle.model.specs.Run.{State, member}
+use Rattle.search.specs.declared.run.Run.{Run}
+use Rattle.search.specs.Cells.{Region, far, more, by-more, by-from, by-to, accepting-at, owner-at, from-at, to-at, first-at, distance-at, parent-at, link-at, message-at, head-at, tail-at}
+
+-- THE CASE. An edge that stands past the last one
+abbrev pub no-edge : Edge
+no-edge = record { from = 0; to = 0 }
+
+-- edges are sorted by from, and F v is the number of the first edge from v or a later vertex: v's own edges are F v to F (v + 1)
+pub record Firsts (g : Graph) (F : List ℕ) : Type 0 where
+  pub sized : length F ≡ g .vertices + 1
+  pub below : (v : ℕ) → v ≤ g .vertices → getD F v 0 ≤ length (g .edges)
+  pub before : (v e : ℕ) → v ≤ g .vertices → e < getD F v 0 → edge g e .from < v
+  pub after : (v e : ℕ) → v ≤ g .vertices → getD F v 0 ≤ e → e < length (g .edges) → v ≤ edge g e .from
+
+-- a case stands in the cells
+pub record Laid (c : Case) (w : List ℤ) : Type 0 where
+  pub sound : Sound c
+  pub within : Within c
+  pub long : least-work ≤ length w
+  pub first : List ℕ
+  pub firsts : Firsts (c .graph) first
+  pub mark-cells : Region pos 0 accepting-at (c .graph .accepting) w
+  pub owner-cells : Region pos 0 owner-at (c .owners) w
+  pub from-cells : Region by-from no-edge from-at (c .graph .edges) w
+  pub to-cells : Region by-to no-edge to-at (c .graph .edges) w
+  pub first-cells : Region pos 0 first-at first w
+
+-- THE RUN'S TABLES
+pub record Tables : Type 0 where
+  pub depths : List (Option ℕ)
+  pub parents : List (Option ℕ)
+  pub links : List ℕ
+  pub cells : List (Option ℕ)
+  pub heads : List ℕ
+  pub tails : List ℕ
+
+-- a table of so many items stands in the cells from a base on, each by its code
+pub record Table {A : Type 0} (code : A → ℤ) (default : A) (base size : ℕ) (l : List A) (w : List ℤ) : Type 0 where
+  pub sized : length l ≡ size
+  pub each : (i : ℕ) → i < size → getD w (base + i) (pos 0) ≡ code (getD l i default)
+
+-- the tables stand beside the case
+pub record Held (c : Case) (t : Tables) (w : List ℤ) : Type 0 where
+  pub laid : Laid c w
+  pub depths : Table far none distance-at (c .graph .vertices) (t .depths) w
+  pub parents : Table by-more none parent-at (c .graph .vertices) (t .parents) w
+  pub links : Table pos 0 link-at (c .graph .vertices) (t .links) w
+  pub cells : Table far none message-at (length (c .graph .edges)) (t .cells) w
+  pub heads : Table pos 0 head-at (c .workers) (t .heads) w
+  pub tails : Table pos 0 tail-at (c .workers) (t .tails) w
+
+-- QUEUES BY LINKS: a vertex's link is 0 if it is in no queue, 1 if it is the last, v + 2 if v is next; a worker's head is 1 if its queue is empty, else v + 2
+abbrev pub link : List ℕ → ℕ
+link [] = 1
+link (v ∷ q) = v + 2
+
+abbrev pub Chain : (links queue : List ℕ) → Type 0
+Chain N [] = Unit {0}
+Chain N (v ∷ q) = (getD N v 0 ≡ link q) × (member v q ≡ false) × Chain N q
+
+abbrev pub Ends : (tail : ℕ) → (queue : List ℕ) → Type 0
+Ends t [] = Unit {0}
+Ends t (v ∷ []) = t ≡ v
+Ends t (v ∷ u ∷ q) = Ends t (u ∷ q)
+
+pub record Lined (c : Case) (qs : List (List ℕ)) (N H T : List ℕ) : Type 0 where
+  pub sized : length qs ≡ c .workers
+  pub chains : (p : ℕ) → Chain N (getD qs p [])
+  pub heads : (p : ℕ) → p < c .workers → getD H p 0 ≡ link (getD qs p [])
+  pub tails : (p : ℕ) → p < c .workers → Ends (getD T p 0) (getD qs p [])
+  pub mine : (p v : ℕ) → member v (getD qs p []) ≡ true → (v < c .graph .vertices) × (owner c v ≡ p)
+  pub clear : (v : ℕ) → v < c .graph .vertices → member v (getD qs (owner c v) []) ≡ false → getD N v 0 ≡ 0
+
+-- COUNTERS: how many queues have a vertex, how many cells a message
+unfoldable pub busy : (queue : List ℕ) → ℕ
+busy [] = 0
+busy (v ∷ q) = 1
+
+unfoldable pub one-if : (message : Option ℕ) → ℕ
+one-if none = 0
+one-if (some d) = 1
+
+unfoldable pub tally : {A : Type 0} → (A → ℕ) → List A → ℕ
+tally f [] = 0
+tally f (a ∷ l) = f a + tally f l
+
+pub record Counted (A : ℕ) (queues : List (List ℕ)) (cells : List (Option ℕ)) (broken : Option ℕ) (ended : Bool) (count : ℕ) (k : Run) : Type 0 where
+  pub queued : k .queued ≡ tally busy queues
+  pub full : k .full ≡ tally one-if cells
+  pub acts : k .acts ≡ count
+  pub broke : k .broken ≡ more broken
+  pub marks : k .marks ≡ A
+  pub over : k .ended ≡ ended
+
+-- a run x of the case c stands in the cells w, with the counters k
+abbrev pub tables : State → (links heads tails : List ℕ) → Tables
+tables x N H T = record { depths = x .depths; parents = x .parents; links = N; cells = x .cells; heads = H; tails = T }
+
+pub record Rep (c : Case) (x : State) (k : Run) (w : List ℤ) : Type 0 where
+  pub links : List ℕ
+  pub heads : List ℕ
+  pub tails : List ℕ
+  pub held : Held c (tables x links heads tails) w
+  pub lined : Lined c (x .queues) links heads tails
+  pub counted : Counted (accepting-count (c .graph)) (x .queues) (x .cells) (x .broken) (x .ended-empty) (x .count) k
