@@ -4,3 +4,5 @@ pub mod Stores
 pub mod Numbers
 pub mod Queues
 pub mod Steps
+pub mod Ranges
+pub mod Acts

@@ -1,20 +1,26 @@
 -- One law for each step of a run: what the loads find and the stores do is what the model says. Assumes nothing.
 use mathlib.Core.Path.{_≡_, refl, sym, ap, _∙_}
-use mathlib.Core.Bool.{true, false}
+use mathlib.Core.Bool.{Bool, true, false, cond}
 use mathlib.Core.List.{List, [], _∷_, _++_}
 use mathlib.Core.Logic.{_⊎_, inl, inr}
-use Prim.Native.Nat.{ℕ, _+_, _≤_, _<_}
+use mathlib.Core.Option.{Option, none, some}
+use Prim.Native.Nat.{ℕ, zero, suc, _+_, _≤_, _<_}
 use native.Mathlib.Omega.{arith}
+use native.Mathlib.Numerals.{add-one}
+use borrow.Author.Tests.{eq-eqb, ne-eqb}
+use lib.Dec.{ltb}
 use lib.ListN.{length, getD, set}
-use lib.IntN.{ℤ, pos}
-use Rattle.model.specs.Graph.{mark}
+use lib.Seq.{set-getD}
+use lib.IntN.{ℤ, pos, negℤ, _-ℤ_, negℤ-+ℤ, pos-+ℤ-pos}
+use lib.Signed.{mag}
+use Rattle.model.specs.Graph.{edge, edge-depth, mark, accepting-count}
 use Rattle.model.specs.Case.{Case, owner}
-use Rattle.model.specs.Run.{State, with-queues, member, enqueue}
+use Rattle.model.specs.Run.{State, is-some, ended-lasso, with-queues, takes, member, enqueue, below-floor, relax, lower, send, scan-edge}
 use Rattle.model.proofs.Tools.{member-first}
 use Rattle.search.specs.declared.run.Run.{Run}
-use Rattle.search.specs.Cells.{Below, accepting-at, owner-at, link-at, head-at, tail-at}
-use Rattle.search.specs.Rep.{Table, Laid, Rep, link, busy}
-use Rattle.search.proofs.Stores.{held-link, held-head, held-tail}
+use Rattle.search.specs.Cells.{Below, more, accepting-at, owner-at, to-at, distance-at, parent-at, link-at, message-at, head-at, tail-at}
+use Rattle.search.specs.Rep.{Table, Laid, Rep, link, busy, one-if}
+use Rattle.search.proofs.Stores.{held-depth, held-parent, held-link, held-cell, held-head, held-tail}
 use Rattle.search.proofs.Queues.{join-first, join-next, leave, chain-marked, true-or, link-one, link-low, links-low, last-below}
 use Rattle.search.proofs.Numbers.{tally-set, busy-snoc}
 
@@ -215,3 +221,133 @@ module _ (c : Case) (x : State) (k : Run) (w : List ℤ) (p v : ℕ) (q : List �
           over = s .over;
         };
       })
+
+-- SEND
+lower-taken : (o : Option ℕ) (d : ℕ) → takes o d ≡ true → lower o d ≡ d
+unfolding takes lower
+lower-taken none d h = refl
+lower-taken (some k) d h = rw h
+
+lower-kept : (o : Option ℕ) (d : ℕ) → takes o d ≡ false → some (lower o d) ≡ o
+unfolding takes lower
+lower-kept none d h = cc
+lower-kept (some k) d h = rw h
+
+module _ (c : Case) (x : State) (k : Run) (w : List ℤ) (e o : ℕ) (rep : Rep c x k w) (below : e < length (c .graph .edges)) where
+  -- the message is written
+  pub send-taken : (f : ℕ) → takes (getD (x .cells) e none) o ≡ true → f + one-if (getD (x .cells) e none) ≡ k .full + 1
+      → Rep c (send e o x) (record { queued = k .queued; full = f; acts = k .acts; broken = k .broken; marks = k .marks; ended = k .ended }) (set w (message-at + e) (negℤ (pos o)))
+  unfolding one-if
+  send-taken f t g =
+      let fits : e < length (x .cells) = omega (arith, rep .held .cells .sized) in
+      let q = rep .counted in
+      rw (lower-taken (getD (x .cells) e none) o t)
+      (record {
+        links = rep .links;
+        heads = rep .heads;
+        tails = rep .tails;
+        held = held-cell (rep .held) e (some o) below;
+        lined = rep .lined;
+        counted = record {
+          queued = q .queued;
+          full = omega (arith, tally-set one-if (x .cells) e (some o) none fits, q .full);
+          acts = q .acts;
+          broke = q .broke;
+          marks = q .marks;
+          over = q .over;
+        };
+      })
+
+  -- the waiting one is lower
+  pub send-kept : takes (getD (x .cells) e none) o ≡ false → Rep c (send e o x) k w
+  send-kept t = rw (lower-kept (getD (x .cells) e none) o t, set-getD) rep
+
+-- RELAX
+abbrev pub offered : State → (v o e : ℕ) → State
+offered x v o e =
+    record {
+      depths = set (x .depths) v (some o);
+      parents = set (x .parents) v (some e);
+      queues = x .queues;
+      cells = x .cells;
+      broken = x .broken;
+      ended-empty = x .ended-empty;
+      count = x .count;
+    }
+
+module _ (c : Case) (w : List ℤ) (e : ℕ) (laid : Laid c w) (below : e < length (c .graph .edges)) where
+  pub target-there : Below 500 (getD w (to-at + e) (pos 0))
+  unfolding edge
+  target-there = record { number = edge (c .graph) e .to; is = laid .to-cells .each e below; less = omega (arith, laid .sound .to e below, laid .within .vertices) }
+
+  pub target-is : (v : ℕ) → getD w (to-at + e) (pos 0) ≡ pos v → v ≡ edge (c .graph) e .to
+  unfolding edge
+  target-is v g = let z : pos (edge (c .graph) e .to) ≡ pos v = sym (laid .to-cells .each e below) ∙ g in cc
+
+  pub target-below : (v : ℕ) → getD w (to-at + e) (pos 0) ≡ pos v → v < c .graph .vertices
+  target-below v g = rw (target-is v g) (laid .sound .to e below)
+
+pub relax-offered : (c : Case) (x : State) (k : Run) (w : List ℤ) (e v o : ℕ) → Rep c x k w → v < c .graph .vertices
+    → Rep c (offered x v o e) k (set (set w (distance-at + v) (negℤ (pos o))) (parent-at + v) (pos (e + 1)))
+relax-offered c x k w e v o rep h =
+    rw (add-one e)
+    (record {
+      links = rep .links;
+      heads = rep .heads;
+      tails = rep .tails;
+      held = held-parent (held-depth (rep .held) v (some o) h) v (some e) h;
+      lined = rep .lined;
+      counted = rep .counted;
+    })
+
+pub relax-kept : (c : Case) (x : State) (k : Run) (w : List ℤ) (e v o : ℕ) → Rep c x k w → v ≡ edge (c .graph) e .to → takes (getD (x .depths) v none) o ≡ false → Rep c (relax c e o x) k w
+unfolding relax
+relax-kept c x k w e v o rep t h = rw (← t, h) rep
+
+pub relax-taken : (c : Case) (x : State) (k : Run) (w : List ℤ) (e v o : ℕ) (b : Bool) → v ≡ edge (c .graph) e .to → takes (getD (x .depths) v none) o ≡ true
+    → Rep c (with-queues (enqueue (owner c v) v (x .queues)) (offered x v o e)) k w → ltb (accepting-count (c .graph)) o ≡ b → (n : ℕ) → n ≡ more (cond b (some v) none)
+    → Rep c (relax c e o x) (record { queued = k .queued; full = k .full; acts = k .acts; broken = n; marks = k .marks; ended = k .ended }) w
+unfolding relax below-floor
+relax-taken c x k w e v o b t h rep bt n br =
+    let q = rep .counted in
+    rw (← t, h, bt)
+    (record {
+      links = rep .links;
+      heads = rep .heads;
+      tails = rep .tails;
+      held = rep .held;
+      lined = rep .lined;
+      counted = record { queued = q .queued; full = q .full; acts = q .acts; broke = br; marks = q .marks; over = q .over };
+    })
+
+-- SCAN
+pub is-broken : (o : Option ℕ) → (more o ≡ 0 → ⊥) → is-some o ≡ true
+unfolding is-some
+is-broken none n = absurd (n refl)
+is-broken (some v) n = refl
+
+pub not-broken : (o : Option ℕ) → more o ≡ 0 → o ≡ none
+not-broken none h = refl
+not-broken (some v) h = let z : _≡_ {A = ℕ} 0 1 = omega arith in cc
+
+is-none : (o : Option ℕ) → o ≡ none → is-some o ≡ false
+unfolding is-some
+is-none none h = refl
+is-none (some v) h = cc
+
+module _ (c : Case) (x : State) (e v o : ℕ) (whole : x .broken ≡ none) (from : edge (c .graph) e .from ≡ v) where
+  pub edge-own : owner c (edge (c .graph) e .to) ≡ owner c v → scan-edge c v o e x ≡ relax c e (o + edge-depth (c .graph) e) x
+  unfolding scan-edge ended-lasso
+  edge-own p = rw (is-none (x .broken) whole, eq-eqb (edge (c .graph) e .from) v from, eq-eqb (owner c (edge (c .graph) e .to)) (owner c v) p)
+
+  pub edge-other : (owner c (edge (c .graph) e .to) ≡ owner c v → ⊥) → scan-edge c v o e x ≡ send e (o + edge-depth (c .graph) e) x
+  unfolding scan-edge ended-lasso
+  edge-other p = rw (is-none (x .broken) whole, eq-eqb (edge (c .graph) e .from) v from, ne-eqb (owner c (edge (c .graph) e .to)) (owner c v) p)
+
+-- a distance lowered by a mark
+pub lowered-is : (o b : ℕ) → negℤ (pos o) -ℤ pos b ≡ negℤ (pos (o + b))
+lowered-is o b = sym (negℤ-+ℤ (pos o) (pos b)) ∙ ap negℤ (pos-+ℤ-pos o b)
+
+pub mag-neg : (o : ℕ) → mag (negℤ (pos o)) ≤ o
+mag-neg zero = omega arith
+mag-neg (suc o) = omega arith

@@ -1,6 +1,5 @@
 use mathlib.Core.Path.{_≡_, sym, _∙_}
 use native.Mathlib.Omega.{arith}
-use Rattle.model.specs.Run.{taken}
 use Rattle.search.specs.Asks.{Pop-says}
 use Rattle.search.specs.Rep.{busy}
 use Rattle.search.proofs.Steps.{link-there, busy-rest, next-is, some-queued, pop-step}

@@ -3,7 +3,6 @@ use Prim.Native.Nat.{_+_}
 use native.Mathlib.Omega.{arith}
 use lib.ListN.{getD}
 use lib.IntN.{pos}
-use Rattle.model.specs.Run.{taken, counted}
 use Rattle.search.specs.Asks.{Push-says}
 use Rattle.search.specs.Cells.{link-at}
 use Rattle.search.specs.Rep.{busy}

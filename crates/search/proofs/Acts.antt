@@ -1,0 +1,173 @@
+-- Turns, deliveries and acts: counters tell the end, and each act is the model's. Assumes nothing.
+use mathlib.Core.Path.{_≡_, refl, sym, ap, _∙_}
+use mathlib.Core.Bool.{Bool, true, false, not, _||_}
+use mathlib.Core.List.{List, [], _∷_}
+use mathlib.Core.Option.{Option, none, some}
+use Prim.Native.Nat.{ℕ, suc, _+_, _-_, _≤_, _<_, _^_}
+use native.Mathlib.Omega.{arith}
+use native.Mathlib.Nat.{zero-add}
+use native.Mathlib.Numerals.{add-one, one-add}
+use borrow.Author.Tests.{lt-ltb, le-ltb}
+use lib.Dec.{eqb, eqb·suc-zero}
+use lib.ListN.{length, getD, set}
+use lib.IntN.{ℤ, pos}
+use lib.Signed.{ltZ}
+use Rattle.model.specs.Graph.{edge-depth}
+use Rattle.model.specs.Case.{Case, Sound, Within}
+use Rattle.model.specs.Run.{State, is-some, ended-lasso, has-ended, with-queues, with-cells, relax, scan, no-vertex, no-message, counted, depth-or, turn-of, turn, delivery-of, delivery, act}
+use Rattle.model.proofs.Steps.{scan-keeps}
+use Rattle.model.proofs.Shapes.{head-depth}
+use Rattle.model.proofs.Fits.{A-few}
+use Rattle.model.proofs.Few.{Paid, few, relax-count}
+use Rattle.model.proofs.Bounds.{most-acts-within}
+use Rattle.search.specs.declared.run.Run.{Run}
+use Rattle.search.specs.Cells.{far, more, message-at}
+use Rattle.search.specs.Rep.{Rep, busy, one-if, tally, link}
+use Rattle.search.specs.Asks.{counted-run, over}
+use Rattle.search.proofs.Stores.{held-cell}
+use Rattle.search.proofs.Numbers.{tally-set}
+
+-- COUNTS fit 32 bits
+pub count-small : (c : Case) (x : State) → Sound c → Within c → Paid c x → x .count < 2 ^ 32 - 1
+count-small c x ok l p = omega (arith, few c ok x p .0, most-acts-within c 500 2000 ok (l .vertices) (l .edges))
+
+pub scan-count : (c : Case) (v d : ℕ) (x : State) → scan c v d x .count ≡ x .count
+scan-count c v d x =
+    scan-keeps c v d (λ _ y. y .count ≡ x .count)
+    (record {
+      halt = λ _ _ _ _ p. p;
+      pass = λ _ _ _ p. p;
+      own = λ e y _ _ _ p. relax-count c e (d + edge-depth (c .graph) e) y ∙ p;
+      other = λ _ _ _ _ _ p. p;
+    })
+    x refl
+
+-- NOTHING WAITS where the counters are 0
+no-vertex-is : (qs : List (List ℕ)) → eqb (tally busy qs) 0 ≡ no-vertex qs
+unfolding tally busy no-vertex
+no-vertex-is [] = refl
+no-vertex-is ([] ∷ qs) = rw zero-add (no-vertex-is qs)
+no-vertex-is ((v ∷ q) ∷ qs) = rw (one-add, eqb·suc-zero, eqb·suc-zero)
+
+pub no-message-is : (os : List (Option ℕ)) → eqb (tally one-if os) 0 ≡ no-message os
+unfolding tally one-if no-message is-some
+no-message-is [] = refl
+no-message-is (none ∷ os) = rw zero-add (no-message-is os)
+no-message-is (some d ∷ os) = rw (one-add, eqb·suc-zero)
+
+not-broken-is : (o : Option ℕ) → eqb (more o) 0 ≡ not (is-some o)
+unfolding is-some
+not-broken-is none = refl
+not-broken-is (some v) = rw eqb·suc-zero
+
+pub counted-rep : (c : Case) (x : State) (k : Run) (w : List ℤ) → Rep c x k w → Rep c (counted x) (counted-run k) w
+unfolding ended-lasso
+counted-rep c x k w rep =
+    let q = rep .counted in
+    record {
+      links = rep .links;
+      heads = rep .heads;
+      tails = rep .tails;
+      held = rep .held;
+      lined = rep .lined;
+      counted = record {
+        queued = q .queued;
+        full = q .full;
+        acts = add-one (k .acts) ∙ ap suc (q .acts);
+        broke = q .broke;
+        marks = q .marks;
+        over = rw (q .broke, q .queued, q .full, not-broken-is, no-vertex-is, no-message-is);
+      };
+    }
+
+-- the counters tell the end
+pub over-is : (c : Case) (x : State) (k : Run) (w : List ℤ) → Rep c x k w → has-ended x ≡ over k
+unfolding has-ended ended-lasso
+over-is c x k w rep = rw (rep .counted .broke, rep .counted .over, not-broken-is) (twice (is-some (x .broken)) (x .ended-empty))
+  where
+    twice : (a b : Bool) → (a || b) ≡ (not (not a) || b)
+    twice true b = refl
+    twice false b = refl
+
+-- TURNS
+pub link-split : (q : List ℕ) (h : ℕ) → link q ≡ h → (h ≡ 1 → ⊥) → (r : List ℕ) × (q ≡ (h - 2) ∷ r)
+link-split [] h e n = absurd (n (sym e))
+link-split (u ∷ q) h e n = let z : u ≡ h - 2 = omega arith in (q, ap (λ (i : ℕ). i ∷ q) z)
+
+pub link-two : (q : List ℕ) (h : ℕ) → link q ≡ h → (h ≡ 1 → ⊥) → 2 ≤ h
+link-two [] h e n = absurd (n (sym e))
+link-two (u ∷ q) h e n = omega arith
+
+pub turn-idle : (c : Case) (x : State) (k : Run) (w : List ℤ) (p : ℕ) → Rep c x k w → (q : List ℕ) → getD (x .queues) p [] ≡ q → link q ≡ 1 → Rep c (turn c p x) k w
+unfolding turn turn-of
+turn-idle c x k w p rep [] e h = rw e rep
+turn-idle c x k w p rep (u ∷ q) e h = absurd (omega arith)
+
+pub turn-is : (c : Case) (x : State) (p v : ℕ) (q : List ℕ) → getD (x .queues) p [] ≡ v ∷ q
+    → turn c p x ≡ counted (scan c v (depth-or (getD (x .depths) v none)) (with-queues (set (x .queues) p q) x))
+unfolding turn turn-of
+turn-is c x p v q e = rw e
+
+-- DELIVERIES
+pub some-there : (s : Option ℕ) → ltZ (pos 0) (far s) ≡ false → (o : ℕ) × (s ≡ some o)
+some-there none h = let z : _≡_ {A = ℕ} 0 1 = cc in absurd (omega arith)
+some-there (some o) h = (o, refl)
+
+pub delivery-none : (c : Case) (e : ℕ) (x : State) → getD (x .cells) e none ≡ none → delivery c e x ≡ x
+unfolding delivery delivery-of
+delivery-none c e x h = rw h
+
+pub delivery-some : (c : Case) (e o : ℕ) (x : State) → getD (x .cells) e none ≡ some o → delivery c e x ≡ counted (relax c e o (with-cells (set (x .cells) e none) x))
+unfolding delivery delivery-of
+delivery-some c e o x h = rw h
+
+one-some : (o : ℕ) → one-if (some o) ≡ 1
+unfolding one-if
+one-some o = refl
+
+one-none : one-if none ≡ 0
+unfolding one-if
+one-none = refl
+
+module _ (c : Case) (x : State) (k : Run) (w : List ℤ) (e o : ℕ) (rep : Rep c x k w) (below : e < length (c .graph .edges)) (there : getD (x .cells) e none ≡ some o) where
+  pub some-full : 1 ≤ k .full
+  some-full =
+      let f : e < length (x .cells) = omega (arith, rep .held .cells .sized) in
+      let z : one-if (getD (x .cells) e none) ≡ 1 = rw there (one-some o) in
+      omega (arith, tally-set one-if (x .cells) e none none f, one-none, rep .counted .full)
+
+  pub cell-emptied : (n : ℕ) → n + 1 ≡ k .full
+      → Rep c (with-cells (set (x .cells) e none) x) (record { queued = k .queued; full = n; acts = k .acts; broken = k .broken; marks = k .marks; ended = k .ended }) (set w (message-at + e) (pos 1))
+  cell-emptied n h =
+      let f : e < length (x .cells) = omega (arith, rep .held .cells .sized) in
+      let z : one-if (getD (x .cells) e none) ≡ 1 = rw there (one-some o) in
+      let q = rep .counted in
+      record {
+        links = rep .links;
+        heads = rep .heads;
+        tails = rep .tails;
+        held = held-cell (rep .held) e none below;
+        lined = rep .lined;
+        counted = record {
+          queued = q .queued;
+          full = omega (arith, tally-set one-if (x .cells) e none none f, one-none, q .full);
+          acts = q .acts;
+          broke = q .broke;
+          marks = q .marks;
+          over = q .over;
+        };
+      }
+
+-- ACTS
+pub act-turn : (c : Case) (a : ℕ) (x : State) → has-ended x ≡ false → a < c .workers → act c a x ≡ turn c a x
+unfolding act
+act-turn c a x h l = rw (h, lt-ltb a (c .workers) l)
+
+pub act-delivery : (c : Case) (a p : ℕ) (x : State) → has-ended x ≡ false → p ≡ c .workers → p ≤ a → act c a x ≡ delivery c (a - p) x
+unfolding act
+act-delivery c a p x h w l = let k : c .workers ≤ a = omega arith in rw (w, h, le-ltb a (c .workers) k)
+
+-- the depth that a scan reads is not below the floor
+pub depth-low : (c : Case) (x : State) (p v : ℕ) (q : List ℕ) → Sound c → Within c → Paid c x → x .broken ≡ none → getD (x .queues) p [] ≡ v ∷ q → depth-or (getD (x .depths) v none) ≤ 500
+depth-low c x p v q ok l paid whole e =
+    omega (arith, paid .shape .above whole v (depth-or (getD (x .depths) v none)) (head-depth c ok p v q x (paid .shape) e), A-few c ok, l .vertices)

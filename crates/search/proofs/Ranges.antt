@@ -1,0 +1,125 @@
+-- Ranges: a vertex's own edges are a range of numbers, and a scan of that range is the whole scan. Assumes nothing.
+use mathlib.Core.Path.{_≡_, refl, sym, _∙_}
+use mathlib.Core.Bool.{Bool, true, false, not, _||_, cond}
+use mathlib.Core.Logic.{_⊎_, inl, inr}
+use Prim.Native.Nat.{ℕ, zero, suc, _+_, _-_, _≤_, _<_}
+use native.Mathlib.Omega.{arith}
+use native.Mathlib.Nat.{zero-add, add-zero}
+use native.Mathlib.Numerals.{add-one}
+use mathlib.Core.List.{List}
+use borrow.Author.Tests.{ne-eqb}
+use lib.ListN.{length, getD}
+use lib.IntN.{ℤ, pos}
+use Rattle.model.specs.Graph.{edge, edge-depth, mark}
+use Rattle.model.specs.Case.{Case}
+use Rattle.model.specs.Run.{State, is-some, ended-lasso, scan-edge, scan-from, scan}
+use Rattle.search.specs.declared.run.Run.{Run}
+use Rattle.search.specs.Cells.{Below, first-at}
+use Rattle.search.specs.Rep.{Laid, Firsts, Rep}
+use Rattle.search.proofs.Regions.{below-or}
+
+-- FIRST EDGES
+module _ (c : Case) (w : List ℤ) (v : ℕ) (laid : Laid c w) (below : v ≤ c .graph .vertices) where
+  pub first-there : Below 2001 (getD w (first-at + v) (pos 0))
+  first-there =
+      record {
+        number = getD (laid .first) v 0;
+        is = laid .first-cells .each v (omega (arith, laid .firsts .sized));
+        less = omega (arith, laid .firsts .below v below, laid .within .edges);
+      }
+
+  pub first-is : (r : ℕ) → getD w (first-at + v) (pos 0) ≡ pos r → getD (laid .first) v 0 ≡ r
+  first-is r e = let z : pos (getD (laid .first) v 0) ≡ pos r = sym (laid .first-cells .each v (omega (arith, laid .firsts .sized))) ∙ e in cc
+
+-- the edges a to b are those of v
+pub record Own (c : Case) (v a b : ℕ) : Type 0 where
+  pub order : a ≤ b
+  pub below : b ≤ length (c .graph .edges)
+  pub before : (i : ℕ) → i < a → edge (c .graph) i .from ≡ v → ⊥
+  pub after : (i : ℕ) → b ≤ i → i < length (c .graph .edges) → edge (c .graph) i .from ≡ v → ⊥
+  pub inside : (i : ℕ) → a ≤ i → i < b → edge (c .graph) i .from ≡ v
+
+pub own-edges : (c : Case) (F : List ℕ) (v a b : ℕ) → Firsts (c .graph) F → v < c .graph .vertices → getD F v 0 ≡ a → getD F (v + 1) 0 ≡ b → Own c v a b
+own-edges c F v a b f h p q =
+    let m : b ≤ length (c .graph .edges) = rw (← q) (f .below (v + 1) (omega arith)) in
+    record {
+      order = order;
+      below = m;
+      before = λ i l e. omega (arith, f .before v i (omega arith) (omega arith));
+      after = λ i l g e. omega (arith, f .after (v + 1) i (omega arith) (omega arith) g);
+      inside = λ i l g. omega (arith, f .after v i (omega arith) (omega arith) (omega arith), f .before (v + 1) i (omega arith) (omega arith));
+    }
+  where
+    order : a ≤ b
+    order = ordered (below-or b a)
+      where
+        ordered : (b < a) ⊎ (a ≤ b) → a ≤ b
+        ordered (inl l) = absurd (omega (arith, f .before v b (omega arith) (omega arith), f .after (v + 1) b (omega arith) (omega arith) (omega (arith, f .below v (omega arith)))))
+        ordered (inr l) = l
+
+-- SKIPPING
+skip-one : (c : Case) (v o e : ℕ) (x : State) → (edge (c .graph) e .from ≡ v → ⊥) → scan-edge c v o e x ≡ x
+unfolding scan-edge
+skip-one c v o e x n = rw (ne-eqb (edge (c .graph) e .from) v n) (or-true (ended-lasso x) x _)
+  where
+    or-true : (b : Bool) (x y : State) → cond (b || not false) x y ≡ x
+    or-true true x y = refl
+    or-true false x y = refl
+
+pub scan-step : (k e : ℕ) (c : Case) (v o : ℕ) (x : State) → scan-from (suc k) e c v o x ≡ scan-from k (suc e) c v o (scan-edge c v o e x)
+unfolding scan-from
+scan-step k e c v o x = refl
+
+scan-none : (e : ℕ) (c : Case) (v o : ℕ) (x : State) → scan-from 0 e c v o x ≡ x
+unfolding scan-from
+scan-none e c v o x = refl
+
+skip : (j e k : ℕ) (c : Case) (v o : ℕ) (x : State) → ((i : ℕ) → e ≤ i → i < e + j → edge (c .graph) i .from ≡ v → ⊥) → scan-from (j + k) e c v o x ≡ scan-from k (e + j) c v o x
+skip zero e k c v o x f = rw (zero-add k, add-zero e)
+skip (suc j) e k c v o x f =
+    let p : suc j + k ≡ suc (j + k) = omega arith in
+    let q : e + suc j ≡ suc e + j = omega arith in
+    rw (p, q, scan-step (j + k) e c v o x, skip-one c v o e x (f e (omega arith) (omega arith))) (skip j (suc e) k c v o x (λ i a b. f i (omega arith) (omega arith)))
+
+-- nothing more once the floor is broken
+broken-edge : (c : Case) (v o e : ℕ) (x : State) → is-some (x .broken) ≡ true → scan-edge c v o e x ≡ x
+unfolding scan-edge ended-lasso
+broken-edge c v o e x h = rw h
+
+broken-scan : (k e : ℕ) (c : Case) (v o : ℕ) (x : State) → is-some (x .broken) ≡ true → scan-from k e c v o x ≡ x
+broken-scan zero e c v o x h = scan-none e c v o x
+broken-scan (suc k) e c v o x h = rw (scan-step k e c v o x, broken-edge c v o e x h) (broken-scan k (suc e) c v o x h)
+
+-- so far in a scan: what is left of it leads to where the whole leads
+pub record Halfway (c : Case) (x : State) (v o e : ℕ) (k : Run) (w : List ℤ) : Type 0 where
+  pub at : State
+  pub rep : Rep c at k w
+  pub rest : scan-from (length (c .graph .edges) - e) e c v o at ≡ scan c v o x
+
+module _ (c : Case) (x : State) (v o a b : ℕ) (own : Own c v a b) where
+  pub half-start : (k : Run) (w : List ℤ) → Rep c x k w → Halfway c x v o a k w
+  unfolding scan
+  half-start k w r =
+      let m = length (c .graph .edges) in
+      let p : a + (m - a) ≡ m = omega (arith, own .order, own .below) in
+      record { at = x; rep = r; rest = sym (rw (p, zero-add a) at (skip a 0 (m - a) c v o x (λ i h l. own .before i (omega arith)))) }
+
+  pub half-step : (e : ℕ) (k k′ : Run) (w w′ : List ℤ) → (h : Halfway c x v o e k w) → e < b → Rep c (scan-edge c v o e (h .at)) k′ w′ → Halfway c x v o (e + 1) k′ w′
+  half-step e k k′ w w′ h l rep =
+      let m = length (c .graph .edges) in
+      let i : m - e ≡ suc (m - (e + 1)) = omega (arith, own .below) in
+      record { at = scan-edge c v o e (h .at); rep = rep; rest = rw (add-one e) (sym (scan-step (m - suc e) e c v o (h .at)) ∙ (rw (i, add-one e) at (h .rest))) }
+
+  pub half-broken : (e : ℕ) (k : Run) (w : List ℤ) → (h : Halfway c x v o e k w) → is-some (h .at .broken) ≡ true → Rep c (scan c v o x) k w
+  half-broken e k w h t = rw (← h .rest, broken-scan (length (c .graph .edges) - e) e c v o (h .at) t) (h .rep)
+
+  pub half-done : (e : ℕ) (k : Run) (w : List ℤ) → Halfway c x v o e k w → e ≡ b → Rep c (scan c v o x) k w
+  half-done e k w h i =
+      let m = length (c .graph .edges) in
+      let s = skip (m - e) e 0 c v o (h .at) (λ j p q. own .after j (omega arith) (omega (arith, own .below))) in
+      rw (← h .rest, (rw (add-zero (m - e), scan-none) at s)) (h .rep)
+
+-- the depth of an edge is the mark of the vertex that it leaves
+pub depth-is : (c : Case) (v e : ℕ) → edge (c .graph) e .from ≡ v → edge-depth (c .graph) e ≡ mark (c .graph) v
+unfolding edge-depth
+depth-is c v e h = rw h

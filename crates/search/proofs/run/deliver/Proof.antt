@@ -1,0 +1,140 @@
+use Rattle.model.proofs.Few.{relax-count}
+use mathlib.Core.Path.{_≡_, sym, ap, _∙_}
+use mathlib.Core.Option.{none, some}
+use Prim.Native.Nat.{ℕ, _-_, _<_}
+use native.Mathlib.Omega.{arith}
+use lib.ListN.{length, getD, set}
+use lib.IntN.{pos, negℤ}
+use lib.Signed.{ltZ}
+use mir.Syntax.{w32}
+use mir.Val.{SFits, toZ, ofZ}
+use mir.Facts.{toZ-ofZ}
+use Rattle.model.specs.Case.{Case}
+use Rattle.model.specs.Run.{State, with-cells, relax}
+use Rattle.search.specs.Asks.{Relax-says, Deliver-says}
+use Rattle.search.specs.Cells.{far}
+use Rattle.search.specs.Rep.{Rep}
+use Rattle.search.proofs.Acts.{count-small, counted-rep, some-there, delivery-none, delivery-some, some-full, cell-emptied}
+use Rattle.search.proofs.Numbers.{none-is, none-test}
+use borrow.Author.Needs.{needs}
+use Rattle.search.proofs.run.deliver.Statement.{statement}
+use Rattle.search.proofs.run.deliver.Tie as tie
+use Rattle.search.proofs.run.deliver.Reads as reads
+use Rattle.search.proofs.run.deliver.Lts as lts
+use Rattle.search.proofs.cells.load.Reads as load-reads
+use Rattle.search.proofs.cells.store.Reads as store-reads
+use Rattle.search.proofs.run.counted.Reads as counted-reads
+use Rattle.search.proofs.run.lower.Reads as lower-reads
+use Rattle.search.proofs.run.relax.Reads as relax-reads
+
+loaded : (c : tie.After-load) (q : Case) (x : State) → Rep q x (c .before .before .args .run) (c .before .before .args .work .now) → c .before .before .args .e < length (q .graph .edges)
+    → c .load .result ≡ far (getD (x .cells) (c .before .before .args .e) none)
+loaded c q x rep h = c .load .ensures ∙ rep .held .cells .each (c .before .before .args .e) h
+
+empty : (c : tie.After-lower) (q : Case) (x : State) → Rep q x (c .before .before .before .args .run) (c .before .before .before .args .work .now) → c .before .before .before .args .e < length (q .graph .edges)
+    → c .lower .result ≡ ltZ (pos 0) (far (getD (x .cells) (c .before .before .before .args .e) none))
+empty c q x rep h =
+    none-test (c .lower .result) (c .before .load .result) (getD (x .cells) (c .before .before .before .args .e) none) (record { sfits = c .before .load .ok }) (c .lower .ensures) (loaded (c .before) q x rep h)
+
+-- a message waits
+waits : (c : tie.Else1) (q : Case) (x : State) → Rep q x (c .before .before .before .before .args .run) (c .before .before .before .before .args .work .now) → c .before .before .before .before .args .e < length (q .graph .edges)
+    → (o : ℕ) × (getD (x .cells) (c .before .before .before .before .args .e) none ≡ some o)
+waits c q x rep h = some-there (getD (x .cells) (c .before .before .before .before .args .e) none) (sym (empty (c .before) q x rep h) ∙ c .if1 .left)
+
+offer-is : (c : tie.Else1) (q : Case) (x : State) → (rep : Rep q x (c .before .before .before .before .args .run) (c .before .before .before .before .args .work .now)) → (h : c .before .before .before .before .args .e < length (q .graph .edges))
+    → toZ w32 (ofZ w32 (c .before .before .load .result)) ≡ negℤ (pos (waits c q x rep h .0))
+offer-is c q x rep h =
+    let f : SFits w32 (c .before .before .load .result) = record { sfits = c .before .before .load .ok } in
+    toZ-ofZ f ∙ loaded (c .before .before) q x rep h ∙ ap far (waits c q x rep h .1)
+
+-- the cells once it is emptied
+emptied : (c : tie.After-store) (q : Case) (x : State) → (rep : Rep q x (c .before .before .before .before .before .before .args .run) (c .before .before .before .before .before .before .args .work .now)) → (h : c .before .before .before .before .before .before .args .e < length (q .graph .edges))
+    → let k = c .before .before .before .before .before .before .args .run in
+    Rep q (with-cells (set (x .cells) (c .before .before .before .before .before .before .args .e) none) x) (record { queued = k .queued; full = k .full - 1; acts = k .acts; broken = k .broken; marks = k .marks; ended = k .ended }) (c .store .last .0)
+emptied c q x rep h =
+    let m = waits (c .before .before) q x rep h in
+    let e = c .before .before .before .before .before .before .args .e in
+    rw (c .store .ensures) (cell-emptied q x _ _ e (m .0) rep h (m .1) _ (omega (arith, some-full q x _ _ e (m .0) rep h (m .1))))
+
+-- and the offer relaxed
+relaxed : (c : tie.After-relax) (q : Case) (x : State) → (rep : Rep q x (c .before .before .before .before .before .before .before .before .before .before .args .run) (c .before .before .before .before .before .before .before .before .before .before .args .work .now)) → x .broken ≡ none → (h : c .before .before .before .before .before .before .before .before .before .before .args .e < length (q .graph .edges))
+    → let e = c .before .before .before .before .before .before .before .before .before .before .args .e in Rep q (relax q e (waits (c .before .before .before .before .before .before) q x rep h .0) (with-cells (set (x .cells) e none) x)) (c .relax .result) (c .relax .last .0)
+unfolding Relax-says
+relaxed c q x rep whole h =
+    c .relax .ensures q (with-cells (set (x .cells) (c .before .before .before .before .before .before .before .before .before .before .args .e) none) x) (waits (c .before .before .before .before .before .before) q x rep h .0) (emptied (c .before .before .before .before) q x rep h) whole h (offer-is (c .before .before .before .before .before .before) q x rep h)
+
+add-load : tie.Need-add-load
+add-load c = search needs
+
+load-requires : tie.Need-load-requires
+load-requires c κs = search needs
+
+lower-requires : tie.Need-lower-requires
+lower-requires c κs = search needs
+
+same-length : tie.Need-same-length
+same-length c = search needs
+
+returns : tie.Need-returns
+unfolding Deliver-says
+returns c = λ q x rep whole h.
+    let s = getD (x .cells) (c .before .before .before .before .args .e) none in
+    rw (delivery-none q (c .before .before .before .before .args .e) x (none-is s (sym (empty (c .before) q x rep h) ∙ c .if1 .taken))) rep
+
+add-store : tie.Need-add-store
+add-store c = search needs
+
+store-requires : tie.Need-store-requires
+store-requires c κs = search needs
+
+sub-r : tie.Need-sub-r
+sub-r c = let s = c .before .before .before .before .before .before .before .before .pre in
+    let m = waits (c .before .before .before .before) (s .case) (s .state) (s .rep) (s .below) in
+    some-full (s .case) (s .state) _ _ (c .before .before .before .before .before .before .before .before .args .e) (m .0) (s .rep) (s .below) (m .1)
+
+relax-requires : tie.Need-relax-requires
+relax-requires c κs = let s = c .before .before .before .before .before .before .before .before .before .pre in
+    record {
+      case = s .case;
+      state = with-cells (set (s .state .cells) (c .before .before .before .before .before .before .before .before .before .args .e) none) (s .state);
+      offer = waits (c .before .before .before .before .before) (s .case) (s .state) (s .rep) (s .below) .0;
+      rep = emptied (c .before .before .before) (s .case) (s .state) (s .rep) (s .below);
+      below = s .below;
+      is = offer-is (c .before .before .before .before .before) (s .case) (s .state) (s .rep) (s .below);
+    }
+
+counted-requires : tie.Need-counted-requires
+counted-requires c κs = let s = c .before .before .before .before .before .before .before .before .before .before .before .pre in
+    let e = c .before .before .before .before .before .before .before .before .before .before .before .args .e in
+    omega (
+      arith,
+      relaxed (c .before) (s .case) (s .state) (s .rep) (s .whole) (s .below) .counted .acts,
+      relax-count (s .case) e (waits (c .before .before .before .before .before .before .before) (s .case) (s .state) (s .rep) (s .below) .0) (with-cells (set (s .state .cells) e none) (s .state)),
+      count-small (s .case) (s .state) (s .rep .held .laid .sound) (s .rep .held .laid .within) (s .paid),
+    )
+
+same-length-2 : tie.Need-same-length-2
+same-length-2 c = search needs
+
+returns-2 : tie.Need-returns-2
+unfolding Deliver-says
+returns-2 c = λ q x rep whole h.
+    let m = waits (c .before .before .before .before .before .before .before .before) q x rep h in
+    rw (c .counted .ensures, delivery-some q (c .before .before .before .before .before .before .before .before .before .before .before .before .args .e) (m .0) x (m .1)) (counted-rep q _ _ _ (relaxed (c .before .before) q x rep whole h))
+
+pub deliver-spec : {M : Type 1} → statement M
+deliver-spec =
+    tie.close
+    (tie.spec
+    add-load
+    load-requires
+    lower-requires
+    same-length
+    returns
+    add-store
+    store-requires
+    sub-r
+    relax-requires
+    counted-requires
+    same-length-2
+    returns-2)
