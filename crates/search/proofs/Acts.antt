@@ -9,16 +9,17 @@ use native.Mathlib.Nat.{zero-add}
 use native.Mathlib.Numerals.{add-one, one-add}
 use borrow.Author.Tests.{lt-ltb, le-ltb}
 use lib.Dec.{eqb, eqb·suc-zero}
-use lib.ListN.{length, getD, set}
+use lib.ListN.{length, getD, set, drop, drop-of-length-le}
+use lib.Seq.{drop-cons}
 use lib.IntN.{ℤ, pos}
 use lib.Signed.{ltZ}
 use Rattle.model.specs.Graph.{edge-depth}
 use Rattle.model.specs.Case.{Case, Sound, Within}
-use Rattle.model.specs.Run.{State, is-some, ended-lasso, has-ended, with-queues, with-cells, relax, scan, no-vertex, no-message, counted, depth-or, turn-of, turn, delivery-of, delivery, act}
-use Rattle.model.proofs.Steps.{scan-keeps}
+use Rattle.model.specs.Run.{State, is-some, ended-lasso, has-ended, with-queues, with-cells, relax, scan, no-vertex, no-message, counted, depth-or, turn-of, turn, delivery-of, delivery, act, acted}
+use Rattle.model.proofs.Steps.{scan-keeps, act-keeps}
 use Rattle.model.proofs.Shapes.{head-depth}
 use Rattle.model.proofs.Fits.{A-few}
-use Rattle.model.proofs.Few.{Paid, few, relax-count}
+use Rattle.model.proofs.Few.{Paid, few, paid-acts, relax-count}
 use Rattle.model.proofs.Bounds.{most-acts-within}
 use Rattle.search.specs.declared.run.Run.{Run}
 use Rattle.search.specs.Cells.{far, more, message-at}
@@ -171,3 +172,38 @@ act-delivery c a p x h w l = let k : c .workers ≤ a = omega arith in rw (w, h,
 pub depth-low : (c : Case) (x : State) (p v : ℕ) (q : List ℕ) → Sound c → Within c → Paid c x → x .broken ≡ none → getD (x .queues) p [] ≡ v ∷ q → depth-or (getD (x .depths) v none) ≤ 500
 depth-low c x p v q ok l paid whole e =
     omega (arith, paid .shape .above whole v (depth-or (getD (x .depths) v none)) (head-depth c ok p v q x (paid .shape) e), A-few c ok, l .vertices)
+
+pub turn-none : (c : Case) (x : State) (p : ℕ) → getD (x .queues) p [] ≡ [] → turn c p x ≡ x
+unfolding turn turn-of
+turn-none c x p e = rw e
+
+-- A LIST OF ACTS, of which the first i are done
+acted-step : (c : Case) (a : ℕ) (more : List ℕ) (x : State) → acted c (a ∷ more) x ≡ acted c more (act c a x)
+unfolding acted
+acted-step c a more x = refl
+
+acted-none : (c : Case) (x : State) → acted c [] x ≡ x
+unfolding acted
+acted-none c x = refl
+
+pub record Onward (c : Case) (x : State) (acts : List ℕ) (i : ℕ) (k : Run) (w : List ℤ) : Type 0 where
+  pub at : State
+  pub rep : Rep c at k w
+  pub paid : Paid c at
+  pub rest : acted c (drop i acts) at ≡ acted c acts x
+
+module _ (c : Case) (x : State) (acts : List ℕ) where
+  pub onward-start : (k : Run) (w : List ℤ) → Rep c x k w → Paid c x → Onward c x acts 0 k w
+  onward-start k w rep p = record { at = x; rep = rep; paid = p; rest = refl }
+
+  pub onward-step : (i : ℕ) (k k′ : Run) (w w′ : List ℤ) → (u : Onward c x acts i k w) → i < length acts → Rep c (act c (getD acts i 0) (u .at)) k′ w′ → Onward c x acts (i + 1) k′ w′
+  onward-step i k k′ w w′ u h rep =
+      record {
+        at = act c (getD acts i 0) (u .at);
+        rep = rep;
+        paid = act-keeps c (Paid c) (paid-acts c (rep .held .laid .sound)) (getD acts i 0) (u .at) (u .paid);
+        rest = rw (add-one i) (sym (acted-step c (getD acts i 0) (drop (suc i) acts) (u .at)) ∙ (rw (drop-cons acts i 0 h) at (u .rest)));
+      }
+
+  pub onward-done : (i : ℕ) (k : Run) (w : List ℤ) → Onward c x acts i k w → length acts ≤ i → Rep c (acted c acts x) k w
+  onward-done i k w u h = rw (← u .rest, drop-of-length-le acts h, acted-none) (u .rep)

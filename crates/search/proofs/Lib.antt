@@ -6,3 +6,5 @@ pub mod Queues
 pub mod Steps
 pub mod Ranges
 pub mod Acts
+pub mod Fresh
+pub mod Sweeps

@@ -1,18 +1,18 @@
 -- What the functions over a run ask and say: each asks that the cells hold some run, and speaks of every run that they hold. Assumes nothing: these are definitions.
 use mathlib.Core.Path.{_≡_}
-use mathlib.Core.Bool.{Bool, not, _&&_, _||_}
+use mathlib.Core.Bool.{Bool, true, false, not, _&&_, _||_}
 use mathlib.Core.List.{List, [], _∷_}
-use mathlib.Core.Option.{none}
-use Prim.Native.Nat.{ℕ, _+_, _≤_, _<_}
+use mathlib.Core.Option.{none, some}
+use Prim.Native.Nat.{ℕ, _+_, _-_, _≤_, _<_}
 use lib.Dec.{eqb}
 use lib.ListN.{length, getD, set}
 use lib.IntN.{ℤ, pos, negℤ}
-use Rattle.model.specs.Graph.{edge, edge-depth}
+use Rattle.model.specs.Graph.{edge, edge-depth, accepting-count}
 use Rattle.model.specs.Case.{Case, owner, most-vertices}
-use Rattle.model.specs.Run.{State, with-queues, enqueue, send, relax, scan-edge, scan, turn, delivery, act}
+use Rattle.model.specs.Run.{State, fresh, with-queues, enqueue, send, relax, scan-edge, scan, no-message, turn, delivery, act, acted, range, round-acts, rounds, by-rounds}
 use Rattle.model.proofs.Few.{Paid}
 use Rattle.search.specs.declared.run.Run.{Run}
-use Rattle.search.specs.Rep.{Rep}
+use Rattle.search.specs.Rep.{Firsts, Laid, Rep}
 
 -- PUSH: a vertex joins the tail of its owner's queue unless it is there
 pub record Push-asks (v : ℕ) (k : Run) (w : List ℤ) : Type 0 where
@@ -121,3 +121,114 @@ pub record Act-asks (a p : ℕ) (k : Run) (w : List ℤ) : Type 0 where
 unfoldable pub Act-says : (a p : ℕ) → (k k′ : Run) → (w w′ : List ℤ) → Type 0
 Act-says a p k k′ w w′ =
     (c : Case) (x : State) → Rep c x k w → Paid c x → p ≡ c .workers → a < p + length (c .graph .edges) → Rep c (act c a x) k′ w′
+
+-- A FRESH RUN
+pub record Begin-asks (source marks : ℕ) (w : List ℤ) : Type 0 where
+  pub case : Case
+  pub laid : Laid case w
+  pub starts : source ≡ case .graph .source
+  pub counts : marks ≡ accepting-count (case .graph)
+
+unfoldable pub Begin-says : (source marks : ℕ) → (k′ : Run) → (w w′ : List ℤ) → Type 0
+Begin-says s a k′ w w′ = (c : Case) → Laid c w → s ≡ c .graph .source → a ≡ accepting-count (c .graph) → Rep c (fresh c) k′ w′
+
+abbrev pub blank-run : (marks : ℕ) → Run
+blank-run a = record { queued = 0; full = 0; acts = 0; broken = 0; marks = a; ended = false }
+
+-- A LIST OF ACTS, of any length
+pub record List-asks (p : ℕ) (acts : List ℕ) (k : Run) (w : List ℤ) : Type 0 where
+  pub case : Case
+  pub state : State
+  pub rep : Rep case state k w
+  pub paid : Paid case state
+  pub workers : p ≡ case .workers
+  pub below : (i : ℕ) → i < length acts → getD acts i 0 < p + length (case .graph .edges)
+
+unfoldable pub List-done : (p : ℕ) → (acts : List ℕ) → (k k′ : Run) → (w w′ : List ℤ) → Type 0
+List-done p acts k k′ w w′ =
+    (c : Case) (x : State) → Rep c x k w → Paid c x → p ≡ c .workers → ((i : ℕ) → i < length acts → getD acts i 0 < p + length (c .graph .edges)) → Rep c (acted c acts x) k′ w′
+
+-- ROUNDS. The less of two numbers, if the first is not below a limit; the least of a list that is not below it
+pub record Picked (s at best r : ℕ) : Type 0 where
+  pub low : r ≤ best
+  pub taken : at ≤ s → r ≤ s
+  pub high : at ≤ best → at ≤ r
+
+pub record Least (l : List ℕ) (at none r : ℕ) : Type 0 where
+  pub low : r ≤ none
+  pub high : at ≤ none → at ≤ r
+  pub each : (i : ℕ) → i < length l → at ≤ getD l i 0 → r ≤ getD l i 0
+
+-- each message stands on an edge of a vertex that was its owner's head, coded as in a head's cell
+unfoldable pub Only : Case → (heads : List ℕ) → State → Type 0
+Only c H x = (e d : ℕ) → getD (x .cells) e none ≡ some d → getD H (owner c (edge (c .graph) e .from)) 0 ≡ edge (c .graph) e .from + 2
+
+pub record Turns-ask (p : ℕ) (k : Run) (w : List ℤ) (size : ℕ) : Type 0 where
+  pub case : Case
+  pub state : State
+  pub rep : Rep case state k w
+  pub paid : Paid case state
+  pub workers : p ≡ case .workers
+  pub room : p ≤ size
+  pub empty : no-message (state .cells) ≡ true
+
+unfoldable pub Turns-say : (p : ℕ) → (k k′ : Run) → (w w′ : List ℤ) → (heads : List ℕ) → Type 0
+Turns-say p k k′ w w′ H =
+    (c : Case) (x : State) → Rep c x k w → Paid c x → p ≡ c .workers → p ≤ length H → no-message (x .cells) ≡ true →
+    let y = acted c (range (c .workers) 0) x in Rep c y k′ w′ × Only c H y
+
+pub record Edges-ask (v p : ℕ) (k : Run) (w : List ℤ) : Type 0 where
+  pub case : Case
+  pub state : State
+  pub rep : Rep case state k w
+  pub paid : Paid case state
+  pub workers : p ≡ case .workers
+  pub below : v < case .graph .vertices
+
+unfoldable pub Edges-say : (v p : ℕ) → (k k′ : Run) → (w w′ : List ℤ) → Type 0
+Edges-say v p k k′ w w′ =
+    (c : Case) (x : State) (F : List ℕ) → Rep c x k w → Paid c x → p ≡ c .workers → v < c .graph .vertices → Firsts (c .graph) F →
+    Rep c (acted c (range (getD F (v + 1) 0 - getD F v 0) (c .workers + getD F v 0)) x) k′ w′
+
+pub record Sweep-asks (p n : ℕ) (heads : List ℕ) (k : Run) (w : List ℤ) : Type 0 where
+  pub case : Case
+  pub state : State
+  pub rep : Rep case state k w
+  pub paid : Paid case state
+  pub workers : p ≡ case .workers
+  pub vertices : n ≡ case .graph .vertices
+  pub room : p ≤ length heads
+  pub only : Only case heads state
+
+unfoldable pub Sweep-says : (p n : ℕ) → (heads : List ℕ) → (k k′ : Run) → (w w′ : List ℤ) → Type 0
+Sweep-says p n H k k′ w w′ =
+    (c : Case) (x : State) → Rep c x k w → Paid c x → p ≡ c .workers → n ≡ c .graph .vertices → p ≤ length H → Only c H x →
+    Rep c (acted c (range (length (c .graph .edges)) (c .workers)) x) k′ w′
+
+pub record Round-asks (p n : ℕ) (k : Run) (w : List ℤ) : Type 0 where
+  pub case : Case
+  pub state : State
+  pub rep : Rep case state k w
+  pub paid : Paid case state
+  pub workers : p ≡ case .workers
+  pub vertices : n ≡ case .graph .vertices
+  pub empty : no-message (state .cells) ≡ true
+
+unfoldable pub Round-says : (p n : ℕ) → (k k′ : Run) → (w w′ : List ℤ) → Type 0
+Round-says p n k k′ w w′ =
+    (c : Case) (x : State) → Rep c x k w → Paid c x → p ≡ c .workers → n ≡ c .graph .vertices → no-message (x .cells) ≡ true → Rep c (acted c (round-acts c) x) k′ w′
+
+unfoldable pub Rounds-do : (many p n : ℕ) → (k k′ : Run) → (w w′ : List ℤ) → Type 0
+Rounds-do many p n k k′ w w′ =
+    (c : Case) (x : State) → Rep c x k w → Paid c x → p ≡ c .workers → n ≡ c .graph .vertices → no-message (x .cells) ≡ true → Rep c (rounds many c x) k′ w′
+
+pub record By-rounds-asks (p n m : ℕ) (k : Run) (w : List ℤ) : Type 0 where
+  pub case : Case
+  pub rep : Rep case (fresh case) k w
+  pub workers : p ≡ case .workers
+  pub vertices : n ≡ case .graph .vertices
+  pub edges : m ≡ length (case .graph .edges)
+
+unfoldable pub By-rounds-says : (p n m : ℕ) → (k k′ : Run) → (w w′ : List ℤ) → Type 0
+By-rounds-says p n m k k′ w w′ =
+    (c : Case) → Rep c (fresh c) k w → p ≡ c .workers → n ≡ c .graph .vertices → m ≡ length (c .graph .edges) → Rep c (by-rounds c) k′ w′

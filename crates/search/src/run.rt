@@ -5,8 +5,9 @@ ghost use Prim.Native.Nat.{_<_, _≤_, _^_, _+_, _-_};
 ghost use lib.IntN.{ℤ, pos, negℤ, _-ℤ_};
 ghost use lib.Signed.{ltZ, mag};
 ghost use Rattle.model.specs.Case.{most-vertices};
-ghost use Rattle.search.specs.Asks.{Offer-asks, Send-says, Relax-says, Edge-says, Scan-asks, Scan-says, counted-run, over, Turn-asks, Turn-says, Deliver-asks, Deliver-says, Act-asks, Act-says};
+ghost use Rattle.search.specs.Asks.{Offer-asks, Send-says, Relax-says, Edge-says, Scan-asks, Scan-says, counted-run, over, Turn-asks, Turn-says, Deliver-asks, Deliver-says, Act-asks, Act-says, blank-run, Begin-asks, Begin-says, List-asks, List-done};
 use super::cells::Cells;
+use super::cells::fill;
 use super::cells::load;
 use super::cells::load_below;
 use super::cells::store;
@@ -24,6 +25,22 @@ pub(crate) struct Run {
     pub broken: usize,
     pub marks: usize,
     pub ended: bool,
+}
+
+impl Run {
+    // A run before its first vertex is queued.
+    pub fn fresh(marks: usize) -> Run
+        ensures { λ r. ⌜ r ≡ blank-run marks ⌝ }
+    {
+        Run {
+            queued: 0,
+            full: 0,
+            acts: 0,
+            broken: 0,
+            marks: marks,
+            ended: false,
+        }
+    }
 }
 
 // Whether a distance is below another.
@@ -187,4 +204,39 @@ pub(crate) fn act(work: &mut [i32], run: Run, a: usize, p: usize) -> Run
         return turn(work, run, a);
     }
     deliver(work, run, a - p)
+}
+
+// A fresh run beside a case that stands in the cells: nothing has a distance, a parent or a message but the source.
+pub(crate) fn begin(work: &mut [i32], source: usize, marks: usize) -> Run
+    requires { ⌜ Begin-asks source marks (now work) ⌝ }
+    ensures { λ r. ⌜ Begin-says source marks r (now (work .entry)) (now (work .exit)) ⌝ }
+{
+    fill(work, Cells::DISTANCE, Case::MOST_VERTICES, 1);
+    fill(
+        work,
+        Cells::PARENT,
+        Case::MOST_VERTICES + Case::MOST_VERTICES,
+        0,
+    );
+    fill(work, Cells::MESSAGE, Case::MOST_EDGES, 1);
+    fill(work, Cells::HEAD, Case::MOST_WORKERS, 1);
+    fill(work, Cells::TAIL, Case::MOST_WORKERS, 0);
+    store(work, Cells::DISTANCE + source, 0);
+    let run = Run::fresh(marks);
+    push(work, run, source)
+}
+
+// A list of acts, each below P + m; those after the end are not done.
+pub(crate) fn act_list(work: &mut [i32], run: Run, acts: &[u32], p: usize) -> Run
+    requires { ⌜ List-asks p (now acts) run (now work) ⌝ }
+    ensures { λ r. ⌜ List-done p (now (acts .entry)) run r (now (work .entry)) (now (work .exit)) ⌝ }
+{
+    let mut r = run;
+    let mut i: usize = 0;
+    while i < acts.len() {
+        let a = acts[i] as usize;
+        r = act(work, r, a, p);
+        i += 1;
+    }
+    r
 }

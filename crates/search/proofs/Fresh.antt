@@ -1,0 +1,143 @@
+-- A fresh run: what the fills leave in the cells, and the source in its owner's queue. Assumes nothing.
+use mathlib.Core.Path.{_≡_, refl, sym, ap, _∙_}
+use mathlib.Core.Bool.{false, true}
+use mathlib.Core.List.{List, []}
+use mathlib.Core.Option.{none, some}
+use Prim.Native.Nat.{ℕ, zero, suc, _+_, _<_}
+use native.Mathlib.Omega.{arith}
+use lib.ListN.{length, getD, set, replicate, length-replicate, getD-replicate}
+use lib.IntN.{ℤ, pos}
+use Rattle.model.specs.Graph.{accepting-count}
+use Rattle.model.specs.Case.{Case, owner}
+use Rattle.model.specs.Run.{State, member, enqueue, fresh, with-queues}
+use Rattle.model.proofs.Tools.{getD-replicate-same}
+use Rattle.search.specs.declared.run.Run.{Run}
+use Rattle.search.specs.Cells.{Region, Filled, far, by-more, distance-at, parent-at, link-at, message-at, head-at, tail-at}
+use Rattle.search.specs.Rep.{Laid, Table, Lined, Rep, busy, one-if, tally}
+use Rattle.search.specs.Asks.{blank-run}
+use Rattle.search.proofs.Stores.{held-depth}
+
+region-same : {A : Type 0} (code : A → ℤ) (d : A) (base : ℕ) (l : List A) (w v : List ℤ) → Region code d base l w → ((i : ℕ) → i < length l → getD v (base + i) (pos 0) ≡ getD w (base + i) (pos 0)) → Region code d base l v
+region-same code d base l w v r f = record { each = λ i h. f i h ∙ r .each i h }
+
+-- one item in each place of a table
+table-blank : {A : Type 0} (code : A → ℤ) (d a : A) (base n : ℕ) (w : List ℤ) → ((i : ℕ) → i < n → getD w (base + i) (pos 0) ≡ code a) → Table code d base n (replicate n a) w
+table-blank code d a base n w f = record { sized = length-replicate n a; each = λ i h. f i h ∙ ap code (sym (getD-replicate n i a d h)) }
+
+tally-none : {A : Type 0} (f : A → ℕ) (a : A) (n : ℕ) → f a ≡ 0 → tally f (replicate n a) ≡ 0
+unfolding tally
+tally-none f a zero h = refl
+tally-none f a (suc n) h = rw (h, tally-none f a n h)
+
+no-member : (v : ℕ) → member v [] ≡ false
+unfolding member
+no-member v = refl
+
+busy-none : busy [] ≡ 0
+unfolding busy
+busy-none = refl
+
+one-none : one-if none ≡ 0
+unfolding one-if
+one-none = refl
+
+lined-blank : (c : Case) → Lined c (replicate (c .workers) []) (replicate (c .graph .vertices) 0) (replicate (c .workers) 1) (replicate (c .workers) 0)
+lined-blank c =
+    record {
+      sized = length-replicate (c .workers) [];
+      chains = λ p. rw (getD-replicate-same {A = List ℕ} (c .workers) p []) tt;
+      heads = λ p h. rw (getD-replicate-same {A = List ℕ} (c .workers) p [], getD-replicate {A = ℕ} (c .workers) p 1 0 h);
+      tails = λ p h. rw (getD-replicate-same {A = List ℕ} (c .workers) p []) tt;
+      mine = λ p v m. absurd (never v (rw (getD-replicate-same {A = List ℕ} (c .workers) p []) at m));
+      clear = λ v h m. getD-replicate {A = ℕ} (c .graph .vertices) v 0 0 h;
+    }
+  where
+    never : (v : ℕ) → member v [] ≡ true → ⊥
+    never v m = let e = sym m ∙ no-member v in let y : _≡_ {A = ℕ} 0 1 = cc in omega arith
+
+-- nothing has a distance, a parent, a message or a place in a queue
+abbrev pub blank : Case → State
+blank c =
+    record {
+      depths = replicate (c .graph .vertices) none;
+      parents = replicate (c .graph .vertices) none;
+      queues = replicate (c .workers) [];
+      cells = replicate (length (c .graph .edges)) none;
+      broken = none;
+      ended-empty = false;
+      count = 0;
+    }
+
+module _ (c : Case) (w w1 w2 w3 w4 w5 : List ℤ) (laid : Laid c w) (f1 : Filled distance-at 500 (pos 1) w w1) (f2 : Filled parent-at 1000 (pos 0) w1 w2)
+    (f3 : Filled message-at 2000 (pos 1) w2 w3) (f4 : Filled head-at 16 (pos 1) w3 w4) (f5 : Filled tail-at 16 (pos 0) w4 w5) where
+  kept : (j : ℕ) → j < distance-at → getD w5 j (pos 0) ≡ getD w j (pos 0)
+  kept j h = f5 .before j (omega arith) ∙ f4 .before j (omega arith) ∙ f3 .before j (omega arith) ∙ f2 .before j (omega arith) ∙ f1 .before j h
+
+  laid-still : Laid c w5
+  laid-still =
+      let s = laid .sound in
+      let l = laid .within in
+      record {
+        sound = s;
+        within = l;
+        long = omega (arith, laid .long, f1 .long, f2 .long, f3 .long, f4 .long, f5 .long);
+        first = laid .first;
+        firsts = laid .firsts;
+        mark-cells = region-same _ _ _ _ w w5 (laid .mark-cells) (λ i h. kept _ (omega (arith, s .marks, l .vertices)));
+        owner-cells = region-same _ _ _ _ w w5 (laid .owner-cells) (λ i h. kept _ (omega (arith, s .owned, l .vertices)));
+        from-cells = region-same _ _ _ _ w w5 (laid .from-cells) (λ i h. kept _ (omega (arith, l .edges)));
+        to-cells = region-same _ _ _ _ w w5 (laid .to-cells) (λ i h. kept _ (omega (arith, l .edges)));
+        first-cells = region-same _ _ _ _ w w5 (laid .first-cells) (λ i h. kept _ (omega (arith, laid .firsts .sized, l .vertices)));
+      }
+
+  pub rep-blank : (a : ℕ) → a ≡ accepting-count (c .graph) → Rep c (blank c) (blank-run a) w5
+  rep-blank a e =
+      let l = laid .within in
+      let n = c .graph .vertices in
+      record {
+        links = replicate n 0;
+        heads = replicate (c .workers) 1;
+        tails = replicate (c .workers) 0;
+        held = record {
+          laid = laid-still;
+          depths = table-blank far none none distance-at n w5
+              (λ i h. f5 .before _ (omega arith) ∙ f4 .before _ (omega arith) ∙ f3 .before _ (omega arith) ∙ f2 .before _ (omega arith) ∙ f1 .inside _ (omega arith) (omega arith));
+          parents = table-blank by-more none none parent-at n w5
+              (λ i h. f5 .before _ (omega arith) ∙ f4 .before _ (omega arith) ∙ f3 .before _ (omega arith) ∙ f2 .inside _ (omega arith) (omega arith));
+          links = table-blank pos 0 0 link-at n w5 (λ i h. f5 .before _ (omega arith) ∙ f4 .before _ (omega arith) ∙ f3 .before _ (omega arith) ∙ f2 .inside _ (omega arith) (omega arith));
+          cells = table-blank far none none message-at (length (c .graph .edges)) w5 (λ i h. f5 .before _ (omega arith) ∙ f4 .before _ (omega arith) ∙ f3 .inside _ (omega arith) (omega arith));
+          heads = table-blank pos 0 1 head-at (c .workers) w5 (λ i h. f5 .before _ (omega arith) ∙ f4 .inside _ (omega arith) (omega arith));
+          tails = table-blank pos 0 0 tail-at (c .workers) w5 (λ i h. f5 .inside _ (omega arith) (omega arith));
+        };
+        lined = lined-blank c;
+        counted = record {
+          queued = sym (tally-none busy [] (c .workers) busy-none);
+          full = sym (tally-none one-if none (length (c .graph .edges)) one-none);
+          acts = refl;
+          broke = refl;
+          marks = e;
+          over = refl;
+        };
+      }
+
+-- the source has distance 0
+abbrev pub started : Case → (s : ℕ) → State
+started c s =
+    record {
+      depths = set (replicate (c .graph .vertices) none) s (some 0);
+      parents = replicate (c .graph .vertices) none;
+      queues = replicate (c .workers) [];
+      cells = replicate (length (c .graph .edges)) none;
+      broken = none;
+      ended-empty = false;
+      count = 0;
+    }
+
+pub rep-started : (c : Case) (k : Run) (w : List ℤ) (s : ℕ) → Rep c (blank c) k w → s < c .graph .vertices → Rep c (started c s) k (set w (distance-at + s) (pos 0))
+rep-started c k w s rep h =
+    record { links = rep .links; heads = rep .heads; tails = rep .tails; held = held-depth (rep .held) s (some 0) h; lined = rep .lined; counted = rep .counted }
+
+-- and stands in its owner's queue
+pub fresh-is : (c : Case) (s : ℕ) → s ≡ c .graph .source → with-queues (enqueue (owner c s) s (replicate (c .workers) [])) (started c s) ≡ fresh c
+unfolding fresh enqueue
+fresh-is c s e = rw (e, getD-replicate-same {A = List ℕ} (c .workers) (owner c (c .graph .source)) [], no-member)

@@ -1,0 +1,422 @@
+-- Sweeps: acts by their numbers, idle deliveries skipped, and what a round leaves in the cells. Assumes nothing.
+use mathlib.Core.Path.{_≡_, refl, sym, ap, subst, _∙_}
+use mathlib.Core.Bool.{Bool, true, false}
+use mathlib.Core.List.{List, [], _∷_}
+use mathlib.Core.Logic.{_⊎_, inl, inr}
+use mathlib.Core.Option.{Option, none, some}
+use Prim.Native.Nat.{ℕ, zero, suc, _+_, _-_, _*_, _≤_, _<_}
+use native.Mathlib.Omega.{arith}
+use native.Mathlib.Nat.{zero-add, add-zero}
+use native.Mathlib.Numerals.{add-one}
+use lib.ListN.{length, getD, set}
+use lib.Seq.{getD-set-same, getD-set-other}
+use lib.IntN.{ℤ}
+use Rattle.model.specs.Graph.{Graph, edge, edge-depth, accepting-count}
+use Rattle.model.specs.Case.{Case, owner, most-acts, Sound}
+use Rattle.model.specs.Run.{State, has-ended, fresh, with-queues, with-cells, scan, no-message, depth-or, delivery, act, acted, range, round-acts, rounds, by-rounds}
+use Rattle.model.proofs.Tools.{clash, some-not-none, getD-out, getD-replicate-same, no-cell, no-cells, member-first}
+use Rattle.model.proofs.Steps.{scan-keeps, act-keeps, acted-keeps}
+use Rattle.model.proofs.Few.{Paid, paid-acts, relax-cells}
+use Rattle.model.proofs.Rounds.{act-over, acted-over}
+use Rattle.search.specs.declared.run.Run.{Run}
+use Rattle.search.specs.Rep.{Firsts, Rep, link}
+use Rattle.search.specs.Asks.{Least, Only}
+use Rattle.search.proofs.Regions.{same-or, below-or}
+use Rattle.search.proofs.Acts.{turn-none, turn-is, delivery-none, delivery-some, act-turn, act-delivery}
+
+-- ACTS BY NUMBER
+step-range : (c : Case) (k i : ℕ) (x : State) → acted c (range (suc k) i) x ≡ acted c (range k (suc i)) (act c i x)
+unfolding acted range
+step-range c k i x = refl
+
+none-range : (c : Case) (i : ℕ) (x : State) → acted c (range 0 i) x ≡ x
+unfolding acted range
+none-range c i x = refl
+
+split-range : (c : Case) (a b i : ℕ) (x : State) → acted c (range (a + b) i) x ≡ acted c (range b (i + a)) (acted c (range a i) x)
+split-range c zero b i x = rw (zero-add b, add-zero i, none-range c i x)
+split-range c (suc a) b i x =
+    let p : suc a + b ≡ suc (a + b) = omega arith in
+    let q : i + suc a ≡ suc i + a = omega arith in
+    rw (p, q, step-range c (a + b) i x, step-range c a i x) (split-range c a b (suc i) (act c i x))
+
+-- the acts s to t, of which those before i are done
+pub record Along (c : Case) (x : State) (s t i : ℕ) (k : Run) (w : List ℤ) : Type 0 where
+  pub at : State
+  pub rep : Rep c at k w
+  pub paid : Paid c at
+  pub rest : acted c (range (t - i) i) at ≡ acted c (range (t - s) s) x
+
+module _ (c : Case) (x : State) (s t : ℕ) where
+  pub along-start : (k : Run) (w : List ℤ) → Rep c x k w → Paid c x → Along c x s t s k w
+  along-start k w rep p = record { at = x; rep = rep; paid = p; rest = refl }
+
+  pub along-step : (i : ℕ) (k k′ : Run) (w w′ : List ℤ) → (u : Along c x s t i k w) → i < t → Rep c (act c i (u .at)) k′ w′ → Along c x s t (i + 1) k′ w′
+  along-step i k k′ w w′ u h rep =
+      let j : t - i ≡ suc (t - (i + 1)) = omega arith in
+      record {
+        at = act c i (u .at);
+        rep = rep;
+        paid = act-keeps c (Paid c) (paid-acts c (rep .held .laid .sound)) i (u .at) (u .paid);
+        rest = rw (add-one i) (sym (step-range c (t - suc i) i (u .at)) ∙ (rw (j, add-one i) at (u .rest)));
+      }
+
+  pub along-is : (i : ℕ) (k : Run) (w : List ℤ) → (u : Along c x s t i k w) → t ≤ i → u .at ≡ acted c (range (t - s) s) x
+  along-is i k w u h = let j : t - i ≡ 0 = omega arith in sym (none-range c i (u .at)) ∙ (rw j at (u .rest))
+
+  pub along-done : (i : ℕ) (k : Run) (w : List ℤ) → Along c x s t i k w → t ≤ i → Rep c (acted c (range (t - s) s) x) k w
+  along-done i k w u h = subst (λ (y : State). Rep c y k w) (along-is i k w u h) (u .rep)
+
+-- IDLE DELIVERIES
+minus : (p e : ℕ) → (p + e) - p ≡ e
+minus p e = omega arith
+
+idle : (c : Case) (e : ℕ) (y : State) → getD (y .cells) e none ≡ none → act c (c .workers + e) y ≡ y
+idle c e y h = go (has-ended y) refl
+  where
+    go : (b : Bool) → has-ended y ≡ b → act c (c .workers + e) y ≡ y
+    go true o = act-over c (c .workers + e) y o
+    go false o = act-delivery c (c .workers + e) (c .workers) y o refl (omega arith) ∙ rw (minus (c .workers) e) (delivery-none c e y h)
+
+idle-skip : (c : Case) (j k a : ℕ) (y : State) → ((f : ℕ) → a ≤ f → f < a + j → getD (y .cells) f none ≡ none)
+    → acted c (range (j + k) (c .workers + a)) y ≡ acted c (range k (c .workers + (a + j))) y
+idle-skip c zero k a y h = rw (zero-add k, add-zero a)
+idle-skip c (suc j) k a y h =
+    let p : suc j + k ≡ suc (j + k) = omega arith in
+    let q : a + suc j ≡ suc a + j = omega arith in
+    let r : suc (c .workers + a) ≡ c .workers + suc a = omega arith in
+    rw (p, q, step-range c (j + k) (c .workers + a) y, idle c a y (h a (omega arith) (omega arith)), r) (idle-skip c j k (suc a) y (λ f l m. h f (omega arith) (omega arith)))
+
+jump : (c : Case) (a b : ℕ) (y : State) → a ≤ b → b ≤ length (c .graph .edges) → ((f : ℕ) → a ≤ f → f < b → getD (y .cells) f none ≡ none)
+    → acted c (range (length (c .graph .edges) - a) (c .workers + a)) y ≡ acted c (range (length (c .graph .edges) - b) (c .workers + b)) y
+jump c a b y h g f =
+    let m = length (c .graph .edges) in
+    let p : (b - a) + (m - b) ≡ m - a = omega arith in
+    let q : a + (b - a) ≡ b = omega arith in
+    rw (p, q) at (idle-skip c (b - a) (m - b) a y (λ i l k. f i l (omega arith)))
+
+next-delivery : (c : Case) (k e : ℕ) (y : State) → acted c (range (suc k) (c .workers + e)) y ≡ acted c (range k (c .workers + suc e)) (act c (c .workers + e) y)
+next-delivery c k e y = let r : suc (c .workers + e) ≡ c .workers + suc e = omega arith in step-range c k (c .workers + e) y ∙ rw r
+
+-- WHAT A DELIVERY LEAVES
+module _ (c : Case) (e : ℕ) (y : State) (l : e < length (y .cells)) where
+  emptied : getD (delivery c e y .cells) e none ≡ none
+  emptied = go (getD (y .cells) e none) refl
+    where
+      go : (o : Option ℕ) → getD (y .cells) e none ≡ o → getD (delivery c e y .cells) e none ≡ none
+      go none h = ap (λ (z : State). getD (z .cells) e none) (delivery-none c e y h) ∙ h
+      go (some o) h =
+          ap (λ (z : State). getD (z .cells) e none) (delivery-some c e o y h)
+          ∙ ap (λ (os : List (Option ℕ)). getD os e none) (relax-cells c e o (with-cells (set (y .cells) e none) y)) ∙ getD-set-same (y .cells) e none none l
+
+  others-kept : (f : ℕ) → (f ≡ e → ⊥) → getD (delivery c e y .cells) f none ≡ getD (y .cells) f none
+  others-kept f n = go (getD (y .cells) e none) refl
+    where
+      go : (o : Option ℕ) → getD (y .cells) e none ≡ o → getD (delivery c e y .cells) f none ≡ getD (y .cells) f none
+      go none h = ap (λ (z : State). getD (z .cells) f none) (delivery-none c e y h)
+      go (some o) h =
+          ap (λ (z : State). getD (z .cells) f none) (delivery-some c e o y h)
+          ∙ ap (λ (os : List (Option ℕ)). getD os f none) (relax-cells c e o (with-cells (set (y .cells) e none) y)) ∙ getD-set-other (y .cells) e f none none n
+
+  delivered : has-ended y ≡ false → act c (c .workers + e) y ≡ delivery c e y
+  delivered o = act-delivery c (c .workers + e) (c .workers) y o refl (omega arith) ∙ rw (minus (c .workers) e)
+
+  -- no message comes
+  act-left : (f d : ℕ) → getD (act c (c .workers + e) y .cells) f none ≡ some d → getD (y .cells) f none ≡ some d
+  act-left f d h = go (has-ended y) refl (same-or f e)
+    where
+      go : (b : Bool) → has-ended y ≡ b → (f ≡ e) ⊎ (f ≡ e → ⊥) → getD (y .cells) f none ≡ some d
+      go true o s = subst (λ (z : State). getD (z .cells) f none ≡ some d) (act-over c (c .workers + e) y o) h
+      go false o (inl q) =
+          some-not-none (getD (delivery c e y .cells) e none) d (rw q at (subst (λ (z : State). getD (z .cells) f none ≡ some d) (delivered o) h)) emptied
+      go false o (inr n) = sym (others-kept f n) ∙ subst (λ (z : State). getD (z .cells) f none ≡ some d) (delivered o) h
+
+module _ (c : Case) (ok : Sound c) where
+  paid-act : (a : ℕ) (y : State) → Paid c y → Paid c (act c a y)
+  paid-act a y p = act-keeps c (Paid c) (paid-acts c ok) a y p
+
+  pub paid-acted : (xs : List ℕ) (y : State) → Paid c y → Paid c (acted c xs y)
+  paid-acted xs y p = acted-keeps c (Paid c) (paid-acts c ok) xs y p
+
+  acts-left : (k e : ℕ) (y : State) → Paid c y → e + k ≤ length (c .graph .edges) → (f d : ℕ)
+      → getD (acted c (range k (c .workers + e)) y .cells) f none ≡ some d → getD (y .cells) f none ≡ some d
+  acts-left zero e y p h f d g = subst (λ (z : State). getD (z .cells) f none ≡ some d) (none-range c (c .workers + e) y) g
+  acts-left (suc k) e y p h f d g =
+      let l : e < length (y .cells) = omega (arith, p .shape .cells) in
+      act-left c e y l f d
+      (acts-left k (suc e) (act c (c .workers + e) y) (paid-act (c .workers + e) y p) (omega arith) f d
+      (subst (λ (z : State). getD (z .cells) f none ≡ some d) (next-delivery c k e y) g))
+
+  -- all deliveries empty all cells, unless the run ends
+  clears : (k e : ℕ) (y : State) → Paid c y → e + k ≡ length (c .graph .edges) → ((f : ℕ) → f < e → getD (y .cells) f none ≡ none)
+      → has-ended (acted c (range k (c .workers + e)) y) ≡ false → (f : ℕ) → getD (acted c (range k (c .workers + e)) y .cells) f none ≡ none
+  clears zero e y p h g o f = ap (λ (z : State). getD (z .cells) f none) (none-range c (c .workers + e) y) ∙ go (below-or f e)
+    where
+      go : (f < e) ⊎ (e ≤ f) → getD (y .cells) f none ≡ none
+      go (inl l) = g f l
+      go (inr l) = getD-out (y .cells) f none (omega (arith, p .shape .cells))
+  clears (suc k) e y p h g o f =
+      go (has-ended y) refl
+      (λ b. clears k (suc e) (act c (c .workers + e) y) (paid-act (c .workers + e) y p) (omega arith) (λ i l. below b i (same-or i e) l (omega (arith, p .shape .cells))) (ap has-ended (sym (next-delivery c k e y)) ∙ o) f)
+    where
+      below : has-ended y ≡ false → (i : ℕ) → (i ≡ e) ⊎ (i ≡ e → ⊥) → i < suc e → e < length (y .cells) → getD (act c (c .workers + e) y .cells) i none ≡ none
+      below b i (inl q) l m = ap (λ (z : State). getD (z .cells) i none) (delivered c e y m b) ∙ rw q (emptied c e y m)
+      below b i (inr n) l m = ap (λ (z : State). getD (z .cells) i none) (delivered c e y m b) ∙ others-kept c e y m i n ∙ g i (omega (arith, n))
+
+      go : (b : Bool) → has-ended y ≡ b → (has-ended y ≡ false → getD (acted c (range k (c .workers + suc e)) (act c (c .workers + e) y) .cells) f none ≡ none)
+          → getD (acted c (range (suc k) (c .workers + e)) y .cells) f none ≡ none
+      go true b r = clash _ (ap has-ended (acted-over c (range (suc k) (c .workers + e)) y b) ∙ b) o
+      go false b r = ap (λ (z : State). getD (z .cells) f none) (next-delivery c k e y) ∙ r b
+
+  round-is : (x : State) → acted c (round-acts c) x ≡ acted c (range (length (c .graph .edges)) (c .workers)) (acted c (range (c .workers) 0) x)
+  unfolding round-acts
+  round-is x = split-range c (c .workers) (length (c .graph .edges)) 0 x ∙ rw (zero-add (c .workers))
+
+  pub round-clears : (x : State) → Paid c x → has-ended (acted c (round-acts c) x) ≡ false → no-message (acted c (round-acts c) x .cells) ≡ true
+  round-clears x p o =
+      let m = length (c .graph .edges) in
+      let y = acted c (range (c .workers) 0) x in
+      let e : acted c (round-acts c) x ≡ acted c (range m (c .workers + 0)) y = round-is x ∙ rw (add-zero (c .workers)) in
+      no-cells (acted c (round-acts c) x .cells)
+      (λ f.
+      ap (λ (z : State). getD (z .cells) f none) e
+      ∙ clears m 0 y (paid-acted (range (c .workers) 0) x p) (zero-add m) (λ i l. absurd (omega arith)) (ap has-ended (sym e) ∙ o) f)
+
+-- TURNS: each message stands on an edge of a vertex that was the head of a worker before w
+abbrev pub Heads : Case → (heads : List ℕ) → (w : ℕ) → State → Type 0
+Heads c H w y =
+    (f d : ℕ) → getD (y .cells) f none ≡ some d → (owner c (edge (c .graph) f .from) < w) × (getD H (owner c (edge (c .graph) f .from)) 0 ≡ edge (c .graph) f .from + 2)
+
+scan-leaves : (c : Case) (v d : ℕ) (z : State) (f : ℕ) → (edge (c .graph) f .from ≡ v → ⊥) → getD (scan c v d z .cells) f none ≡ getD (z .cells) f none
+scan-leaves c v d z f n =
+    scan-keeps c v d (λ _ u. getD (u .cells) f none ≡ getD (z .cells) f none)
+    (record {
+      halt = λ _ _ _ _ p. p;
+      pass = λ _ _ _ p. p;
+      own = λ e u _ _ _ p. ap (λ (os : List (Option ℕ)). getD os f none) (relax-cells c e (d + edge-depth (c .graph) e) u) ∙ p;
+      other = λ e u _ _ i p. getD-set-other (u .cells) e f _ none (λ q. n (rw q i)) ∙ p;
+    })
+    z refl
+
+pub heads-none : (c : Case) (H : List ℕ) (x : State) → no-message (x .cells) ≡ true → Heads c H 0 x
+heads-none c H x h f d e = some-not-none (getD (x .cells) f none) d e (no-cell (x .cells) h f)
+
+pub heads-step : (c : Case) (H : List ℕ) (w : ℕ) (y : State) → Paid c y → w < c .workers → w < length H → Heads c H w y
+    → Heads c (set H w (link (getD (y .queues) w []))) (w + 1) (act c w y)
+heads-step c H w y p l m g f d h = go (has-ended y) refl (getD (y .queues) w []) refl
+  where
+    u : ℕ
+    u = edge (c .graph) f .from
+
+    old : (z : ℕ) → getD (y .cells) f none ≡ some d → (owner c u < w + 1) × (getD (set H w z) (owner c u) 0 ≡ u + 2)
+    old z e = let r = g f d e in (omega (arith, r .0), getD-set-other H w (owner c u) z 0 (λ i. omega (arith, r .0)) ∙ r .1)
+
+    moved : (z : State) → act c w y ≡ z → getD (z .cells) f none ≡ some d
+    moved z e = subst (λ (s : State). getD (s .cells) f none ≡ some d) e h
+
+    turned : has-ended y ≡ false → (v : ℕ) (q : List ℕ) → getD (y .queues) w [] ≡ v ∷ q → (u ≡ v) ⊎ (u ≡ v → ⊥) → (owner c u < w + 1) × (getD (set H w (link (v ∷ q))) (owner c u) 0 ≡ u + 2)
+    turned o v q e (inl i) =
+        let own : owner c u ≡ w = rw i (p .shape .owned v w (rw e (member-first v q))) in
+        (omega arith, rw (own, i) (getD-set-same H w (v + 2) 0 m))
+    turned o v q e (inr n) =
+        old (link (v ∷ q)) (sym (scan-leaves c v (depth-or (getD (y .depths) v none)) (with-queues (set (y .queues) w q) y) f n) ∙ moved _ (act-turn c w y o l ∙ turn-is c y w v q e))
+
+    go : (b : Bool) → has-ended y ≡ b → (q : List ℕ) → getD (y .queues) w [] ≡ q → (owner c u < w + 1) × (getD (set H w (link (getD (y .queues) w []))) (owner c u) 0 ≡ u + 2)
+    go true o q e = old _ (moved y (act-over c w y o))
+    go false o [] e = old _ (moved y (act-turn c w y o l ∙ turn-none c y w e))
+    go false o (v ∷ q) e = rw e (turned o v q e (same-or u v))
+
+pub heads-only : (c : Case) (H : List ℕ) (w : ℕ) (y : State) → Heads c H w y → Only c H y
+unfolding Only
+heads-only c H w y g e d h = g e d h .1
+
+-- the turns of the workers before w are done
+pub record Turning (c : Case) (x : State) (p : ℕ) (H : List ℕ) (w : ℕ) (k : Run) (cells : List ℤ) : Type 0 where
+  pub along : Along c x 0 p w k cells
+  pub heads : Heads c H w (along .at)
+
+pub turns-start : (c : Case) (x : State) (p : ℕ) (H : List ℕ) (k : Run) (cells : List ℤ) → Rep c x k cells → Paid c x → no-message (x .cells) ≡ true → Turning c x p H 0 k cells
+turns-start c x p H k cells rep paid e = record { along = record { at = x; rep = rep; paid = paid; rest = refl }; heads = heads-none c H x e }
+
+pub turns-step : (c : Case) (x : State) (p : ℕ) (H : List ℕ) (w h : ℕ) (k k′ : Run) (cells cells′ : List ℤ) → (u : Turning c x p H w k cells) → w < p → p ≡ c .workers → p ≤ length H
+    → link (getD (u .along .at .queues) w []) ≡ h → Rep c (act c w (u .along .at)) k′ cells′ → Turning c x p (set H w h) (w + 1) k′ cells′
+unfolding along-step
+turns-step c x p H w h k k′ cells cells′ u l e m i rep =
+    record {
+      along = along-step c x 0 p w k k′ cells cells′ (u .along) l rep;
+      heads = subst (λ (z : ℕ). Heads c (set H w z) (w + 1) (act c w (u .along .at))) i (heads-step c H w (u .along .at) (u .along .paid) (omega arith) (omega arith) (u .heads));
+    }
+
+pub turns-done : (c : Case) (x : State) (p : ℕ) (H : List ℕ) (w : ℕ) (k : Run) (cells : List ℤ) → (u : Turning c x p H w k cells) → p ≤ w → p ≡ c .workers
+    → let y = acted c (range (c .workers) 0) x in Rep c y k cells × Only c H y
+turns-done c x p H w k cells u l e =
+    let z : p - 0 ≡ c .workers = omega arith in
+    let i : u .along .at ≡ acted c (range (c .workers) 0) x = along-is c x 0 p w k cells (u .along) l ∙ rw z in
+    (subst (λ (y : State). Rep c y k cells) i (u .along .rep), subst (λ (y : State). Only c H y) i (heads-only c H w (u .along .at) (u .heads)))
+
+-- FIRST EDGES: they rise, and there is one table of them
+pub firsts-le : (g : Graph) (F G : List ℕ) (u v : ℕ) → Firsts g F → Firsts g G → u ≤ v → v ≤ g .vertices → getD F u 0 ≤ getD G v 0
+firsts-le g F G u v f k h l = go (below-or (getD G v 0) (getD F u 0))
+  where
+    go : (getD G v 0 < getD F u 0) ⊎ (getD F u 0 ≤ getD G v 0) → getD F u 0 ≤ getD G v 0
+    go (inl b) =
+        let n : u ≤ g .vertices = omega arith in
+        absurd (omega (arith, f .before u (getD G v 0) n b, k .after v (getD G v 0) l (omega arith) (omega (arith, f .below u n))))
+    go (inr b) = b
+
+pub first-same : (g : Graph) (F G : List ℕ) (v : ℕ) → Firsts g F → Firsts g G → v ≤ g .vertices → getD F v 0 ≡ getD G v 0
+first-same g F G v f k l = omega (arith, firsts-le g F G v v f k (omega arith) l, firsts-le g G F v v k f (omega arith) l)
+
+-- deliveries on the edges a to b, by their acts' numbers
+pub edges-rep : (c : Case) (x : State) (k : Run) (w : List ℤ) (p a b a′ b′ : ℕ) → p ≡ c .workers → a ≡ a′ → b ≡ b′ → Rep c (acted c (range ((p + b) - (p + a)) (p + a)) x) k w
+    → Rep c (acted c (range (b′ - a′) (c .workers + a′)) x) k w
+edges-rep c x k w p a b a′ b′ e q r rep =
+    let i : (p + b) - (p + a) ≡ b′ - a′ = omega arith in
+    let j : p + a ≡ c .workers + a′ = omega arith in
+    rw (i, j) at rep
+
+first-last : (c : Case) (F : List ℕ) → Sound c → Firsts (c .graph) F → getD F (c .graph .vertices) 0 ≡ length (c .graph .edges)
+first-last c F ok f = go (below-or (getD F n 0) (length (c .graph .edges)))
+  where
+    n : ℕ
+    n = c .graph .vertices
+
+    go : (getD F n 0 < length (c .graph .edges)) ⊎ (length (c .graph .edges) ≤ getD F n 0) → getD F n 0 ≡ length (c .graph .edges)
+    go (inl b) = absurd (omega (arith, f .after n (getD F n 0) (omega arith) (omega arith) b, ok .from (getD F n 0) b))
+    go (inr b) = omega (arith, f .below n (omega arith))
+
+-- SWEEPS: the edges of vertices below at − 2 are done
+pub record Swept (c : Case) (x : State) (F H : List ℕ) (at : ℕ) (k : Run) (w : List ℤ) : Type 0 where
+  pub state : State
+  pub rep : Rep c state k w
+  pub paid : Paid c state
+  pub only : Only c H state
+  pub rest : acted c (range (length (c .graph .edges) - getD F (at - 2) 0) (c .workers + getD F (at - 2) 0)) state ≡ acted c (range (length (c .graph .edges)) (c .workers)) x
+
+module _ (c : Case) (ok : Sound c) (F H : List ℕ) (f : Firsts (c .graph) F) (room : c .workers ≤ length H) (top : ℕ) (is : top ≡ c .graph .vertices + 2) where
+  -- no message stands between the edges of one vertex and of the next that was scanned
+  gap : (y : State) (a lo at r : ℕ) → Only c H y → ((e : ℕ) → a ≤ e → e < length (c .graph .edges) → lo ≤ edge (c .graph) e .from) → at ≤ lo + 2 → Least H at top r → 2 ≤ r
+      → (e : ℕ) → a ≤ e → e < getD F (r - 2) 0 → getD (y .cells) e none ≡ none
+  unfolding Only
+  gap y a lo at r only low h least two e l b = go (getD (y .cells) e none) refl
+    where
+      go : (o : Option ℕ) → getD (y .cells) e none ≡ o → getD (y .cells) e none ≡ none
+      go none q = q
+      go (some d) q =
+          let n : r - 2 ≤ c .graph .vertices = omega (arith, least .low) in
+          let m : e < length (c .graph .edges) = omega (arith, f .below (r - 2) n) in
+          let u = edge (c .graph) e .from in
+          let i : owner c u < length H = omega (arith, ok .owner u (ok .from e m)) in
+          let t : getD H (owner c u) 0 ≡ u + 2 = only e d q in
+          absurd (omega (arith, f .before (r - 2) e n b, low e l m, least .each (owner c u) i (omega (arith, low e l m))))
+
+  only-left : (k e : ℕ) (y : State) → Paid c y → e + k ≤ length (c .graph .edges) → Only c H y → Only c H (acted c (range k (c .workers + e)) y)
+  unfolding Only
+  only-left k e y p h only i d g = only i d (acts-left c ok k e y p h i d g)
+
+  pub sweep-start : (x : State) (at : ℕ) (k : Run) (w : List ℤ) → Rep c x k w → Paid c x → Only c H x → Least H 2 top at → Swept c x F H at k w
+  sweep-start x at k w rep p only least =
+      let m = length (c .graph .edges) in
+      let two : 2 ≤ at = least .high (omega arith) in
+      let z : m - 0 ≡ m = omega arith in
+      record {
+        state = x;
+        rep = rep;
+        paid = p;
+        only = only;
+        rest = sym (rw (z, add-zero (c .workers)) at (jump c 0 (getD F (at - 2) 0) x (omega arith) (f .below (at - 2) (omega (arith, least .low))) (gap x 0 0 2 at only (λ e _ _. omega arith) (omega arith) least two)));
+      }
+
+  pub sweep-step : (x : State) (at at′ : ℕ) (k k′ : Run) (w w′ : List ℤ) → (s : Swept c x F H at k w) → 2 ≤ at → at < top
+      → Rep c (acted c (range (getD F (at - 2 + 1) 0 - getD F (at - 2) 0) (c .workers + getD F (at - 2) 0)) (s .state)) k′ w′ → Least H (at + 1) top at′ → Swept c x F H at′ k′ w′
+  sweep-step x at at′ k k′ w w′ s two l rep least =
+      let m = length (c .graph .edges) in
+      let v = at - 2 in
+      let a = getD F v 0 in
+      let b = getD F (v + 1) 0 in
+      let y = acted c (range (b - a) (c .workers + a)) (s .state) in
+      let n : v + 1 ≤ c .graph .vertices = omega arith in
+      let order : a ≤ b = firsts-le (c .graph) F F v (v + 1) f f (omega arith) n in
+      let bm : b ≤ m = f .below (v + 1) n in
+      let high : at + 1 ≤ at′ = least .high (omega arith) in
+      let p : (b - a) + (m - b) ≡ m - a = omega arith in
+      let q : (c .workers + a) + (b - a) ≡ c .workers + b = omega arith in
+      let only : Only c H y = only-left (b - a) a (s .state) (s .paid) (omega arith) (s .only) in
+      record {
+        state = y;
+        rep = rep;
+        paid = paid-acted c ok (range (b - a) (c .workers + a)) (s .state) (s .paid);
+        only = only;
+        rest =
+            sym (jump c b (getD F (at′ - 2) 0) y (firsts-le (c .graph) F F (v + 1) (at′ - 2) f f (omega arith) (omega (arith, least .low))) (f .below (at′ - 2) (omega (arith, least .low)))
+            (gap y b (v + 1) (at + 1) at′ only (λ e g i. f .after (v + 1) e n g i) (omega arith) least (omega arith)))
+            ∙ sym (rw (p, q) at (split-range c (b - a) (m - b) (c .workers + a) (s .state))) ∙ s .rest;
+      }
+
+  pub sweep-done : (x : State) (at : ℕ) (k : Run) (w : List ℤ) → Swept c x F H at k w → at ≡ top → Rep c (acted c (range (length (c .graph .edges)) (c .workers)) x) k w
+  sweep-done x at k w s e =
+      let m = length (c .graph .edges) in
+      let i : getD F (at - 2) 0 ≡ m = ap (λ (j : ℕ). getD F j 0) (let z : at - 2 ≡ c .graph .vertices = omega arith in z) ∙ first-last c F ok f in
+      let j : m - getD F (at - 2) 0 ≡ 0 = omega arith in
+      let r : s .state ≡ acted c (range m (c .workers)) x = sym (none-range c (c .workers + getD F (at - 2) 0) (s .state)) ∙ (rw j at (s .rest)) in
+      subst (λ (y : State). Rep c y k w) r (s .rep)
+
+pub round-rep : (c : Case) (x : State) (k : Run) (w : List ℤ) → Sound c → Rep c (acted c (range (length (c .graph .edges)) (c .workers)) (acted c (range (c .workers) 0) x)) k w → Rep c (acted c (round-acts c) x) k w
+round-rep c x k w ok rep = subst (λ (y : State). Rep c y k w) (sym (round-is c ok x)) rep
+
+-- ROUNDS: so many are left
+rounds-step : (k : ℕ) (c : Case) (x : State) → has-ended x ≡ false → rounds (suc k) c x ≡ rounds k c (acted c (round-acts c) x)
+unfolding rounds
+rounds-step k c x h = rw h
+
+rounds-over : (k : ℕ) (c : Case) (x : State) → has-ended x ≡ true → rounds k c x ≡ x
+unfolding rounds
+rounds-over zero c x h = refl
+rounds-over (suc k) c x h = rw h
+
+rounds-none : (c : Case) (x : State) → rounds 0 c x ≡ x
+unfolding rounds
+rounds-none c x = refl
+
+pub record Left (c : Case) (x : State) (many left : ℕ) (k : Run) (w : List ℤ) : Type 0 where
+  pub at : State
+  pub rep : Rep c at k w
+  pub paid : Paid c at
+  pub empty : has-ended at ≡ false → no-message (at .cells) ≡ true
+  pub rest : rounds left c at ≡ rounds many c x
+
+module _ (c : Case) (x : State) (many : ℕ) where
+  pub left-start : (k : Run) (w : List ℤ) → Rep c x k w → Paid c x → no-message (x .cells) ≡ true → Left c x many many k w
+  left-start k w rep p e = record { at = x; rep = rep; paid = p; empty = λ _. e; rest = refl }
+
+  pub left-step : (left : ℕ) (k k′ : Run) (w w′ : List ℤ) → (u : Left c x many left k w) → 0 < left → has-ended (u .at) ≡ false → Rep c (acted c (round-acts c) (u .at)) k′ w′ → Left c x many (left - 1) k′ w′
+  left-step left k k′ w w′ u h o rep =
+      let ok = rep .held .laid .sound in
+      let i : left ≡ suc (left - 1) = omega arith in
+      record {
+        at = acted c (round-acts c) (u .at);
+        rep = rep;
+        paid = paid-acted c ok (round-acts c) (u .at) (u .paid);
+        empty = round-clears c ok (u .at) (u .paid);
+        rest = sym (rounds-step (left - 1) c (u .at) o) ∙ ap (λ (j : ℕ). rounds j c (u .at)) (sym i) ∙ u .rest;
+      }
+
+  pub left-over : (left : ℕ) (k : Run) (w : List ℤ) → (u : Left c x many left k w) → has-ended (u .at) ≡ true → Rep c (rounds many c x) k w
+  left-over left k w u o = subst (λ (y : State). Rep c y k w) (sym (rounds-over left c (u .at) o) ∙ u .rest) (u .rep)
+
+  pub left-done : (left : ℕ) (k : Run) (w : List ℤ) → (u : Left c x many left k w) → left ≤ 0 → Rep c (rounds many c x) k w
+  left-done left k w u h =
+      let i : left ≡ 0 = omega arith in
+      subst (λ (y : State). Rep c y k w) (sym (rounds-none c (u .at)) ∙ ap (λ (j : ℕ). rounds j c (u .at)) (sym i) ∙ u .rest) (u .rep)
+
+pub fresh-empty : (c : Case) → no-message (fresh c .cells) ≡ true
+fresh-empty c = no-cells (fresh c .cells) (λ e. unfold fresh in (getD-replicate-same (length (c .graph .edges)) e none))
+
+pub by-rounds-rep : (c : Case) (k : Run) (w : List ℤ) (many : ℕ) → many ≡ most-acts c → Rep c (rounds many c (fresh c)) k w → Rep c (by-rounds c) k w
+unfolding by-rounds
+by-rounds-rep c k w many e rep = subst (λ (n : ℕ). Rep c (rounds n c (fresh c)) k w) e rep
+
+-- how many rounds are enough
+pub many-is : (c : Case) (n m a : ℕ) → n ≡ c .graph .vertices → m ≡ length (c .graph .edges) → a ≡ accepting-count (c .graph) → (n + m) * (a + 1) ≡ most-acts c
+unfolding most-acts
+many-is c n m a p q r = rw (p, q, r)

@@ -1,0 +1,128 @@
+use mathlib.Core.Path.{_≡_, refl, sym, _∙_}
+use mathlib.Core.List.{List}
+use Prim.Native.Nat.{ℕ, _+_, _-_, _≤_, _<_}
+use native.Mathlib.Omega.{arith}
+use lib.ListN.{length, getD}
+use Rattle.model.specs.Case.{Case}
+use Rattle.model.specs.Run.{State}
+use Rattle.model.proofs.Few.{Paid}
+use Rattle.search.specs.Asks.{Act-says, Edges-say}
+use Rattle.search.specs.Rep.{Firsts, Laid, Rep}
+use Rattle.search.proofs.Ranges.{first-there, first-is}
+use Rattle.search.proofs.Sweeps.{Along, along-start, along-step, along-done, first-same, edges-rep}
+use borrow.Author.Needs.{needs}
+use Rattle.search.proofs.rounds.deliver_edges.Statement.{statement}
+use Rattle.search.proofs.rounds.deliver_edges.Tie as tie
+use Rattle.search.proofs.rounds.deliver_edges.Reads as reads
+use Rattle.search.proofs.rounds.deliver_edges.Lts as lts
+use Rattle.search.proofs.cells.load_below.Reads as load-below-reads
+use Rattle.search.proofs.run.act.Reads as act-reads
+
+abbrev Inv-loop : tie.InvT-loop
+Inv-loop work₀ v p end e₀ r₀ work e r = (length work ≡ length work₀)
+    × ((c : Case) (x : State) → Rep c x r₀ work₀ → Paid c x → p ≡ c .workers → end ≤ length (c .graph .edges) → Along c x (p + e₀) (p + end) (p + e) r work)
+
+abbrev μ-loop : tie.MeasureT-loop
+μ-loop work₀ v p end e₀ r₀ work e r = end - e
+
+-- the numbers that were loaded are the vertex's first edge and the next vertex's
+start-is : (c : tie.After-load-below2 Inv-loop μ-loop) (q : Case) (F : List ℕ) → Laid q (c .before .before .before .before .args .work .now) → c .before .before .before .before .args .v < q .graph .vertices → Firsts (q .graph) F → c .load-below2 .result ≡ getD F (c .before .before .before .before .args .v) 0
+start-is c q F laid h f =
+    let v = c .before .before .before .before .args .v in
+    let l : v ≤ q .graph .vertices = omega arith in
+    sym (first-is q _ v laid l _ (c .load-below2 .ensures .0)) ∙ first-same (q .graph) (laid .first) F v (laid .firsts) f l
+
+end-is : (c : tie.After-load-below Inv-loop μ-loop) (q : Case) (F : List ℕ) → Laid q (c .before .before .args .work .now) → c .before .before .args .v < q .graph .vertices → Firsts (q .graph) F → c .load-below .result ≡ getD F (c .before .before .args .v + 1) 0
+end-is c q F laid h f =
+    let v = c .before .before .args .v in
+    let l : v + 1 ≤ q .graph .vertices = omega arith in
+    sym (first-is q _ (v + 1) laid l _ (c .load-below .ensures .0)) ∙ first-same (q .graph) (laid .first) F (v + 1) (laid .firsts) f l
+
+end-low : (c : tie.After-load-below Inv-loop μ-loop) (q : Case) → Laid q (c .before .before .args .work .now) → c .before .before .args .v < q .graph .vertices → c .load-below .result ≤ length (q .graph .edges)
+end-low c q laid h = omega (arith, end-is c q (laid .first) laid h (laid .firsts), laid .firsts .below (c .before .before .args .v + 1) (omega arith))
+
+add-load-below : tie.Need-add-load-below Inv-loop μ-loop
+add-load-below c = search needs
+
+add-load-below-2 : tie.Need-add-load-below-2 Inv-loop μ-loop
+add-load-below-2 c = search needs
+
+add-load-below-3 : tie.Need-add-load-below-3 Inv-loop μ-loop
+add-load-below-3 c = search needs
+
+load-below-requires : tie.Need-load-below-requires Inv-loop μ-loop
+load-below-requires c κs = let s = c .before .pre in
+    (omega arith, first-there (s .case) _ _ (s .rep .held .laid) (omega (arith, s .below)))
+
+add-load-below-4 : tie.Need-add-load-below-4 Inv-loop μ-loop
+add-load-below-4 c = search needs
+
+add-load-below-5 : tie.Need-add-load-below-5 Inv-loop μ-loop
+add-load-below-5 c = search needs
+
+load-below-requires-2 : tie.Need-load-below-requires-2 Inv-loop μ-loop
+load-below-requires-2 c κs = let s = c .before .before .before .pre in
+    (omega arith, first-there (s .case) _ _ (s .rep .held .laid) (omega (arith, s .below)))
+
+loop-holds : tie.Need-loop-holds Inv-loop μ-loop
+loop-holds c = (refl, λ q x rep paid w l. along-start q x _ _ _ _ rep paid)
+
+add-act : tie.Need-add-act Inv-loop μ-loop
+add-act c = let s = c .before .before .before .before .before .before .before .pre in
+    omega (arith, s .workers, s .rep .held .laid .within .workers, c .before .loop-test .taken, c .before .before .before .before .before .load-below .ensures .1)
+
+act-requires : tie.Need-act-requires Inv-loop μ-loop
+act-requires c κs = let s = c .before .before .before .before .before .before .before .pre in
+    let l = end-low (c .before .before .before .before .before) (s .case) (s .rep .held .laid) (s .below) in
+    let u = c .before .before .loop .inv .1 (s .case) (s .state) (s .rep) (s .paid) (s .workers) l in
+    record { case = s .case; state = u .at; rep = u .rep; paid = u .paid; workers = s .workers; below = omega (arith, l, c .before .loop-test .taken) }
+
+add-e : tie.Need-add-e Inv-loop μ-loop
+add-e c = omega (arith, c .before .before .before .loop-test .taken)
+
+loop-less : tie.Need-loop-less Inv-loop μ-loop
+loop-less c = omega (arith, c .before .before .before .loop-test .taken)
+
+loop-again : tie.Need-loop-again Inv-loop μ-loop
+unfolding Act-says
+loop-again c = (
+  omega (arith, c .before .act .kept .0, c .before .before .before .before .loop .inv .0),
+  λ q x rep paid w l.
+      let p = c .before .before .before .before .before .before .before .before .before .args .p in
+      let e = c .before .before .before .before .loop .e in
+      let z : p + (e + 1) ≡ p + e + 1 = omega arith in
+      let u = c .before .before .before .before .loop .inv .1 q x rep paid w l in
+      rw z (along-step q x _ _ (p + e) _ _ _ _ u (omega (arith, c .before .before .before .loop-test .taken)) (c .before .act .ensures q (u .at) (u .rep) (u .paid) w (omega (arith, c .before .before .before .loop-test .taken)))),
+)
+
+same-length : tie.Need-same-length Inv-loop μ-loop
+same-length c = c .before .loop .inv .0
+
+returns : tie.Need-returns Inv-loop μ-loop
+unfolding Edges-say
+returns c = λ q x F rep paid w h f.
+    let laid = rep .held .laid in
+    edges-rep q x _ _ (c .before .before .before .before .before .before .args .p) (c .before .before .load-below2 .result) (c .before .before .before .before .load-below .result) _ _ w (start-is (c .before .before) q F laid h f) (end-is (c .before .before .before .before) q F laid h f)
+    (along-done q x _ _ _ _ _ (c .before .loop .inv .1 q x rep paid w (end-low (c .before .before .before .before) q laid h)) (omega (arith, c .loop-test .left)))
+
+pub deliver-edges-spec : {M : Type 1} → statement M
+deliver-edges-spec =
+    tie.close
+    (tie.spec
+    Inv-loop
+    μ-loop
+    add-load-below
+    add-load-below-2
+    add-load-below-3
+    load-below-requires
+    add-load-below-4
+    add-load-below-5
+    load-below-requires-2
+    loop-holds
+    add-act
+    act-requires
+    add-e
+    loop-less
+    loop-again
+    same-length
+    returns)

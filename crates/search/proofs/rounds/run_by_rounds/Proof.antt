@@ -1,0 +1,51 @@
+use Rattle.model.proofs.Few.{fresh-paid}
+use Rattle.model.proofs.Bounds.{most-acts-within}
+use native.Mathlib.Omega.{arith}
+use Rattle.model.specs.Run.{fresh}
+use Rattle.model.proofs.Fits.{A-few}
+use Rattle.search.specs.Asks.{Rounds-do, By-rounds-says}
+use Rattle.search.proofs.Sweeps.{fresh-empty, by-rounds-rep, many-is}
+use borrow.Author.Needs.{needs}
+use Rattle.search.proofs.rounds.run_by_rounds.Statement.{statement}
+use Rattle.search.proofs.rounds.run_by_rounds.Tie as tie
+use Rattle.search.proofs.rounds.run_by_rounds.Reads as reads
+use Rattle.search.proofs.rounds.run_by_rounds.Lts as lts
+use Rattle.search.proofs.rounds.rounds.Reads as rounds-reads
+
+add-many : tie.Need-add-many
+add-many c = search needs
+
+add-many-2 : tie.Need-add-many-2
+add-many-2 c = let s = c .before .pre in
+    omega (arith, s .rep .counted .marks, A-few (s .case) (s .rep .held .laid .sound), s .rep .held .laid .within .vertices)
+
+mul-many : tie.Need-mul-many
+mul-many c = let s = c .before .pre in
+    let l = s .rep .held .laid in
+    rw (many-is (s .case) (c .before .args .n) (c .before .args .m) (c .before .args .run .marks) (s .vertices) (s .edges) (s .rep .counted .marks))
+    (record { fits = omega (arith, most-acts-within (s .case) 500 2000 (l .sound) (l .within .vertices) (l .within .edges)) })
+
+rounds-requires : tie.Need-rounds-requires
+rounds-requires c κs = let s = c .before .before .pre in
+    record {
+      case = s .case;
+      state = fresh (s .case);
+      rep = s .rep;
+      paid = fresh-paid (s .case) (s .rep .held .laid .sound);
+      workers = s .workers;
+      vertices = s .vertices;
+      empty = fresh-empty (s .case);
+    }
+
+same-length : tie.Need-same-length
+same-length c = search needs
+
+returns : tie.Need-returns
+unfolding By-rounds-says Rounds-do
+returns c = λ q rep w v e.
+    by-rounds-rep q _ _ _ (many-is q (c .before .before .before .before .args .n) (c .before .before .before .before .args .m) (c .before .before .before .before .args .run .marks) v e (rep .counted .marks))
+    (c .before .rounds .ensures q (fresh q) rep (fresh-paid q (rep .held .laid .sound)) w v (fresh-empty q))
+
+pub run-by-rounds-spec : {M : Type 1} → statement M
+run-by-rounds-spec =
+    tie.close (tie.spec add-many add-many-2 mul-many rounds-requires same-length returns)

@@ -1,0 +1,120 @@
+// Runs by rounds. When a round begins no cell has a message, so only the edges of the vertices scanned in it can get one:
+// a round does every turn, then the deliveries on the edges of these vertices, in number order.
+ghost use Prim.Native.Nat.{ℕ, _≤_, _<_};
+ghost use lib.ListN.{length};
+ghost use Rattle.search.specs.Asks.{Picked, Least, Turns-ask, Turns-say, Edges-ask, Edges-say, Sweep-asks, Sweep-says, Round-asks, Round-says, Rounds-do, By-rounds-asks, By-rounds-says};
+use super::cells::Cells;
+use super::cells::load_below;
+use super::run::Run;
+use super::run::act;
+use super::run::is_over;
+use casefile::Case;
+
+// The less of two numbers, if the first is not below `at`.
+pub(crate) fn pick(s: usize, at: usize, best: usize) -> usize
+    ensures { λ r. ⌜ Picked s at best r ⌝ }
+{
+    if s < at {
+        return best;
+    }
+    if s < best {
+        return s;
+    }
+    best
+}
+
+// The least number of a list that is not below `at`; `none` if there is no such number below it.
+pub(crate) fn least(list: &[usize], at: usize, none: usize) -> usize
+    ensures { λ r. ⌜ Least (now (list .entry)) at none r ⌝ }
+{
+    let mut best = none;
+    let mut i: usize = 0;
+    while i < list.len() {
+        let s = list[i];
+        best = pick(s, at, best);
+        i += 1;
+    }
+    best
+}
+
+// Every turn by worker number. What a worker's head was, coded as in its cell, stands in `heads`.
+pub(crate) fn turns(work: &mut [i32], run: Run, p: usize, heads: &mut [usize]) -> Run
+    requires { ⌜ Turns-ask p run (now work) (length (now heads)) ⌝ }
+    ensures { λ r. ⌜ Turns-say p run r (now (work .entry)) (now (work .exit)) (now (heads .exit)) ⌝ }
+{
+    let mut r = run;
+    let mut w: usize = 0;
+    while w < p {
+        let head = load_below(work, Cells::HEAD + w, Case::MOST_VERTICES + 2);
+        heads[w] = head;
+        r = act(work, r, w, p);
+        w += 1;
+    }
+    r
+}
+
+// Every delivery on the edges of a vertex, by edge number.
+pub(crate) fn deliver_edges(work: &mut [i32], run: Run, v: usize, p: usize) -> Run
+    requires { ⌜ Edges-ask v p run (now work) ⌝ }
+    ensures { λ r. ⌜ Edges-say v p run r (now (work .entry)) (now (work .exit)) ⌝ }
+{
+    let end = load_below(work, Cells::FIRST + (v + 1), Case::MOST_EDGES + 1);
+    let mut e = load_below(work, Cells::FIRST + v, Case::MOST_EDGES + 1);
+    let mut r = run;
+    while e < end {
+        r = act(work, r, p + e, p);
+        e += 1;
+    }
+    r
+}
+
+// Every delivery by edge number, where only edges of the vertices in `heads` have messages.
+pub(crate) fn sweep(work: &mut [i32], run: Run, p: usize, n: usize, heads: &[usize]) -> Run
+    requires { ⌜ Sweep-asks p n (now heads) run (now work) ⌝ }
+    ensures { λ r. ⌜ Sweep-says p n (now (heads .entry)) run r (now (work .entry)) (now (work .exit)) ⌝ }
+{
+    let none = n + 2;
+    let mut r = run;
+    let mut at = least(heads, 2, none);
+    while at < none {
+        r = deliver_edges(work, r, at - 2, p);
+        at = least(heads, at + 1, none);
+    }
+    r
+}
+
+// A round.
+pub(crate) fn round(work: &mut [i32], run: Run, p: usize, n: usize) -> Run
+    requires { ⌜ Round-asks p n run (now work) ⌝ }
+    ensures { λ r. ⌜ Round-says p n run r (now (work .entry)) (now (work .exit)) ⌝ }
+{
+    let mut heads = [0usize; Case::MOST_WORKERS];
+    let r = turns(work, run, p, &mut heads);
+    sweep(work, r, p, n, &heads)
+}
+
+// Rounds, at most so many, to the end of the run.
+pub(crate) fn rounds(work: &mut [i32], run: Run, many: usize, p: usize, n: usize) -> Run
+    requires { ⌜ Round-asks p n run (now work) ⌝ }
+    ensures { λ r. ⌜ Rounds-do many p n run r (now (work .entry)) (now (work .exit)) ⌝ }
+{
+    let mut r = run;
+    let mut left = many;
+    while 0 < left {
+        if is_over(r) {
+            return r;
+        }
+        r = round(work, r, p, n);
+        left -= 1;
+    }
+    r
+}
+
+// The run by rounds, from a fresh run: most acts are (n + m) × (A + 1), so that many rounds reach the end.
+pub(crate) fn run_by_rounds(work: &mut [i32], run: Run, p: usize, n: usize, m: usize) -> Run
+    requires { ⌜ By-rounds-asks p n m run (now work) ⌝ }
+    ensures { λ r. ⌜ By-rounds-says p n m run r (now (work .entry)) (now (work .exit)) ⌝ }
+{
+    let many = (n + m) * (run.marks + 1);
+    rounds(work, run, many, p, n)
+}
