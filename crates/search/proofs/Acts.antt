@@ -14,7 +14,7 @@ use lib.Seq.{drop-cons}
 use lib.IntN.{ℤ, pos}
 use lib.Signed.{ltZ}
 use Rattle.model.specs.Graph.{edge-depth}
-use Rattle.model.specs.Case.{Case, Sound, Within}
+use Rattle.model.specs.Case.{Case, most-vertices, most-edges, Sound, Within}
 use Rattle.model.specs.Run.{State, is-some, ended-lasso, has-ended, with-queues, with-cells, relax, scan, no-vertex, no-message, counted, depth-or, turn-of, turn, delivery-of, delivery, act, acted}
 use Rattle.model.proofs.Steps.{scan-keeps, act-keeps}
 use Rattle.model.proofs.Shapes.{head-depth}
@@ -30,7 +30,7 @@ use Rattle.search.proofs.Numbers.{tally-set}
 
 -- COUNTS fit 32 bits
 pub count-small : (c : Case) (x : State) → Sound c → Within c → Paid c x → x .count < 2 ^ 32 - 1
-count-small c x ok l p = omega (arith, few c ok x p .0, most-acts-within c 500 2000 ok (l .vertices) (l .edges))
+count-small c x ok l p = omega (arith, few c ok x p .0, most-acts-within c most-vertices most-edges ok (l .vertices) (l .edges))
 
 pub scan-count : (c : Case) (v d : ℕ) (x : State) → scan c v d x .count ≡ x .count
 scan-count c v d x =
@@ -48,9 +48,9 @@ no-vertex-is : (qs : List (List ℕ)) → eqb (tally busy qs) 0 ≡ no-vertex qs
 unfolding tally busy no-vertex
 no-vertex-is [] = refl
 no-vertex-is ([] ∷ qs) = rw zero-add (no-vertex-is qs)
-no-vertex-is ((v ∷ q) ∷ qs) = rw (one-add, eqb·suc-zero, eqb·suc-zero)
+no-vertex-is ((v ∷ q) ∷ qs) = rw (one-add, eqb·suc-zero (tally busy qs), eqb·suc-zero (length q))
 
-pub no-message-is : (os : List (Option ℕ)) → eqb (tally one-if os) 0 ≡ no-message os
+no-message-is : (os : List (Option ℕ)) → eqb (tally one-if os) 0 ≡ no-message os
 unfolding tally one-if no-message is-some
 no-message-is [] = refl
 no-message-is (none ∷ os) = rw zero-add (no-message-is os)
@@ -169,7 +169,7 @@ unfolding act
 act-delivery c a p x h w l = let k : c .workers ≤ a = omega arith in rw (w, h, le-ltb a (c .workers) k)
 
 -- the depth that a scan reads is not below the floor
-pub depth-low : (c : Case) (x : State) (p v : ℕ) (q : List ℕ) → Sound c → Within c → Paid c x → x .broken ≡ none → getD (x .queues) p [] ≡ v ∷ q → depth-or (getD (x .depths) v none) ≤ 500
+pub depth-low : (c : Case) (x : State) (p v : ℕ) (q : List ℕ) → Sound c → Within c → Paid c x → x .broken ≡ none → getD (x .queues) p [] ≡ v ∷ q → depth-or (getD (x .depths) v none) ≤ most-vertices
 depth-low c x p v q ok l paid whole e =
     omega (arith, paid .shape .above whole v (depth-or (getD (x .depths) v none)) (head-depth c ok p v q x (paid .shape) e), A-few c ok, l .vertices)
 

@@ -8,7 +8,7 @@ use native.Mathlib.Omega.{arith}
 use lib.ListN.{length, getD, set, replicate, length-replicate, getD-replicate}
 use lib.IntN.{ℤ, pos}
 use Rattle.model.specs.Graph.{accepting-count}
-use Rattle.model.specs.Case.{Case, owner}
+use Rattle.model.specs.Case.{Case, owner, most-vertices, most-edges, most-workers}
 use Rattle.model.specs.Run.{State, member, enqueue, fresh, with-queues}
 use Rattle.model.proofs.Tools.{getD-replicate-same}
 use Rattle.search.specs.declared.run.Run.{Run}
@@ -22,7 +22,11 @@ region-same code d base l w v r f = record { each = λ i h. f i h ∙ r .each i 
 
 -- one item in each place of a table
 table-blank : {A : Type 0} (code : A → ℤ) (d a : A) (base n : ℕ) (w : List ℤ) → ((i : ℕ) → i < n → getD w (base + i) (pos 0) ≡ code a) → Table code d base n (replicate n a) w
-table-blank code d a base n w f = record { sized = length-replicate n a; each = λ i h. f i h ∙ ap code (sym (getD-replicate n i a d h)) }
+table-blank code d a base n w f =
+    record {
+      sized = length-replicate n a;
+      region = record { each = λ i h. let l : i < n = omega (arith, length-replicate n a) in f i l ∙ ap code (sym (getD-replicate n i a d l)) };
+    }
 
 tally-none : {A : Type 0} (f : A → ℕ) (a : A) (n : ℕ) → f a ≡ 0 → tally f (replicate n a) ≡ 0
 unfolding tally
@@ -68,8 +72,8 @@ blank c =
       count = 0;
     }
 
-module _ (c : Case) (w w1 w2 w3 w4 w5 : List ℤ) (laid : Laid c w) (f1 : Filled distance-at 500 (pos 1) w w1) (f2 : Filled parent-at 1000 (pos 0) w1 w2)
-    (f3 : Filled message-at 2000 (pos 1) w2 w3) (f4 : Filled head-at 16 (pos 1) w3 w4) (f5 : Filled tail-at 16 (pos 0) w4 w5) where
+module _ (c : Case) (w w1 w2 w3 w4 w5 : List ℤ) (laid : Laid c w) (f1 : Filled distance-at most-vertices (pos 1) w w1) (f2 : Filled parent-at (most-vertices + most-vertices) (pos 0) w1 w2)
+    (f3 : Filled message-at most-edges (pos 1) w2 w3) (f4 : Filled head-at most-workers (pos 1) w3 w4) (f5 : Filled tail-at most-workers (pos 0) w4 w5) where
   kept : (j : ℕ) → j < distance-at → getD w5 j (pos 0) ≡ getD w j (pos 0)
   kept j h = f5 .before j (omega arith) ∙ f4 .before j (omega arith) ∙ f3 .before j (omega arith) ∙ f2 .before j (omega arith) ∙ f1 .before j h
 

@@ -17,18 +17,18 @@ use Rattle.model.specs.Run.{takes}
 use Rattle.search.specs.Cells.{far}
 use Rattle.search.specs.Rep.{tally, busy, one-if}
 
-pub lower-is : (a b : ℕ) → ltZ (negℤ (pos a)) (negℤ (pos b)) ≡ ltb b a
+lower-is : (a b : ℕ) → ltZ (negℤ (pos a)) (negℤ (pos b)) ≡ ltb b a
 lower-is zero zero = refl
 lower-is zero (suc b) = sym (leb·suc-zero (suc b))
 lower-is (suc a) zero = sym (leb·suc-suc zero a ∙ leb·zero a)
 lower-is (suc a) (suc b) = sym (leb·suc-suc (suc b) a)
 
-pub below-none : (a : ℕ) → ltZ (negℤ (pos a)) (pos 1) ≡ true
+below-none : (a : ℕ) → ltZ (negℤ (pos a)) (pos 1) ≡ true
 below-none zero = refl
 below-none (suc a) = refl
 
 -- an offer is taken exactly where the program's test says so
-pub takes-is : (o : Option ℕ) (d : ℕ) → ltZ (negℤ (pos d)) (far o) ≡ takes o d
+takes-is : (o : Option ℕ) (d : ℕ) → ltZ (negℤ (pos d)) (far o) ≡ takes o d
 unfolding takes
 takes-is none d = below-none d
 takes-is (some k) d = lower-is d k

@@ -19,17 +19,17 @@ pub true-or : (b : Bool) → (b ≡ true) ⊎ (b ≡ false)
 true-or true = inl refl
 true-or false = inr refl
 
-pub ne-of-tests : {A : Type 0} (f : A → Bool) (a b : A) → f a ≡ true → f b ≡ false → a ≡ b → ⊥
+ne-of-tests : {A : Type 0} (f : A → Bool) (a b : A) → f a ≡ true → f b ≡ false → a ≡ b → ⊥
 ne-of-tests f a b t u e = let z : true ≡ false = sym t ∙ ap f e ∙ u in let y : _≡_ {A = ℕ} 0 1 = cc in omega arith
 
 -- members
-pub member-joined : (u v : ℕ) (q : List ℕ) → member u (q ++ (v ∷ [])) ≡ true → (member u q ≡ true) ⊎ (u ≡ v)
+member-joined : (u v : ℕ) (q : List ℕ) → member u (q ++ (v ∷ [])) ≡ true → (member u q ≡ true) ⊎ (u ≡ v)
 unfolding member
 member-joined u v [] h = ⊎-elim (λ t. inr (eqb-true u v t)) (λ t. inl t) (or-cases (eqb u v) false h)
 member-joined u v (x ∷ q) h =
     ⊎-elim (λ t. inl (rw t)) (λ t. ⊎-elim (λ s. inl (or-right (eqb u x) (member u q) s)) (λ e. inr e) (member-joined u v q t)) (or-cases (eqb u x) (member u (q ++ (v ∷ []))) h)
 
-pub member-kept : (u v : ℕ) (q : List ℕ) → member u (q ++ (v ∷ [])) ≡ false → (member u q ≡ false) × (u ≡ v → ⊥)
+member-kept : (u v : ℕ) (q : List ℕ) → member u (q ++ (v ∷ [])) ≡ false → (member u q ≡ false) × (u ≡ v → ⊥)
 unfolding member
 member-kept u v [] h = (refl, eqb-false u v (or-false (eqb u v) false h .0))
 member-kept u v (x ∷ q) h =
@@ -37,23 +37,23 @@ member-kept u v (x ∷ q) h =
     let s = member-kept u v q (t .1) in
     (rw (t .0) (s .0), s .1)
 
-pub not-snoc : (u v : ℕ) (q : List ℕ) → member u q ≡ false → (u ≡ v → ⊥) → member u (q ++ (v ∷ [])) ≡ false
+not-snoc : (u v : ℕ) (q : List ℕ) → member u q ≡ false → (u ≡ v → ⊥) → member u (q ++ (v ∷ [])) ≡ false
 unfolding member
 not-snoc u v [] h n = rw (ne-eqb u v n)
 not-snoc u v (x ∷ q) h n = let t = or-false (eqb u x) (member u q) h in rw (t .0) (not-snoc u v q (t .1) n)
 
-pub ends-member : (t u : ℕ) (q : List ℕ) → Ends t (u ∷ q) → member t (u ∷ q) ≡ true
+ends-member : (t u : ℕ) (q : List ℕ) → Ends t (u ∷ q) → member t (u ∷ q) ≡ true
 unfolding member
 ends-member t u [] h = rw (eq-eqb t u h)
 ends-member t u (x ∷ q) h = or-right (eqb t u) (member t (x ∷ q)) (ends-member t x q h)
 
-pub ends-snoc : (v : ℕ) (q : List ℕ) → Ends v (q ++ (v ∷ []))
+ends-snoc : (v : ℕ) (q : List ℕ) → Ends v (q ++ (v ∷ []))
 ends-snoc v [] = refl
 ends-snoc v (x ∷ []) = refl
 ends-snoc v (x ∷ y ∷ q) = ends-snoc v (y ∷ q)
 
 -- chains
-pub chain-kept : (N : List ℕ) (j a : ℕ) (q : List ℕ) → Chain N q → member j q ≡ false → Chain (set N j a) q
+chain-kept : (N : List ℕ) (j a : ℕ) (q : List ℕ) → Chain N q → member j q ≡ false → Chain (set N j a) q
 unfolding member
 chain-kept N j a [] h m = tt
 chain-kept N j a (v ∷ q) h m =
@@ -71,7 +71,7 @@ chain-marked N v (x ∷ q) h m = ⊎-elim (λ t. first (eqb-true v x t) q (h .0)
     first e (y ∷ r) g = rw (e, g) (omega arith)
 
 -- v joins behind t
-pub chain-snoc : (N : List ℕ) (t v u : ℕ) (q : List ℕ) → Chain N (u ∷ q) → Ends t (u ∷ q) → member v (u ∷ q) ≡ false → t < length N → v < length N
+chain-snoc : (N : List ℕ) (t v u : ℕ) (q : List ℕ) → Chain N (u ∷ q) → Ends t (u ∷ q) → member v (u ∷ q) ≡ false → t < length N → v < length N
     → Chain (set (set N t (v + 2)) v 1) ((u ∷ q) ++ (v ∷ []))
 unfolding member
 chain-snoc N t v u [] h e m a b =
@@ -86,7 +86,7 @@ chain-snoc N t v u (x ∷ q) h e m a b =
     (getD-set-other (set N t (v + 2)) v u 1 0 n ∙ getD-set-other N t u (v + 2) 0 f ∙ h .0, not-snoc u v (x ∷ q) (h .1) n, chain-snoc N t v x q (h .2) e (s .1) a b)
 
 -- what holds of one queue after a store among the queues
-pub at-set : {A : Type 0} (P : ℕ → A → Type 0) (l : List A) (p : ℕ) (a d : A) → p < length l → P p a → ((r : ℕ) → (r ≡ p → ⊥) → P r (getD l r d))
+at-set : {A : Type 0} (P : ℕ → A → Type 0) (l : List A) (p : ℕ) (a d : A) → p < length l → P p a → ((r : ℕ) → (r ≡ p → ⊥) → P r (getD l r d))
     → (r : ℕ) → P r (getD (set l p a) r d)
 at-set {A} P l p a d h here there r = go (same-or r p)
   where

@@ -11,7 +11,7 @@ use borrow.Author.Tests.{ne-eqb}
 use lib.ListN.{length, getD}
 use lib.IntN.{ℤ, pos}
 use Rattle.model.specs.Graph.{edge, edge-depth, mark}
-use Rattle.model.specs.Case.{Case}
+use Rattle.model.specs.Case.{Case, most-edges}
 use Rattle.model.specs.Run.{State, is-some, ended-lasso, scan-edge, scan-from, scan}
 use Rattle.search.specs.declared.run.Run.{Run}
 use Rattle.search.specs.Cells.{Below, first-at}
@@ -20,7 +20,7 @@ use Rattle.search.proofs.Regions.{below-or}
 
 -- FIRST EDGES
 module _ (c : Case) (w : List ℤ) (v : ℕ) (laid : Laid c w) (below : v ≤ c .graph .vertices) where
-  pub first-there : Below 2001 (getD w (first-at + v) (pos 0))
+  pub first-there : Below (most-edges + 1) (getD w (first-at + v) (pos 0))
   first-there =
       record {
         number = getD (laid .first) v 0;
@@ -66,7 +66,7 @@ skip-one c v o e x n = rw (ne-eqb (edge (c .graph) e .from) v n) (or-true (ended
     or-true true x y = refl
     or-true false x y = refl
 
-pub scan-step : (k e : ℕ) (c : Case) (v o : ℕ) (x : State) → scan-from (suc k) e c v o x ≡ scan-from k (suc e) c v o (scan-edge c v o e x)
+scan-step : (k e : ℕ) (c : Case) (v o : ℕ) (x : State) → scan-from (suc k) e c v o x ≡ scan-from k (suc e) c v o (scan-edge c v o e x)
 unfolding scan-from
 scan-step k e c v o x = refl
 

@@ -14,23 +14,23 @@ use lib.Seq.{set-getD}
 use lib.IntN.{ℤ, pos, negℤ, _-ℤ_, negℤ-+ℤ, pos-+ℤ-pos}
 use lib.Signed.{mag}
 use Rattle.model.specs.Graph.{edge, edge-depth, mark, accepting-count}
-use Rattle.model.specs.Case.{Case, owner}
+use Rattle.model.specs.Case.{Case, owner, most-vertices, most-workers}
 use Rattle.model.specs.Run.{State, is-some, ended-lasso, with-queues, takes, member, enqueue, below-floor, relax, lower, send, scan-edge}
 use Rattle.model.proofs.Tools.{member-first}
 use Rattle.search.specs.declared.run.Run.{Run}
 use Rattle.search.specs.Cells.{Below, more, accepting-at, owner-at, to-at, distance-at, parent-at, link-at, message-at, head-at, tail-at}
 use Rattle.search.specs.Rep.{Table, Laid, Rep, link, busy, one-if}
-use Rattle.search.proofs.Stores.{held-depth, held-parent, held-link, held-cell, held-head, held-tail}
+use Rattle.search.proofs.Stores.{there, held-depth, held-parent, held-link, held-cell, held-head, held-tail}
 use Rattle.search.proofs.Queues.{join-first, join-next, leave, chain-marked, true-or, link-one, link-low, links-low, last-below}
 use Rattle.search.proofs.Numbers.{tally-set, busy-snoc}
 
 -- a number that was loaded is the table's
 pub cell-is : {base size : ℕ} {l : List ℕ} {w : List ℤ} → Table pos 0 base size l w → (i r : ℕ) → i < size → getD w (base + i) (pos 0) ≡ pos r → getD l i 0 ≡ r
-cell-is {base} {size} {l} t i r h e = let z : pos (getD l i 0) ≡ pos r = sym (t .each i h) ∙ e in cc
+cell-is {base} {size} {l} t i r h e = let z : pos (getD l i 0) ≡ pos r = sym (there t i h) ∙ e in cc
 
 -- THE CASE
 module _ (c : Case) (w : List ℤ) (v : ℕ) (laid : Laid c w) (below : v < c .graph .vertices) where
-  pub owner-there : Below 16 (getD w (owner-at + v) (pos 0))
+  pub owner-there : Below most-workers (getD w (owner-at + v) (pos 0))
   unfolding owner
   owner-there =
       record {
@@ -68,11 +68,11 @@ enqueue-joined : (p v : ℕ) (qs : List (List ℕ)) → member v (getD qs p []) 
 unfolding enqueue
 enqueue-joined p v qs h = rw h
 
-pub head-there : (c : Case) (x : State) (k : Run) (w : List ℤ) (p : ℕ) → Rep c x k w → p < c .workers → Below 502 (getD w (head-at + p) (pos 0))
+pub head-there : (c : Case) (x : State) (k : Run) (w : List ℤ) (p : ℕ) → Rep c x k w → p < c .workers → Below (most-vertices + 2) (getD w (head-at + p) (pos 0))
 head-there c x k w p rep h =
     record {
       number = link (getD (x .queues) p []);
-      is = rep .held .heads .each p h ∙ ap pos (rep .lined .heads p h);
+      is = there (rep .held .heads) p h ∙ ap pos (rep .lined .heads p h);
       less = omega (arith, link-low (c .graph .vertices) (getD (x .queues) p []) (λ u m. rep .lined .mine p u m .0), rep .held .laid .within .vertices);
     }
 
@@ -80,11 +80,11 @@ pub head-is : (c : Case) (x : State) (k : Run) (w : List ℤ) (p : ℕ) → Rep 
 head-is c x k w p rep b h e = sym (rep .lined .heads p b) ∙ cell-is (rep .held .heads) p h b e
 
 module _ (c : Case) (x : State) (k : Run) (w : List ℤ) (v : ℕ) (rep : Rep c x k w) (below : v < c .graph .vertices) where
-  pub link-there : Below 502 (getD w (link-at + v) (pos 0))
+  pub link-there : Below (most-vertices + 2) (getD w (link-at + v) (pos 0))
   link-there =
       record {
         number = getD (rep .links) v 0;
-        is = rep .held .links .each v below;
+        is = there (rep .held .links) v below;
         less = omega (arith, links-low c (x .queues) (rep .links) (rep .heads) (rep .tails) v (rep .lined) below, rep .held .laid .within .vertices);
       }
 
@@ -170,12 +170,12 @@ module _ (c : Case) (x : State) (k : Run) (w : List ℤ) (v : ℕ) (rep : Rep c 
         })
 
     -- the last of a queue that is not empty
-    pub tail-there : (h : ℕ) → getD w (head-at + p) (pos 0) ≡ pos h → (h ≡ 1 → ⊥) → Below 500 (getD w (tail-at + p) (pos 0))
+    pub tail-there : (h : ℕ) → getD w (head-at + p) (pos 0) ≡ pos h → (h ≡ 1 → ⊥) → Below most-vertices (getD w (tail-at + p) (pos 0))
     tail-there h head n =
         let hp : getD (rep .heads) p 0 ≡ h = cell-is (rep .held .heads) p h worker-below head in
         record {
           number = getD (rep .tails) p 0;
-          is = rep .held .tails .each p worker-below;
+          is = there (rep .held .tails) p worker-below;
           less = omega (arith, rep .held .laid .within .vertices, last-below c (x .queues) (rep .links) (rep .heads) (rep .tails) p (rep .lined) worker-below (λ e. n (sym hp ∙ e)));
         }
 
@@ -276,7 +276,7 @@ offered x v o e =
     }
 
 module _ (c : Case) (w : List ℤ) (e : ℕ) (laid : Laid c w) (below : e < length (c .graph .edges)) where
-  pub target-there : Below 500 (getD w (to-at + e) (pos 0))
+  pub target-there : Below most-vertices (getD w (to-at + e) (pos 0))
   unfolding edge
   target-there = record { number = edge (c .graph) e .to; is = laid .to-cells .each e below; less = omega (arith, laid .sound .to e below, laid .within .vertices) }
 

@@ -6,36 +6,27 @@ use mathlib.Core.Option.{Option}
 use Prim.Native.Nat.{ℕ, _+_, _≤_, _<_}
 use native.Mathlib.Omega.{arith}
 use lib.ListN.{length, getD, set, length-set}
-use lib.Seq.{getD-set-same, getD-set-other}
 use lib.IntN.{ℤ, pos}
 use Rattle.model.specs.Case.{Case}
 use Rattle.search.specs.Cells.{far, by-more, distance-at, parent-at, link-at, message-at, head-at, tail-at}
 use Rattle.search.specs.Rep.{Laid, Tables, Table, Held}
-use Rattle.search.proofs.Regions.{same-or, region-above}
+use Rattle.search.proofs.Regions.{region-set, region-below, region-above}
 
 module _ {A : Type 0} {code : A → ℤ} {d : A} {base size : ℕ} {l : List A} {w : List ℤ} (t : Table code d base size l w) where
+  pub there : (i : ℕ) → i < size → getD w (base + i) (pos 0) ≡ code (getD l i d)
+  there i h = t .region .each i (omega (arith, t .sized))
+
   -- a store into the table
-  pub table-set : (i : ℕ) (a : A) → i < size → base + size ≤ length w → Table code d base size (set l i a) (set w (base + i) (code a))
-  table-set i a h fits = record { sized = length-set l i a ∙ t .sized; each = λ j g. go j g (same-or j i) }
-    where
-      go : (j : ℕ) → j < size → (j ≡ i) ⊎ (j ≡ i → ⊥) → getD (set w (base + i) (code a)) (base + j) (pos 0) ≡ code (getD (set l i a) j d)
-      go j g (inl e) =
-          let k : base + i < length w = omega arith in
-          let m : i < length l = omega (arith, t .sized) in
-          rw (e, getD-set-same w (base + i) (code a) (pos 0) k, getD-set-same l i a d m)
-      go j g (inr n) =
-          let k : base + j ≡ base + i → ⊥ = λ e. n (omega arith) in
-          rw (getD-set-other w (base + i) (base + j) (code a) (pos 0) k, getD-set-other l i j a d n) (t .each j g)
+  table-set : (i : ℕ) (a : A) → i < size → base + size ≤ length w → Table code d base size (set l i a) (set w (base + i) (code a))
+  table-set i a h fits = record { sized = length-set l i a ∙ t .sized; region = region-set code d base l w i a (t .region) (omega (arith, t .sized)) (omega (arith, t .sized)) }
 
   -- a store elsewhere
-  pub table-kept : (j : ℕ) (z : ℤ) → (j < base) ⊎ (base + size ≤ j) → Table code d base size l (set w j z)
-  table-kept j z (inl h) =
-      record { sized = t .sized; each = λ i g. let k : base + i ≡ j → ⊥ = λ e. omega arith in getD-set-other w j (base + i) z (pos 0) k ∙ t .each i g }
-  table-kept j z (inr h) =
-      record { sized = t .sized; each = λ i g. let k : base + i ≡ j → ⊥ = λ e. omega arith in getD-set-other w j (base + i) z (pos 0) k ∙ t .each i g }
+  table-kept : (j : ℕ) (z : ℤ) → (j < base) ⊎ (base + size ≤ j) → Table code d base size l (set w j z)
+  table-kept j z (inl h) = record { sized = t .sized; region = region-below code d base l w j z (t .region) h }
+  table-kept j z (inr h) = record { sized = t .sized; region = region-above code d base l w j z (t .region) (omega (arith, t .sized)) }
 
 -- the case stays under a store behind it
-pub laid-kept : {c : Case} {w : List ℤ} → Laid c w → (j : ℕ) (z : ℤ) → distance-at ≤ j → Laid c (set w j z)
+laid-kept : {c : Case} {w : List ℤ} → Laid c w → (j : ℕ) (z : ℤ) → distance-at ≤ j → Laid c (set w j z)
 laid-kept {c} {w} r j z h =
     let s = r .sound in
     let l = r .within in

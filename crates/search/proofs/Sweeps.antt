@@ -61,7 +61,7 @@ module _ (c : Case) (x : State) (s t : ℕ) where
         rest = rw (add-one i) (sym (step-range c (t - suc i) i (u .at)) ∙ (rw (j, add-one i) at (u .rest)));
       }
 
-  pub along-is : (i : ℕ) (k : Run) (w : List ℤ) → (u : Along c x s t i k w) → t ≤ i → u .at ≡ acted c (range (t - s) s) x
+  along-is : (i : ℕ) (k : Run) (w : List ℤ) → (u : Along c x s t i k w) → t ≤ i → u .at ≡ acted c (range (t - s) s) x
   along-is i k w u h = let j : t - i ≡ 0 = omega arith in sym (none-range c i (u .at)) ∙ (rw j at (u .rest))
 
   pub along-done : (i : ℕ) (k : Run) (w : List ℤ) → Along c x s t i k w → t ≤ i → Rep c (acted c (range (t - s) s) x) k w
@@ -198,10 +198,10 @@ scan-leaves c v d z f n =
     })
     z refl
 
-pub heads-none : (c : Case) (H : List ℕ) (x : State) → no-message (x .cells) ≡ true → Heads c H 0 x
+heads-none : (c : Case) (H : List ℕ) (x : State) → no-message (x .cells) ≡ true → Heads c H 0 x
 heads-none c H x h f d e = some-not-none (getD (x .cells) f none) d e (no-cell (x .cells) h f)
 
-pub heads-step : (c : Case) (H : List ℕ) (w : ℕ) (y : State) → Paid c y → w < c .workers → w < length H → Heads c H w y
+heads-step : (c : Case) (H : List ℕ) (w : ℕ) (y : State) → Paid c y → w < c .workers → w < length H → Heads c H w y
     → Heads c (set H w (link (getD (y .queues) w []))) (w + 1) (act c w y)
 heads-step c H w y p l m g f d h = go (has-ended y) refl (getD (y .queues) w []) refl
   where
@@ -226,7 +226,7 @@ heads-step c H w y p l m g f d h = go (has-ended y) refl (getD (y .queues) w [])
     go false o [] e = old _ (moved y (act-turn c w y o l ∙ turn-none c y w e))
     go false o (v ∷ q) e = rw e (turned o v q e (same-or u v))
 
-pub heads-only : (c : Case) (H : List ℕ) (w : ℕ) (y : State) → Heads c H w y → Only c H y
+heads-only : (c : Case) (H : List ℕ) (w : ℕ) (y : State) → Heads c H w y → Only c H y
 unfolding Only
 heads-only c H w y g e d h = g e d h .1
 
@@ -255,7 +255,7 @@ turns-done c x p H w k cells u l e =
     (subst (λ (y : State). Rep c y k cells) i (u .along .rep), subst (λ (y : State). Only c H y) i (heads-only c H w (u .along .at) (u .heads)))
 
 -- FIRST EDGES: they rise, and there is one table of them
-pub firsts-le : (g : Graph) (F G : List ℕ) (u v : ℕ) → Firsts g F → Firsts g G → u ≤ v → v ≤ g .vertices → getD F u 0 ≤ getD G v 0
+firsts-le : (g : Graph) (F G : List ℕ) (u v : ℕ) → Firsts g F → Firsts g G → u ≤ v → v ≤ g .vertices → getD F u 0 ≤ getD G v 0
 firsts-le g F G u v f k h l = go (below-or (getD G v 0) (getD F u 0))
   where
     go : (getD G v 0 < getD F u 0) ⊎ (getD F u 0 ≤ getD G v 0) → getD F u 0 ≤ getD G v 0

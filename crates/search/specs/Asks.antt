@@ -218,8 +218,8 @@ unfoldable pub Round-says : (p n : ℕ) → (k k′ : Run) → (w w′ : List �
 Round-says p n k k′ w w′ =
     (c : Case) (x : State) → Rep c x k w → Paid c x → p ≡ c .workers → n ≡ c .graph .vertices → no-message (x .cells) ≡ true → Rep c (acted c (round-acts c) x) k′ w′
 
-unfoldable pub Rounds-do : (many p n : ℕ) → (k k′ : Run) → (w w′ : List ℤ) → Type 0
-Rounds-do many p n k k′ w w′ =
+unfoldable pub Rounds-done : (many p n : ℕ) → (k k′ : Run) → (w w′ : List ℤ) → Type 0
+Rounds-done many p n k k′ w w′ =
     (c : Case) (x : State) → Rep c x k w → Paid c x → p ≡ c .workers → n ≡ c .graph .vertices → no-message (x .cells) ≡ true → Rep c (rounds many c x) k′ w′
 
 pub record By-rounds-asks (p n m : ℕ) (k : Run) (w : List ℤ) : Type 0 where

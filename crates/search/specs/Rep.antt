@@ -48,7 +48,7 @@ pub record Tables : Type 0 where
 -- a table of so many items stands in the cells from a base on, each by its code
 pub record Table {A : Type 0} (code : A → ℤ) (default : A) (base size : ℕ) (l : List A) (w : List ℤ) : Type 0 where
   pub sized : length l ≡ size
-  pub each : (i : ℕ) → i < size → getD w (base + i) (pos 0) ≡ code (getD l i default)
+  pub region : Region code default base l w
 
 -- the tables stand beside the case
 pub record Held (c : Case) (t : Tables) (w : List ℤ) : Type 0 where

@@ -2,7 +2,7 @@
 // a round does every turn, then the deliveries on the edges of these vertices, in number order.
 ghost use Prim.Native.Nat.{ℕ, _≤_, _<_};
 ghost use lib.ListN.{length};
-ghost use Rattle.search.specs.Asks.{Picked, Least, Turns-ask, Turns-say, Edges-ask, Edges-say, Sweep-asks, Sweep-says, Round-asks, Round-says, Rounds-do, By-rounds-asks, By-rounds-says};
+ghost use Rattle.search.specs.Asks.{Picked, Least, Turns-ask, Turns-say, Edges-ask, Edges-say, Sweep-asks, Sweep-says, Round-asks, Round-says, Rounds-done, By-rounds-asks, By-rounds-says};
 use super::cells::Cells;
 use super::cells::load_below;
 use super::run::Run;
@@ -96,7 +96,7 @@ pub(crate) fn round(work: &mut [i32], run: Run, p: usize, n: usize) -> Run
 // Rounds, at most so many, to the end of the run.
 pub(crate) fn rounds(work: &mut [i32], run: Run, many: usize, p: usize, n: usize) -> Run
     requires { ⌜ Round-asks p n run (now work) ⌝ }
-    ensures { λ r. ⌜ Rounds-do many p n run r (now (work .entry)) (now (work .exit)) ⌝ }
+    ensures { λ r. ⌜ Rounds-done many p n run r (now (work .entry)) (now (work .exit)) ⌝ }
 {
     let mut r = run;
     let mut left = many;

@@ -52,7 +52,7 @@ pub(crate) fn lower(a: i32, b: i32) -> bool
 
 // A distance and the length of an edge: lower by the mark of the vertex that the edge leaves.
 pub(crate) fn lowered(d: i32, mark: i32) -> i32
-    requires { ⌜ mag (d -ℤ mark) < 65536 ⌝ }
+    requires { ⌜ mag (d -ℤ mark) < 2 ^ 31 ⌝ }
     ensures { λ r. ⌜ r ≡ d -ℤ mark ⌝ }
 {
     d - mark

@@ -6,7 +6,7 @@ use lib.ListN.{length}
 use Rattle.model.specs.Case.{Case}
 use Rattle.model.specs.Run.{State}
 use Rattle.model.proofs.Few.{Paid}
-use Rattle.search.specs.Asks.{Round-says, Rounds-do}
+use Rattle.search.specs.Asks.{Round-says, Rounds-done}
 use Rattle.search.specs.Rep.{Rep}
 use Rattle.search.proofs.Acts.{over-is}
 use Rattle.search.proofs.Sweeps.{Left, left-start, left-step, left-over, left-done}
@@ -35,7 +35,7 @@ same-length : tie.Need-same-length Inv-loop μ-loop
 same-length c = c .before .before .before .loop .inv .0
 
 returns : tie.Need-returns Inv-loop μ-loop
-unfolding Rounds-do
+unfolding Rounds-done
 returns c = λ q x rep paid w v e.
     let u = c .before .before .before .loop .inv .1 q x rep paid w v e in
     left-over q x _ _ _ _ u (over-is q (u .at) _ _ (u .rep) ∙ sym (c .before .is-over .ensures) ∙ c .if1 .taken)
@@ -73,7 +73,7 @@ same-length-2 : tie.Need-same-length-2 Inv-loop μ-loop
 same-length-2 c = c .before .loop .inv .0
 
 returns-2 : tie.Need-returns-2 Inv-loop μ-loop
-unfolding Rounds-do
+unfolding Rounds-done
 returns-2 c = λ q x rep paid w v e. left-done q x _ _ _ _ (c .before .loop .inv .1 q x rep paid w v e) (c .loop-test .left)
 
 pub rounds-spec : {M : Type 1} → statement M

@@ -1,9 +1,10 @@
+use Rattle.model.specs.Case.{most-vertices, most-edges}
 use Rattle.model.proofs.Few.{fresh-paid}
 use Rattle.model.proofs.Bounds.{most-acts-within}
 use native.Mathlib.Omega.{arith}
 use Rattle.model.specs.Run.{fresh}
 use Rattle.model.proofs.Fits.{A-few}
-use Rattle.search.specs.Asks.{Rounds-do, By-rounds-says}
+use Rattle.search.specs.Asks.{Rounds-done, By-rounds-says}
 use Rattle.search.proofs.Sweeps.{fresh-empty, by-rounds-rep, many-is}
 use borrow.Author.Needs.{needs}
 use Rattle.search.proofs.rounds.run_by_rounds.Statement.{statement}
@@ -23,7 +24,7 @@ mul-many : tie.Need-mul-many
 mul-many c = let s = c .before .pre in
     let l = s .rep .held .laid in
     rw (many-is (s .case) (c .before .args .n) (c .before .args .m) (c .before .args .run .marks) (s .vertices) (s .edges) (s .rep .counted .marks))
-    (record { fits = omega (arith, most-acts-within (s .case) 500 2000 (l .sound) (l .within .vertices) (l .within .edges)) })
+    (record { fits = omega (arith, most-acts-within (s .case) most-vertices most-edges (l .sound) (l .within .vertices) (l .within .edges)) })
 
 rounds-requires : tie.Need-rounds-requires
 rounds-requires c κs = let s = c .before .before .pre in
@@ -41,7 +42,7 @@ same-length : tie.Need-same-length
 same-length c = search needs
 
 returns : tie.Need-returns
-unfolding By-rounds-says Rounds-do
+unfolding By-rounds-says Rounds-done
 returns c = λ q rep w v e.
     by-rounds-rep q _ _ _ (many-is q (c .before .before .before .before .args .n) (c .before .before .before .before .args .m) (c .before .before .before .before .args .run .marks) v e (rep .counted .marks))
     (c .before .rounds .ensures q (fresh q) rep (fresh-paid q (rep .held .laid .sound)) w v (fresh-empty q))

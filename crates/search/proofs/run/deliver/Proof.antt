@@ -14,6 +14,7 @@ use Rattle.model.specs.Run.{State, with-cells, relax}
 use Rattle.search.specs.Asks.{Relax-says, Deliver-says}
 use Rattle.search.specs.Cells.{far}
 use Rattle.search.specs.Rep.{Rep}
+use Rattle.search.proofs.Stores.{there}
 use Rattle.search.proofs.Acts.{count-small, counted-rep, some-there, delivery-none, delivery-some, some-full, cell-emptied}
 use Rattle.search.proofs.Numbers.{none-is, none-test}
 use borrow.Author.Needs.{needs}
@@ -29,7 +30,7 @@ use Rattle.search.proofs.run.relax.Reads as relax-reads
 
 loaded : (c : tie.After-load) (q : Case) (x : State) → Rep q x (c .before .before .args .run) (c .before .before .args .work .now) → c .before .before .args .e < length (q .graph .edges)
     → c .load .result ≡ far (getD (x .cells) (c .before .before .args .e) none)
-loaded c q x rep h = c .load .ensures ∙ rep .held .cells .each (c .before .before .args .e) h
+loaded c q x rep h = c .load .ensures ∙ there (rep .held .cells) (c .before .before .args .e) h
 
 empty : (c : tie.After-lower) (q : Case) (x : State) → Rep q x (c .before .before .before .args .run) (c .before .before .before .args .work .now) → c .before .before .before .args .e < length (q .graph .edges)
     → c .lower .result ≡ ltZ (pos 0) (far (getD (x .cells) (c .before .before .before .args .e) none))

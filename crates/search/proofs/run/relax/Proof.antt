@@ -15,6 +15,7 @@ use Rattle.search.specs.Asks.{Push-says, Relax-says}
 use Rattle.search.specs.Cells.{distance-at}
 use Rattle.search.specs.Rep.{Rep}
 use Rattle.search.proofs.Numbers.{taken-test, stored, floor-test}
+use Rattle.search.proofs.Stores.{there}
 use Rattle.search.proofs.Steps.{offered, target-there, target-is, target-below, relax-offered, relax-kept, relax-taken}
 use borrow.Author.Needs.{needs}
 use Rattle.search.proofs.run.relax.Statement.{statement}
@@ -35,7 +36,7 @@ tested : (c : tie.After-lower) (q : Case) (x : State) (o : ℕ) → Rep q x (c .
 tested c q x o rep h d =
     let v = c .before .before .before .load-below .result in
     taken-test _ _ (c .before .load .result) o _ (c .before .before .before .before .before .fits .d) (record { sfits = c .before .load .ok }) (c .lower .ensures) d
-    (c .before .load .ensures ∙ rep .held .depths .each v (target-below q _ _ (rep .held .laid) h v (c .before .before .before .load-below .ensures .0)))
+    (c .before .load .ensures ∙ there (rep .held .depths) v (target-below q _ _ (rep .held .laid) h v (c .before .before .before .load-below .ensures .0)))
 
 -- the cells after the two stores
 changed : (c : tie.After-store-number) (q : Case) (x : State) (o : ℕ) → Rep q x (c .before .before .before .before .before .before .before .before .before .before .before .args .run) (c .before .before .before .before .before .before .before .before .before .before .before .args .work .now) → c .before .before .before .before .before .before .before .before .before .before .before .args .e < length (q .graph .edges)

@@ -11,6 +11,7 @@ use Rattle.search.specs.Asks.{Send-says}
 use Rattle.search.specs.Cells.{message-at, far}
 use Rattle.search.specs.Rep.{one-if, Rep}
 use Rattle.search.proofs.Numbers.{none-is, some-is, tally-le, one-le, taken-test, stored, none-test}
+use Rattle.search.proofs.Stores.{there}
 use Rattle.search.proofs.Steps.{send-taken, send-kept}
 use borrow.Author.Needs.{needs}
 use Rattle.search.proofs.run.send.Statement.{statement}
@@ -24,7 +25,7 @@ use Rattle.search.proofs.run.lower.Reads as lower-reads
 -- what was loaded is the message's code
 loaded : (c : tie.After-load) (q : Case) (x : State) → Rep q x (c .before .before .args .run) (c .before .before .args .work .now) → c .before .before .args .e < length (q .graph .edges)
     → c .load .result ≡ far (getD (x .cells) (c .before .before .args .e) none)
-loaded c q x rep h = c .load .ensures ∙ rep .held .cells .each (c .before .before .args .e) h
+loaded c q x rep h = c .load .ensures ∙ there (rep .held .cells) (c .before .before .args .e) h
 
 -- the first test says whether the offer is taken
 tested : (c : tie.After-lower) (q : Case) (x : State) (o : ℕ) → Rep q x (c .before .before .before .args .run) (c .before .before .before .args .work .now) → c .before .before .before .args .e < length (q .graph .edges)

@@ -16,6 +16,7 @@ use Rattle.search.specs.Asks.{Pop-says, Scan-says, Turn-says}
 use Rattle.search.specs.Cells.{far}
 use Rattle.search.specs.Rep.{Rep}
 use Rattle.search.proofs.Acts.{depth-low, count-small, scan-count, counted-rep, link-split, link-two, turn-idle, turn-is}
+use Rattle.search.proofs.Stores.{there}
 use Rattle.search.proofs.Steps.{head-there, head-is, head-below}
 use borrow.Author.Needs.{needs}
 use Rattle.search.proofs.run.turn.Statement.{statement}
@@ -45,7 +46,7 @@ read-is : (c : tie.After-load) (q : Case) (x : State) → Rep q x (c .before .be
 read-is c q x rep pw paid =
     let v = c .before .before .before .before .before .before .load-below .result - 2 in
     let s = split (c .before .before .before .before .before) q x rep pw in
-    c .load .ensures ∙ popped (c .before .before .before) q x rep pw .held .depths .each v (head-below q x _ _ _ v (s .0) rep pw (s .1)) ∙ ap far (head-depth q (rep .held .laid .sound) _ v (s .0) x (paid .shape) (s .1))
+    c .load .ensures ∙ there (popped (c .before .before .before) q x rep pw .held .depths) v (head-below q x _ _ _ v (s .0) rep pw (s .1)) ∙ ap far (head-depth q (rep .held .laid .sound) _ v (s .0) x (paid .shape) (s .1))
 
 -- the cells after the scan
 done : (c : tie.After-scan) (q : Case) (x : State) → (rep : Rep q x (c .before .before .before .before .before .before .before .before .before .before .args .run) (c .before .before .before .before .before .before .before .before .before .before .args .work .now)) → (pw : c .before .before .before .before .before .before .before .before .before .before .args .p < q .workers) → Paid q x
