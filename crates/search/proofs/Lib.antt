@@ -8,3 +8,5 @@ pub mod Ranges
 pub mod Acts
 pub mod Fresh
 pub mod Sweeps
+pub mod Frames
+pub mod Cycles

@@ -2,3 +2,4 @@
 pub mod Cells
 pub mod Rep
 pub mod Asks
+pub mod Show

@@ -3,3 +3,4 @@ mod cells;
 mod queue;
 mod rounds;
 mod run;
+mod show;

@@ -1,0 +1,82 @@
+-- Frames: cells that stay, and the lists that stand in them; edges written one before the other. Assumes nothing.
+use mathlib.Core.Path.{_≡_, refl, sym, _∙_}
+use mathlib.Core.List.{List, _∷_}
+use mathlib.Core.Option.{Option}
+use Prim.Native.Nat.{ℕ, zero, suc, _+_, _≤_, _<_}
+use native.Mathlib.Omega.{arith}
+use native.Mathlib.Nat.{add-zero}
+use lib.ListN.{length, getD, set, length-set}
+use lib.Seq.{getD-set-same, getD-set-other}
+use lib.IntN.{ℤ, pos}
+use Rattle.model.specs.Graph.{edge}
+use Rattle.model.specs.Case.{Case}
+use Rattle.search.specs.Cells.{Region, Below, from-at, to-at, distance-at, link-at}
+use Rattle.search.specs.Show.{Drawn, Lies, Kept, Written}
+
+pub kept-same : (top : ℕ) (w : List ℤ) → Kept top w w
+kept-same top w = record { long = refl; same = λ i h. refl }
+
+pub kept-more : (top : ℕ) (u v w : List ℤ) → Kept top u v → Kept top v w → Kept top u w
+kept-more top u v w p q = record { long = q .long ∙ p .long; same = λ i h. q .same i h ∙ p .same i h }
+
+pub kept-less : (top low : ℕ) (v w : List ℤ) → low ≤ top → Kept top v w → Kept low v w
+kept-less top low v w h p = record { long = p .long; same = λ i g. p .same i (omega arith) }
+
+pub kept-set : (top : ℕ) (w : List ℤ) (j : ℕ) (z : ℤ) → top ≤ j → Kept top w (set w j z)
+kept-set top w j z h = record { long = length-set w j z; same = λ i g. let n : i ≡ j → ⊥ = λ e. omega arith in getD-set-other w j i z (pos 0) n }
+
+pub region-kept : {A : Type 0} (enc : A → ℤ) (d : A) (base : ℕ) (l : List A) (top : ℕ) (w v : List ℤ) → Kept top w v → base + length l ≤ top → Region enc d base l w → Region enc d base l v
+region-kept enc d base l top w v k h r = record { each = λ i g. k .same (base + i) (omega arith) ∙ r .each i g }
+
+pub drawn-kept : (c : Case) (top : ℕ) (w v : List ℤ) → distance-at ≤ top → Kept top w v → Drawn c w → Drawn c v
+drawn-kept c top w v h k d = record {
+  sound = d .sound;
+  within = d .within;
+  froms = region-kept _ _ _ _ top w v k (omega (arith, d .within .edges)) (d .froms);
+  tos = region-kept _ _ _ _ top w v k (omega (arith, d .within .edges)) (d .tos);
+  long = omega (arith, k .long, d .long);
+}
+
+pub lies-kept : (c : Case) (ps : List (Option ℕ)) (top : ℕ) (w v : List ℤ) → link-at ≤ top → Kept top w v → Lies c ps w → Lies c ps v
+lies-kept c ps top w v h k l = record {
+  drawn = drawn-kept c top w v (omega arith) k (l .drawn);
+  parents = region-kept _ _ _ _ top w v k (omega (arith, l .sized, l .drawn .within .vertices)) (l .parents);
+  sized = l .sized;
+  real = l .real;
+}
+
+-- one more in front
+region-cons : (at e : ℕ) (es : List ℕ) (w : List ℤ) → Region pos 0 (suc at) es w → at < length w → Region pos 0 at (e ∷ es) (set w at (pos e))
+region-cons at e es w r h = record { each = go }
+  where
+    go : (i : ℕ) → i < length (e ∷ es) → getD (set w at (pos e)) (at + i) (pos 0) ≡ pos (getD (e ∷ es) i 0)
+    go zero g = rw (add-zero at) (getD-set-same w at (pos e) (pos 0) h)
+    go (suc i) g =
+        let n : at + suc i ≡ at → ⊥ = λ e. omega arith in
+        let q : at + suc i ≡ suc at + i = omega arith in
+        getD-set-other w at (at + suc i) (pos e) (pos 0) n ∙ rw q (r .each i (omega arith))
+
+pub written-cons : (c : Case) (e at end : ℕ) (es : List ℕ) (w : List ℤ) → Written c es (suc at) end w → e < length (c .graph .edges) → at < length w → Written c (e ∷ es) at end (set w at (pos e))
+written-cons c e at end es w r h g = record { region = region-cons at e es w (r .region) g; ends = omega (arith, r .ends); small = small }
+  where
+    small : (i : ℕ) → i < length (e ∷ es) → getD (e ∷ es) i 0 < length (c .graph .edges)
+    small zero g = h
+    small (suc i) g = r .small i (omega arith)
+
+-- loads of an edge's ends
+module _ (c : Case) (w : List ℤ) (e : ℕ) (d : Drawn c w) (h : e < length (c .graph .edges)) where
+  pub from-there : Below 500 (getD w (from-at + e) (pos 0))
+  unfolding edge
+  from-there = record { number = edge (c .graph) e .from; is = d .froms .each e h; less = omega (arith, d .sound .from e h, d .within .vertices) }
+
+  pub to-there : Below 500 (getD w (to-at + e) (pos 0))
+  unfolding edge
+  to-there = record { number = edge (c .graph) e .to; is = d .tos .each e h; less = omega (arith, d .sound .to e h, d .within .vertices) }
+
+  pub from-is : (r : ℕ) → getD w (from-at + e) (pos 0) ≡ pos r → r ≡ edge (c .graph) e .from
+  unfolding edge
+  from-is r q = let z : pos r ≡ pos (edge (c .graph) e .from) = sym q ∙ d .froms .each e h in cc
+
+  pub to-is : (r : ℕ) → getD w (to-at + e) (pos 0) ≡ pos r → r ≡ edge (c .graph) e .to
+  unfolding edge
+  to-is r q = let z : pos r ≡ pos (edge (c .graph) e .to) = sym q ∙ d .tos .each e h in cc
