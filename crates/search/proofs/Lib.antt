@@ -10,3 +10,4 @@ pub mod Fresh
 pub mod Sweeps
 pub mod Frames
 pub mod Cycles
+pub mod Search
