@@ -18,7 +18,7 @@ use Rattle.model.proofs.Loops.{Alive, alive-parent, back-alive}
 use Rattle.search.specs.Cells.{Below, parent-at, cycle-at, cells-end}
 use Rattle.search.specs.Show.{Lies, Chained, Written, Circling}
 use Rattle.search.proofs.Regions.{below-or}
-use Rattle.search.proofs.Frames.{kept-set, lies-kept, written-cons}
+use Rattle.search.proofs.Frames.{kept-set, lies-kept, written-none, written-cons}
 
 -- what the model knows of a broken floor: the parents never end
 pub alive-chained : (g : Graph) (ps : List (Option ℕ)) (v : ℕ) → Alive g ps v → Chained g ps v
@@ -74,7 +74,7 @@ circling-start c ps s n w l f = record {
   so-far = [];
   rest = refl;
   chained = f;
-  written = record { region = record { each = λ i g. absurd (omega arith) }; ends = refl; small = λ i g. absurd (omega arith) };
+  written = written-none c cells-end w;
   lies = l;
 }
 

@@ -1,17 +1,19 @@
 -- Frames: cells that stay, and the lists that stand in them; edges written one before the other. Assumes nothing.
 use mathlib.Core.Path.{_≡_, refl, sym, _∙_}
-use mathlib.Core.List.{List, _∷_}
+use mathlib.Core.List.{List, [], _∷_, _++_}
+use mathlib.Core.Logic.{_⊎_, inl, inr}
 use mathlib.Core.Option.{Option}
 use Prim.Native.Nat.{ℕ, zero, suc, _+_, _≤_, _<_}
 use native.Mathlib.Omega.{arith}
 use native.Mathlib.Nat.{add-zero}
-use lib.ListN.{length, getD, set, length-set}
-use lib.Seq.{getD-set-same, getD-set-other}
+use lib.ListN.{length, getD, set, length-set, length-append, List·getD-append}
+use lib.Seq.{getD-set-same, getD-set-other, getD-append-seam}
 use lib.IntN.{ℤ, pos}
 use Rattle.model.specs.Graph.{edge}
 use Rattle.model.specs.Case.{Case}
-use Rattle.search.specs.Cells.{Region, Below, from-at, to-at, distance-at, link-at}
-use Rattle.search.specs.Show.{Drawn, Lies, Kept, Written}
+use Rattle.search.specs.Cells.{Region, Below, Filled, from-at, to-at, distance-at, link-at}
+use Rattle.search.specs.Show.{Drawn, Lies, Laid, Kept, Written}
+use Rattle.search.proofs.Regions.{same-or}
 
 pub kept-same : (top : ℕ) (w : List ℤ) → Kept top w w
 kept-same top w = record { long = refl; same = λ i h. refl }
@@ -21,6 +23,12 @@ kept-more top u v w p q = record { long = q .long ∙ p .long; same = λ i h. q 
 
 pub kept-less : (top low : ℕ) (v w : List ℤ) → low ≤ top → Kept top v w → Kept low v w
 kept-less top low v w h p = record { long = p .long; same = λ i g. p .same i (omega arith) }
+
+pub kept-back : (top : ℕ) (v w : List ℤ) → Kept top v w → Kept top w v
+kept-back top v w p = record { long = sym (p .long); same = λ i g. sym (p .same i g) }
+
+pub kept-filled : (top base count : ℕ) (z : ℤ) (w v : List ℤ) → Filled base count z w v → top ≤ base → Kept top w v
+kept-filled top base count z w v f h = record { long = f .long; same = λ i g. f .before i (omega arith) }
 
 pub kept-set : (top : ℕ) (w : List ℤ) (j : ℕ) (z : ℤ) → top ≤ j → Kept top w (set w j z)
 kept-set top w j z h = record { long = length-set w j z; same = λ i g. let n : i ≡ j → ⊥ = λ e. omega arith in getD-set-other w j i z (pos 0) n }
@@ -35,6 +43,14 @@ drawn-kept c top w v h k d = record {
   froms = region-kept _ _ _ _ top w v k (omega (arith, d .within .edges)) (d .froms);
   tos = region-kept _ _ _ _ top w v k (omega (arith, d .within .edges)) (d .tos);
   long = omega (arith, k .long, d .long);
+}
+
+pub laid-kept : (c : Case) (top : ℕ) (w v : List ℤ) → distance-at ≤ top → Kept top w v → Laid c w → Laid c v
+laid-kept c top w v h k l = record {
+  drawn = drawn-kept c top w v h k (l .drawn);
+  list = l .list;
+  firsts = l .firsts;
+  region = region-kept _ _ _ _ top w v k (omega (arith, l .firsts .sized, l .drawn .within .vertices)) (l .region);
 }
 
 pub lies-kept : (c : Case) (ps : List (Option ℕ)) (top : ℕ) (w v : List ℤ) → link-at ≤ top → Kept top w v → Lies c ps w → Lies c ps v
@@ -62,6 +78,23 @@ written-cons c e at end es w r h g = record { region = region-cons at e es w (r 
     small : (i : ℕ) → i < length (e ∷ es) → getD (e ∷ es) i 0 < length (c .graph .edges)
     small zero g = h
     small (suc i) g = r .small i (omega arith)
+
+pub written-none : (c : Case) (end : ℕ) (w : List ℤ) → Written c [] end end w
+written-none c end w = record { region = record { each = λ i g. absurd (omega arith) }; ends = omega arith; small = λ i g. absurd (omega arith) }
+
+pub written-kept : (c : Case) (es : List ℕ) (at end top : ℕ) (w v : List ℤ) → Kept top w v → end ≤ top → Written c es at end w → Written c es at end v
+written-kept c es at end top w v k h r = record { region = region-kept pos 0 at es top w v k (omega (arith, r .ends)) (r .region); ends = r .ends; small = r .small }
+
+-- one more at the end
+pub region-snoc : {A : Type 0} (enc : A → ℤ) (d : A) (base : ℕ) (l : List A) (w : List ℤ) (at : ℕ) (a : A) → Region enc d base l w → base + length l ≡ at → at < length w → Region enc d base (l ++ (a ∷ [])) (set w at (enc a))
+region-snoc {A} enc d base l w at a r q h = record { each = λ i g. go i (omega (arith, length-append l (a ∷ []))) (same-or i (length l)) }
+  where
+    go : (i : ℕ) → i < length l + 1 → (i ≡ length l) ⊎ (i ≡ length l → ⊥) → getD (set w at (enc a)) (base + i) (pos 0) ≡ enc (getD (l ++ (a ∷ [])) i d)
+    go i g (inl z) = rw (z, getD-append-seam l a [] d, q) (getD-set-same w at (enc a) (pos 0) h)
+    go i g (inr n) =
+        let m : base + i ≡ at → ⊥ = λ z. n (omega arith) in
+        let j : i < length l = omega (arith, n) in
+        getD-set-other w at (base + i) (enc a) (pos 0) m ∙ r .each i j ∙ rw (List·getD-append l (a ∷ []) d i j) refl
 
 -- loads of an edge's ends
 module _ (c : Case) (w : List ℤ) (e : ℕ) (d : Drawn c w) (h : e < length (c .graph .edges)) where

@@ -189,11 +189,17 @@ pub record Scannable (head tail : ℕ) (w : List ℤ) : Type 0 where
 unfoldable pub Scans : (head tail r : ℕ) → (w w′ : List ℤ) → Type 0
 Scans head tail r w w′ = Kept found-at w w′ × ((c : Case) → Laid c w → Searching c head 0 tail w → head < tail → Searching c (head + 1) 0 r w′)
 
-pub record Searchable (source goal n : ℕ) (w : List ℤ) : Type 0 where
+pub record Startable (source n : ℕ) (w : List ℤ) : Type 0 where
   pub case : Case
   pub laid : Laid case w
   pub source-is : source ≡ case .graph .source
   pub vertices : n ≡ case .graph .vertices
+
+unfoldable pub Started : (source n : ℕ) → (w w′ : List ℤ) → Type 0
+Started source n w w′ = Kept found-at w w′ × ((c : Case) → Laid c w → source ≡ c .graph .source → n ≡ c .graph .vertices → Searching c 0 0 1 w′)
+
+pub record Searchable (source goal n : ℕ) (w : List ℤ) : Type 0 where
+  pub start : Startable source n w
   pub goal-below : goal < n
 
 unfoldable pub Searched : (source goal n : ℕ) → (w w′ : List ℤ) → Type 0

@@ -3,7 +3,9 @@
 ghost use Prim.Native.Nat.{_≤_};
 ghost use Rattle.model.specs.Case.{most-vertices};
 ghost use Rattle.search.specs.Show.{Backable, Parent-is, One-back-is, Backed, Cycled};
+ghost use Rattle.search.specs.Show.{Triable, Tried, Scannable, Scans, Startable, Started, Searchable, Searched, Stemmable, Stem-taken};
 use crate::cells::Cells;
+use crate::cells::fill;
 use crate::cells::load_below;
 use crate::cells::store_number;
 use casefile::Case;
@@ -58,6 +60,82 @@ pub(crate) fn take_cycle(work: &mut [i32], start: usize, n: usize) -> usize
         if v == start {
             left = 0;
         }
+    }
+    at
+}
+
+// One edge of the vertex that is scanned: if its end is not found yet, it is now, and joins the queue. The queue's new end.
+pub(crate) fn try_edge(work: &mut [i32], e: usize, tail: usize) -> usize
+    requires { ⌜ Triable e tail (now work) ⌝ }
+    ensures { λ r. ⌜ Tried e tail r (now (work .entry)) (now (work .exit)) ⌝ }
+{
+    let v = load_below(work, Cells::TO + e, Case::MOST_VERTICES);
+    let mark = load_below(work, Cells::FOUND + v, Case::MOST_EDGES + 2);
+    if mark != 0 {
+        return tail;
+    }
+    store_number(work, Cells::FOUND + v, e + 2);
+    store_number(work, Cells::QUEUE + tail, v);
+    tail + 1
+}
+
+// All edges of the vertex at the queue's head, in number order. The queue's new end.
+pub(crate) fn scan_head(work: &mut [i32], head: usize, tail: usize) -> usize
+    requires { ⌜ Scannable head tail (now work) ⌝ }
+    ensures { λ r. ⌜ Scans head tail r (now (work .entry)) (now (work .exit)) ⌝ }
+{
+    let v = load_below(work, Cells::QUEUE + head, Case::MOST_VERTICES);
+    let end = load_below(work, Cells::FIRST + v + 1, Case::MOST_EDGES + 1);
+    let mut e = load_below(work, Cells::FIRST + v, Case::MOST_EDGES + 1);
+    let mut last = tail;
+    while e < end {
+        last = try_edge(work, e, last);
+        e += 1;
+    }
+    last
+}
+
+// The search's start: the source alone is found.
+pub(crate) fn start_search(work: &mut [i32], source: usize, n: usize)
+    requires { ⌜ Startable source n (now work) ⌝ }
+    ensures { λ r. ⌜ Started source n (now (work .entry)) (now (work .exit)) ⌝ }
+{
+    fill(work, Cells::FOUND, n, 0);
+    store_number(work, Cells::FOUND + source, 1);
+    store_number(work, Cells::QUEUE, source);
+}
+
+// Breadth first from the source, until the goal is found.
+pub(crate) fn find_stem(work: &mut [i32], source: usize, goal: usize, n: usize)
+    requires { ⌜ Searchable source goal n (now work) ⌝ }
+    ensures { λ r. ⌜ Searched source goal n (now (work .entry)) (now (work .exit)) ⌝ }
+{
+    start_search(work, source, n);
+    let mut head: usize = 0;
+    let mut tail: usize = 1;
+    while head < tail {
+        if load_below(work, Cells::FOUND + goal, Case::MOST_EDGES + 2) != 0 {
+            return;
+        }
+        tail = scan_head(work, head, tail);
+        head += 1;
+    }
+}
+
+// Back from the goal by the edges that found, written forwards so that the last one stands in the last cell of their
+// region: the first one's cell.
+pub(crate) fn take_stem(work: &mut [i32], goal: usize) -> usize
+    requires { ⌜ Stemmable goal (now work) ⌝ }
+    ensures { λ r. ⌜ Stem-taken goal r (now (work .entry)) (now (work .exit)) ⌝ }
+{
+    let mut at: usize = Cells::CYCLE;
+    let mut mark = load_below(work, Cells::FOUND + goal, Case::MOST_EDGES + 2);
+    while mark > 1 {
+        let e = mark - 2;
+        let v = load_below(work, Cells::FROM + e, Case::MOST_VERTICES);
+        mark = load_below(work, Cells::FOUND + v, Case::MOST_EDGES + 2);
+        at -= 1;
+        store_number(work, at, e);
     }
     at
 }

@@ -1,0 +1,131 @@
+-- `scan_head` meets its contract. The invariant: the edges below e of the vertex at the head are scanned.
+use mathlib.Core.Path.{_≡_}
+use Prim.Native.Nat.{_-_, _≤_, _<_}
+use native.Mathlib.Omega.{arith}
+use borrow.Author.Needs.{needs}
+use lib.ListN.{length}
+use Rattle.model.specs.Graph.{edge as edge-of}
+use Rattle.model.specs.Case.{Case}
+use Rattle.search.specs.Cells.{found-at}
+use Rattle.search.specs.Show.{Laid, Kept, Searching, Scanning, Tried, Scans}
+use Rattle.search.proofs.Frames.{kept-same, kept-more, laid-kept}
+use Rattle.search.proofs.Search.{head-there, first-there, next-there, scan-start, scan-edge, scan-done}
+use Rattle.search.proofs.show.scan_head.Statement.{statement}
+use Rattle.search.proofs.show.scan_head.Tie as tie
+
+abbrev Inv-loop : tie.InvT-loop
+Inv-loop work₀ head tail v end e₀ last₀ work e last =
+    (e₀ ≤ e) × Kept found-at work₀ work × ((c : Case) → Laid c work₀ → Searching c head 0 tail work₀ → head < tail → Scanning c head v e last work)
+
+abbrev μ-loop : tie.MeasureT-loop
+μ-loop work₀ head tail v end e₀ last₀ work e last = end - e
+
+add-load-below : tie.Need-add-load-below Inv-loop μ-loop
+add-load-below c = let s = c .before .pre in omega (arith, head-there _ _ _ _ (s .laid) (s .search) (s .on) .0)
+
+load-below-requires : tie.Need-load-below-requires Inv-loop μ-loop
+load-below-requires c κs =
+    let s = c .before .pre in
+    let h = head-there _ _ _ _ (s .laid) (s .search) (s .on) in
+    (omega (arith, h .0, s .laid .drawn .long), h .1)
+
+add-load-below-2 : tie.Need-add-load-below-2 Inv-loop μ-loop
+add-load-below-2 c = omega (arith, c .before .load-below .ensures .1)
+
+add-load-below-3 : tie.Need-add-load-below-3 Inv-loop μ-loop
+add-load-below-3 c = omega (arith, c .before .load-below .ensures .1)
+
+add-load-below-4 : tie.Need-add-load-below-4 Inv-loop μ-loop
+add-load-below-4 c = search needs
+
+load-below-requires-2 : tie.Need-load-below-requires-2 Inv-loop μ-loop
+load-below-requires-2 c κs =
+    let s = c .before .before .before .pre in
+    let a = c .before .load-below .ensures in
+    (omega (arith, a .1, s .laid .drawn .long), next-there _ _ _ _ (s .laid) (s .search) (s .on) _ (a .0))
+
+add-load-below-5 : tie.Need-add-load-below-5 Inv-loop μ-loop
+add-load-below-5 c = omega (arith, c .before .before .before .load-below .ensures .1)
+
+add-load-below-6 : tie.Need-add-load-below-6 Inv-loop μ-loop
+add-load-below-6 c = search needs
+
+load-below-requires-3 : tie.Need-load-below-requires-3 Inv-loop μ-loop
+load-below-requires-3 c κs =
+    let s = c .before .before .before .before .before .pre in
+    let a = c .before .before .before .load-below .ensures in
+    (omega (arith, a .1, s .laid .drawn .long), first-there _ _ _ _ (s .laid) (s .search) (s .on) _ (a .0))
+
+loop-holds : tie.Need-loop-holds Inv-loop μ-loop
+loop-holds c =
+    let a = c .before .before .before .before .load-below .ensures in
+    (omega arith, kept-same _ _, λ q l s i. scan-start q _ _ _ l s i _ (a .0) _ _ (c .load-below3 .ensures .0) (c .before .before .load-below2 .ensures .0))
+
+edge : (c : tie.In-loop Inv-loop μ-loop) →
+    let s = c .before .before .before .before .before .before .before .before in
+    (q : Case) → Laid q (s .args .work .now) → Searching q (s .args .head) 0 (s .args .tail) (s .args .work .now) → s .args .head < s .args .tail →
+    (c .before .loop .e < length (q .graph .edges)) × (edge-of (q .graph) (c .before .loop .e) .from ≡ c .before .before .before .before .before .before .load-below .result)
+edge c q l s i =
+    let a = c .before .before .before .before .before .before .load-below .ensures in
+    scan-edge q _ _ _ l s i _ (a .0) _ _ (c .before .before .load-below3 .ensures .0) (c .before .before .before .before .load-below2 .ensures .0) _ (c .before .loop .inv .0) (c .loop-test .taken)
+
+try-edge-requires : tie.Need-try-edge-requires Inv-loop μ-loop
+try-edge-requires c κs =
+    let s = c .before .before .before .before .before .before .before .before .before .pre in
+    let i = c .before .before .loop .inv in
+    let b = edge (c .before) (s .case) (s .laid) (s .search) (s .on) in
+    record {
+      case = s .case;
+      head = _;
+      vertex = _;
+      drawn = laid-kept _ found-at _ _ (omega arith) (i .1) (s .laid) .drawn;
+      scanning = i .2 _ (s .laid) (s .search) (s .on);
+      below = b .0;
+      leaves = b .1;
+    }
+
+add-e : tie.Need-add-e Inv-loop μ-loop
+add-e c = omega arith
+
+loop-less : tie.Need-loop-less Inv-loop μ-loop
+loop-less c = omega arith
+
+loop-again : tie.Need-loop-again Inv-loop μ-loop
+unfolding Tried
+loop-again c =
+    let i = c .before .before .before .before .loop .inv in
+    let t = c .before .try-edge .ensures in
+    (omega (arith, i .0), kept-more _ _ _ _ (i .1) (t .0), λ q l s h. let b = edge (c .before .before .before) q l s h in t .1 q _ _ (laid-kept q found-at _ _ (omega arith) (i .1) l .drawn) (i .2 q l s h) (b .0) (b .1))
+
+same-length : tie.Need-same-length Inv-loop μ-loop
+same-length c = c .before .loop .inv .1 .long
+
+returns : tie.Need-returns Inv-loop μ-loop
+unfolding Scans
+returns c =
+    let a = c .before .before .before .before .before .before .load-below .ensures in
+    let i = c .before .loop .inv in
+    (i .1, λ q l s h. scan-done q _ _ _ l s h _ (a .0) _ _ (c .before .before .load-below3 .ensures .0) (c .before .before .before .before .load-below2 .ensures .0) _ _ _ (i .2 q l s h) (omega arith))
+
+pub scan-head-spec : {M : Type 1} → statement M
+scan-head-spec =
+    tie.close
+    (tie.spec
+    Inv-loop
+    μ-loop
+    add-load-below
+    load-below-requires
+    add-load-below-2
+    add-load-below-3
+    add-load-below-4
+    load-below-requires-2
+    add-load-below-5
+    add-load-below-6
+    load-below-requires-3
+    loop-holds
+    try-edge-requires
+    add-e
+    loop-less
+    loop-again
+    same-length
+    returns)
