@@ -11,12 +11,15 @@ use lib.Dec.{eqb}
 use lib.ListN.{length, getD, set}
 use lib.IntN.{ℤ, pos}
 use Rattle.model.specs.Graph.{Graph, edge}
-use Rattle.model.specs.Case.{Case}
+use Rattle.model.specs.Case.{Case, most-edges}
 use Rattle.model.specs.Answer.{one-back, back, with-parent, cycle-start, cycle-from, cycle}
 use Rattle.model.proofs.Tools.{getD-out, some-not-none}
-use Rattle.model.proofs.Loops.{Alive, alive-parent, back-alive}
+use Rattle.model.specs.Run.{State}
+use Rattle.model.proofs.Trace.{Trace}
+use Rattle.model.proofs.Walked.{Walked}
+use Rattle.model.proofs.Loops.{Alive, alive-parent, back-alive, broken-alive, start-depth}
 use Rattle.search.specs.Cells.{Below, parent-at, cycle-at, cells-end}
-use Rattle.search.specs.Show.{Lies, Chained, Written, Circling}
+use Rattle.search.specs.Show.{Lies, Chained, Written, Circling, Broke}
 use Rattle.search.proofs.Regions.{below-or}
 use Rattle.search.proofs.Frames.{kept-set, lies-kept, written-none, written-cons}
 
@@ -47,7 +50,7 @@ module _ (c : Case) (ps : List (Option ℕ)) (v : ℕ) (w : List ℤ) (l : Lies 
   parent-cell : (e : ℕ) → getD ps v none ≡ some e → getD w (parent-at + v) (pos 0) ≡ pos (suc e)
   parent-cell e h = l .parents .each v (omega (arith, l .sized, chained-below)) ∙ rw h refl
 
-  pub parent-there : Below 2001 (getD w (parent-at + v) (pos 0))
+  pub parent-there : Below (most-edges + 1) (getD w (parent-at + v) (pos 0))
   parent-there =
       let p = chained-here (c .graph) ps v f in
       record { number = suc (p .0); is = parent-cell (p .0) (p .1); less = omega (arith, l .real v (p .0) (p .1), l .drawn .within .edges) }
@@ -114,3 +117,17 @@ circling-done c ps s n v at b w r p q =
     let e : r .so-far ≡ cycle-from n (c .graph) ps s s [] = sym (cycle-end (c .graph) ps s v (r .so-far)) ∙ r .rest in
     let f = ap (λ (k : ℕ). cycle-from k (c .graph) ps s s []) q ∙ ap (λ (u : ℕ). cycle-from (c .graph .vertices) (c .graph) ps u u []) p in
     subst (λ (es : List ℕ). Written c es at cells-end w) (e ∙ f) (r .written)
+
+pub start-is : (g : Graph) (ps : List (Option ℕ)) (b n r : ℕ) → r ≡ back n g ps b → n ≡ g .vertices → r ≡ cycle-start g ps b
+unfolding cycle-start
+start-is g ps b n r p q = p ∙ ap (λ (k : ℕ). back k g ps b) q
+
+-- every run that breaks the floor is such a one
+pub run-broke : (c : Case) (x : State) → Trace c x → Walked c x → (b : ℕ) → x .broken ≡ some b → Broke c (x .parents) b
+run-broke c x t w b h =
+    let d = start-depth c x (t .t) (t .T) (t .traced) b h in
+    let y = w .depths (cycle-start (c .graph) (x .parents) b) (d .0) (d .1) in
+    record { chained = alive-chained (c .graph) (x .parents) b (broken-alive c x (t .t) (t .T) (t .traced) b h); walk = y .edges; reaches = y .reaches }
+
+pub run-real : (c : Case) (x : State) → Trace c x → (v e : ℕ) → getD (x .parents) v none ≡ some e → e < length (c .graph .edges)
+run-real c x t v e h = t .traced .parent v e h .below

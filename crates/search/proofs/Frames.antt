@@ -10,7 +10,7 @@ use lib.ListN.{length, getD, set, length-set, length-append, List·getD-append}
 use lib.Seq.{getD-set-same, getD-set-other, getD-append-seam}
 use lib.IntN.{ℤ, pos}
 use Rattle.model.specs.Graph.{edge}
-use Rattle.model.specs.Case.{Case}
+use Rattle.model.specs.Case.{Case, most-vertices}
 use Rattle.search.specs.Cells.{Region, Below, Filled, from-at, to-at, distance-at, link-at}
 use Rattle.search.specs.Show.{Drawn, Lies, Laid, Kept, Written}
 use Rattle.search.proofs.Regions.{same-or}
@@ -98,11 +98,11 @@ region-snoc {A} enc d base l w at a r q h = record { each = λ i g. go i (omega 
 
 -- loads of an edge's ends
 module _ (c : Case) (w : List ℤ) (e : ℕ) (d : Drawn c w) (h : e < length (c .graph .edges)) where
-  pub from-there : Below 500 (getD w (from-at + e) (pos 0))
+  pub from-there : Below most-vertices (getD w (from-at + e) (pos 0))
   unfolding edge
   from-there = record { number = edge (c .graph) e .from; is = d .froms .each e h; less = omega (arith, d .sound .from e h, d .within .vertices) }
 
-  pub to-there : Below 500 (getD w (to-at + e) (pos 0))
+  pub to-there : Below most-vertices (getD w (to-at + e) (pos 0))
   unfolding edge
   to-there = record { number = edge (c .graph) e .to; is = d .tos .each e h; less = omega (arith, d .sound .to e h, d .within .vertices) }
 

@@ -3,12 +3,12 @@ use mathlib.Core.Path.{_≡_, refl, sym, ap, subst, _∙_}
 use mathlib.Core.Bool.{true}
 use mathlib.Core.List.{List, [], _∷_, _++_, append-nil}
 use mathlib.Core.Logic.{_⊎_, inl, inr}
-use Prim.Native.Nat.{ℕ, zero, suc, _+_, _-_, _≤_, _<_}
+use Prim.Native.Nat.{ℕ, suc, _+_, _-_, _≤_, _<_}
 use native.Mathlib.Omega.{arith}
 use lib.ListN.{length, getD, set, replicate, length-append, length-set, length-replicate, getD-replicate, List·getD-append}
 use lib.Seq.{append-snoc, getD-set-same, getD-set-other, getD-append-seam}
 use lib.IntN.{ℤ, pos}
-use Rattle.model.specs.Case.{Case, Sound}
+use Rattle.model.specs.Case.{Case, Sound, most-vertices, most-edges}
 use Rattle.model.specs.Graph.{Graph, edge, is-walk, walk-end, Reaches, Lex, Fewest}
 use Rattle.model.proofs.Walks.{Steps, steps, walk-snoc, ends-snoc}
 use Rattle.model.proofs.Stems.{fewest-one, stem-fewest, stem-short}
@@ -168,24 +168,12 @@ module _ (g : Graph) (ts : List (List ℕ)) (ms : List ℕ) (r : Tree g ts ms) w
       go (at-source p q) = let y : tip g (getD ts j []) ≡ g .source = rw p (unfold walk-end in refl) in omega (arith, rw y at z)
       go (by-edge i e l b f p q) = let y : tip g (getD ts j []) ≡ edge g e .to = rw p (ends-snoc g (g .source) (getD ts i []) e) in omega (arith, rw y at z)
 
-  pub found-at-all : (v : ℕ) → (getD ms v 0 ≡ 0 → ⊥) → (j : ℕ) × (j < length ts) × (tip g (getD ts j []) ≡ v)
-  found-at-all v n = go (r .known v)
+  pub found-by : (v : ℕ) → (getD ms v 0 ≡ 0 → ⊥) → (j : ℕ) × (j < length ts) × (tip g (getD ts j []) ≡ v)
+  found-by v n = go (r .known v)
     where
       go : (getD ms v 0 ≡ 0) ⊎ ((j : ℕ) × (j < length ts) × (tip g (getD ts j []) ≡ v)) → (j : ℕ) × (j < length ts) × (tip g (getD ts j []) ≡ v)
       go (inl z) = absurd (n z)
       go (inr x) = x
-
-  -- a walk is no longer than its number
-  short-by : (j : ℕ) → Made g ts ms j → ((i : ℕ) → i < j → length (getD ts i []) ≤ i) → length (getD ts j []) ≤ j
-  short-by j (at-source p q) f = rw p (omega arith)
-  short-by j (by-edge i e l c b p q) f = rw p (omega (arith, long-snoc (getD ts i []) e, f i l))
-
-  short-below : (k j : ℕ) → j < k → j < length ts → length (getD ts j []) ≤ j
-  short-below zero j b h = absurd (omega arith)
-  short-below (suc k) j b h = short-by j (r .made j h) (λ i l. short-below k i (omega arith) (omega arith))
-
-  pub walk-short : (j : ℕ) → j < length ts → length (getD ts j []) ≤ j
-  walk-short j h = short-below (suc j) j (omega arith) h
 
   -- no vertex is found twice, so no more walks than vertices
   tips-differ : (i j : ℕ) → i < j → j < length ts → tip g (getD ts i []) ≡ tip g (getD ts j []) → ⊥
@@ -200,7 +188,7 @@ module _ (g : Graph) (ts : List (List ℕ)) (ms : List ℕ) (r : Tree g ts ms) w
     cover : (j : ℕ) (es : List ℕ) → j < length ts → is-walk g (tip g (getD ts j [])) es ≡ true → (h < length ts → Less (getD ts j [] ++ es) (getD ts h [] ++ (e ∷ []))) →
         (k : ℕ) × (k < length ts) × (tip g (getD ts k []) ≡ walk-end g (tip g (getD ts j [])) es)
     cover j [] b w l = (j, b, unfold walk-end in refl)
-    cover j (f ∷ es) b w l = go (found-at-all (edge g f .to) (led (same-or j h) (below-or j h))) (λ k b w l. cover k es b w l)
+    cover j (f ∷ es) b w l = go (found-by (edge g f .to) (led (same-or j h) (below-or j h))) (λ k b w l. cover k es b w l)
       where
         st : Steps g (tip g (getD ts j [])) f es
         st = steps g (tip g (getD ts j [])) f es w
@@ -446,7 +434,7 @@ module _ (c : Case) (ts : List (List ℕ)) (ms : List ℕ) (w : List ℤ) (d : D
       go (inl z) = omega (arith, z)
       go (inr x) = by (x .0) (x .2) (s .tree .made (x .0) (x .1))
 
-  pub mark-there : (v : ℕ) → v < c .graph .vertices → Below 2002 (getD w (found-at + v) (pos 0))
+  pub mark-there : (v : ℕ) → v < c .graph .vertices → Below (most-edges + 2) (getD w (found-at + v) (pos 0))
   mark-there v h = record { number = getD ms v 0; is = s .marks .each v (omega (arith, s .tree .sized)); less = omega (arith, mark-small v, d .within .edges) }
 
   pub mark-is : (v r : ℕ) → v < c .graph .vertices → getD w (found-at + v) (pos 0) ≡ pos r → r ≡ getD ms v 0
@@ -455,7 +443,7 @@ module _ (c : Case) (ts : List (List ℕ)) (ms : List ℕ) (w : List ℤ) (d : D
   tip-low : (j : ℕ) → j < length ts → tip (c .graph) (getD ts j []) < c .graph .vertices
   tip-low j h = reach-low c (d .sound) _ (getD ts j []) (s .tree .fewest j h .reaches)
 
-  pub queue-there : (j : ℕ) → j < length ts → Below 500 (getD w (queue-at + j) (pos 0))
+  pub queue-there : (j : ℕ) → j < length ts → Below most-vertices (getD w (queue-at + j) (pos 0))
   queue-there j h = record { number = tip (c .graph) (getD ts j []); is = s .queue .each j h; less = omega (arith, tip-low j h, d .within .vertices) }
 
   pub queue-is : (j r : ℕ) → j < length ts → getD w (queue-at + j) (pos 0) ≡ pos r → tip (c .graph) (getD ts j []) ≡ r
@@ -466,7 +454,7 @@ module _ (c : Case) (h v e tail : ℕ) (w : List ℤ) (d : Drawn c w) (s : Scann
   end-is : u ≡ edge (c .graph) e .to
   end-is = to-is c w e d b u a
 
-  pub try-mark : Below 2002 (getD w (found-at + u) (pos 0))
+  pub try-mark : Below (most-edges + 2) (getD w (found-at + u) (pos 0))
   try-mark = mark-there c (s .search .walks) (s .search .list) w d (s .search .stands) u (rw end-is (d .sound .to e b))
 
   module _ (r : ℕ) (p : getD w (found-at + u) (pos 0) ≡ pos r) where
@@ -525,7 +513,7 @@ module _ (c : Case) (head tail : ℕ) (w : List ℤ) (l : Laid c w) (s : Searchi
   on : head < length (s .walks)
   on = omega (arith, s .size)
 
-  pub head-there : (head < 500) × Below 500 (getD w (queue-at + head) (pos 0))
+  pub head-there : (head < most-vertices) × Below most-vertices (getD w (queue-at + head) (pos 0))
   head-there = (omega (arith, on, stands-few c _ _ w (l .drawn) (s .stands), l .drawn .within .vertices), queue-there c _ _ w (l .drawn) (s .stands) head on)
 
   module _ (v : ℕ) (a : getD w (queue-at + head) (pos 0) ≡ pos v) where
@@ -535,13 +523,13 @@ module _ (c : Case) (head tail : ℕ) (w : List ℤ) (l : Laid c w) (s : Searchi
     vertex-low : v < c .graph .vertices
     vertex-low = rw vertex-is at (tip-low c (s .walks) (s .list) w (l .drawn) (s .stands) head on)
 
-    first-cell : (u : ℕ) → u < c .graph .vertices + 1 → Below 2001 (getD w (first-at + u) (pos 0))
+    first-cell : (u : ℕ) → u < c .graph .vertices + 1 → Below (most-edges + 1) (getD w (first-at + u) (pos 0))
     first-cell u h = record { number = getD (l .list) u 0; is = l .region .each u (omega (arith, l .firsts .sized)); less = omega (arith, l .firsts .most u (omega (arith, l .firsts .sized)), l .drawn .within .edges) }
 
-    pub first-there : Below 2001 (getD w (first-at + v) (pos 0))
+    pub first-there : Below (most-edges + 1) (getD w (first-at + v) (pos 0))
     first-there = first-cell v (omega (arith, vertex-low))
 
-    pub next-there : Below 2001 (getD w (first-at + v + 1) (pos 0))
+    pub next-there : Below (most-edges + 1) (getD w (first-at + v + 1) (pos 0))
     next-there = let e : first-at + v + 1 ≡ first-at + (v + 1) = omega arith in rw e (first-cell (v + 1) (omega (arith, vertex-low)))
 
     module _ (f z : ℕ) (p : getD w (first-at + v) (pos 0) ≡ pos f) (q : getD w (first-at + v + 1) (pos 0) ≡ pos z) where
@@ -609,14 +597,14 @@ module _ (c : Case) (head tail goal : ℕ) (w : List ℤ) (d : Drawn c w) (s : S
   pub search-few : tail ≤ c .graph .vertices
   search-few = omega (arith, s .size, stands-few c _ _ w d (s .stands))
 
-  pub goal-mark : goal < c .graph .vertices → Below 2002 (getD w (found-at + goal) (pos 0))
+  pub goal-mark : goal < c .graph .vertices → Below (most-edges + 2) (getD w (found-at + goal) (pos 0))
   goal-mark h = mark-there c _ _ w d (s .stands) goal h
 
   grown : (j : ℕ) × (j < length (s .walks)) × (tip (c .graph) (getD (s .walks) j []) ≡ goal) → Grown c goal w
   grown x = record { walks = s .walks; list = s .list; stands = s .stands; number = x .0; below = x .1; at = x .2 }
 
   pub goal-marked : (r : ℕ) → goal < c .graph .vertices → getD w (found-at + goal) (pos 0) ≡ pos r → (r ≡ 0 → ⊥) → Grown c goal w
-  goal-marked r h q n = grown (found-at-all (c .graph) (s .walks) (s .list) (s .stands .tree) goal (λ z. n (mark-is c _ _ w d (s .stands) goal r h q ∙ z)))
+  goal-marked r h q n = grown (found-by (c .graph) (s .walks) (s .list) (s .stands .tree) goal (λ z. n (mark-is c _ _ w d (s .stands) goal r h q ∙ z)))
 
   pub goal-found : tail ≤ head → (es : List ℕ) → Reaches (c .graph) goal es → Grown c goal w
   goal-found h es r = grown (all-found (c .graph) (s .walks) (s .list) (s .stands .tree) head 0 (s .scanned) (omega (arith, s .size)) es goal r)
@@ -633,7 +621,7 @@ module _ (c : Case) (goal : ℕ) (w : List ℤ) (d : Drawn c w) (r : Grown c goa
   goal-low : goal < c .graph .vertices
   goal-low = rw (r .at) at (tip-low c (r .walks) (r .list) w d (r .stands) (r .number) (r .below))
 
-  pub grown-mark : (goal < 500) × Below 2002 (getD w (found-at + goal) (pos 0))
+  pub grown-mark : (goal < most-vertices) × Below (most-edges + 2) (getD w (found-at + goal) (pos 0))
   grown-mark = (omega (arith, goal-low, d .within .vertices), mark-there c (r .walks) (r .list) w d (r .stands) goal goal-low)
 
   pub stem-start : (mark : ℕ) → getD w (found-at + goal) (pos 0) ≡ pos mark → Stemming c goal mark cycle-at w
@@ -694,7 +682,7 @@ module _ (c : Case) (goal mark at : ℕ) (w : List ℤ) (s : Stemming c goal mar
       start-low : v < c .graph .vertices
       start-low = rw start-is (tip-low c (s .grown) (s .list) w (s .drawn) (s .stands) (last .before) (omega (arith, last .lower, s .below)))
 
-      pub stem-mark : Below 2002 (getD w (found-at + v) (pos 0))
+      pub stem-mark : Below (most-edges + 2) (getD w (found-at + v) (pos 0))
       stem-mark = mark-there c (s .grown) (s .list) w (s .drawn) (s .stands) v start-low
 
       pub stem-step : (k : ℕ) → getD w (found-at + v) (pos 0) ≡ pos k → Stemming c goal k (at - 1) (set w (at - 1) (pos (mark - 2)))

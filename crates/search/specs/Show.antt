@@ -214,3 +214,27 @@ pub record Stemmable (goal : ℕ) (w : List ℤ) : Type 0 where
 
 unfoldable pub Stem-taken : (goal r : ℕ) → (w w′ : List ℤ) → Type 0
 Stem-taken goal r w w′ = Kept stem-at w w′ × ((c : Case) → Drawn c w → Grown c goal w → Written c (stem (c .graph) goal) r cycle-at w′)
+
+-- a run that broke the floor at b: its parents never end, and the cycle's start can be reached
+pub record Broke (c : Case) (ps : List (Option ℕ)) (b : ℕ) : Type 0 where
+  pub chained : Chained (c .graph) ps b
+  pub walk : List ℕ
+  pub reaches : Reaches (c .graph) (cycle-start (c .graph) ps b) walk
+
+pub record Showable (b source n : ℕ) (w : List ℤ) : Type 0 where
+  pub case : Case
+  pub parents : List (Option ℕ)
+  pub lies : Lies case parents w
+  pub laid : Laid case w
+  pub broke : Broke case parents b
+  pub source-is : source ≡ case .graph .source
+  pub vertices : n ≡ case .graph .vertices
+
+pub record Lasso-there (c : Case) (ps : List (Option ℕ)) (b stem-from cycle-from : ℕ) (w : List ℤ) : Type 0 where
+  pub stem : Written c (stem (c .graph) (cycle-start (c .graph) ps b)) stem-from cycle-at w
+  pub cycle : Written c (cycle (c .graph) ps b) cycle-from cells-end w
+
+unfoldable pub Shows : (b source n stem-from cycle-from : ℕ) → (w w′ : List ℤ) → Type 0
+Shows b source n s k w w′ =
+    Kept found-at w w′
+    × ((c : Case) (ps : List (Option ℕ)) → Lies c ps w → Laid c w → Broke c ps b → source ≡ c .graph .source → n ≡ c .graph .vertices → Lasso-there c ps b s k w′)

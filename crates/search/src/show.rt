@@ -3,7 +3,7 @@
 ghost use Prim.Native.Nat.{_≤_};
 ghost use Rattle.model.specs.Case.{most-vertices};
 ghost use Rattle.search.specs.Show.{Backable, Parent-is, One-back-is, Backed, Cycled};
-ghost use Rattle.search.specs.Show.{Triable, Tried, Scannable, Scans, Startable, Started, Searchable, Searched, Stemmable, Stem-taken};
+ghost use Rattle.search.specs.Show.{Triable, Tried, Scannable, Scans, Startable, Started, Searchable, Searched, Stemmable, Stem-taken, Showable, Shows};
 use crate::cells::Cells;
 use crate::cells::fill;
 use crate::cells::load_below;
@@ -138,4 +138,25 @@ pub(crate) fn take_stem(work: &mut [i32], goal: usize) -> usize
         store_number(work, at, e);
     }
     at
+}
+
+// Where a lasso's stem and its cycle start in the cells.
+pub(crate) struct Shown {
+    pub stem: usize,
+    pub cycle: usize,
+}
+
+// The lasso of a run that broke the floor at `broken`.
+pub(crate) fn show_lasso(work: &mut [i32], broken: usize, source: usize, n: usize) -> Shown
+    requires { ⌜ Showable broken source n (now work) ⌝ }
+    ensures { λ r. ⌜ Shows broken source n (r .stem) (r .cycle) (now (work .entry)) (now (work .exit)) ⌝ }
+{
+    let start = go_back(work, broken, n);
+    find_stem(work, source, start, n);
+    let stem = take_stem(work, start);
+    let cycle = take_cycle(work, start, n);
+    Shown {
+        stem: stem,
+        cycle: cycle,
+    }
 }

@@ -3,7 +3,7 @@ use mathlib.Core.Path.{_≡_}
 use Prim.Native.Nat.{_-_, _≤_}
 use native.Mathlib.Omega.{arith}
 use borrow.Author.Needs.{needs}
-use Rattle.model.specs.Case.{Case}
+use Rattle.model.specs.Case.{Case, most-vertices}
 use Rattle.search.specs.Cells.{found-at}
 use Rattle.search.specs.Show.{Laid, Kept, Searching, Scans, Started, Searched}
 use Rattle.search.proofs.Frames.{kept-same, kept-more, kept-back, laid-kept}
@@ -32,7 +32,7 @@ searching : (c : tie.At-loop Inv-loop μ-loop) →
 unfolding Started
 searching c q l s n = c .loop .inv .1 q (laid-kept q found-at _ _ (omega arith) (c .before .before .start-search .ensures .0) l) s n
 
-few : (c : tie.At-loop Inv-loop μ-loop) → (c .before .before .before .before .args .n ≤ 500) × (c .loop .tail ≤ c .before .before .before .before .args .n)
+few : (c : tie.At-loop Inv-loop μ-loop) → (c .before .before .before .before .args .n ≤ most-vertices) × (c .loop .tail ≤ c .before .before .before .before .args .n)
 few c =
     let s = c .before .before .before .before .pre .start in
     let l = laid c (s .case) (s .laid) in

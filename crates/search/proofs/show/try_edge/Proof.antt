@@ -2,13 +2,14 @@
 use Prim.Native.Nat.{_<_}
 use native.Mathlib.Omega.{arith}
 use borrow.Author.Needs.{needs}
+use Rattle.model.specs.Case.{most-vertices}
 use Rattle.search.specs.Show.{Tried}
 use Rattle.search.proofs.Frames.{kept-same, kept-more, kept-set, to-there}
 use Rattle.search.proofs.Search.{try-mark, try-skip, try-room, try-grow}
 use Rattle.search.proofs.show.try_edge.Statement.{statement}
 use Rattle.search.proofs.show.try_edge.Tie as tie
 
-room : (c : tie.Else1) → c .before .before .before .before .before .args .tail < 500
+room : (c : tie.Else1) → c .before .before .before .before .before .args .tail < most-vertices
 room c =
     let s = c .before .before .before .before .before .pre in
     let a = c .before .before .before .load-below .ensures .0 in
