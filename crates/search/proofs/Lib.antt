@@ -11,3 +11,5 @@ pub mod Sweeps
 pub mod Frames
 pub mod Cycles
 pub mod Search
+pub mod Answers
+pub mod Rows

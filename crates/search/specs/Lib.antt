@@ -3,3 +3,4 @@ pub mod Cells
 pub mod Rep
 pub mod Asks
 pub mod Show
+pub mod Writing
