@@ -1,4 +1,5 @@
 // Runs of the search in lent buffers. Contracts cite `model`'s Entry definitions.
+mod answer;
 mod cells;
 mod queue;
 mod rounds;
