@@ -1,7 +1,6 @@
 -- Stores: what a store into one table does to all that the cells hold. Assumes nothing.
-use mathlib.Core.Path.{_≡_, _∙_}
+use mathlib.Core.Path.{_≡_, refl, _∙_}
 use mathlib.Core.List.{List}
-use mathlib.Core.Logic.{_⊎_, inl, inr}
 use mathlib.Core.Option.{Option}
 use Prim.Native.Nat.{ℕ, _+_, _≤_, _<_}
 use native.Mathlib.Omega.{arith}
@@ -16,14 +15,18 @@ module _ {A : Type 0} {code : A → ℤ} {d : A} {base size : ℕ} {l : List A} 
   pub there : (i : ℕ) → i < size → getD w (base + i) (pos 0) ≡ code (getD l i d)
   there i h = t .region .each i (omega (arith, t .sized))
 
-  -- a store into the table
-  table-set : (i : ℕ) (a : A) → i < size → base + size ≤ length w → Table code d base size (set l i a) (set w (base + i) (code a))
-  table-set i a h fits = record { sized = length-set l i a ∙ t .sized; region = region-set code d base l w i a (t .region) (omega (arith, t .sized)) (omega (arith, t .sized)) }
+-- what a store of z at j does to one table: the table ends before j, begins behind it, or has its item there
+data Store {A : Type 0} (code : A → ℤ) (base size : ℕ) (l : List A) (j : ℕ) (z : ℤ) : List A → Type 0 where
+  before : base + size ≤ j → Store code base size l j z l
+  behind : j < base → Store code base size l j z l
+  here : (i : ℕ) (a : A) → i < size → j ≡ base + i → z ≡ code a → Store code base size l j z (set l i a)
 
-  -- a store elsewhere
-  table-kept : (j : ℕ) (z : ℤ) → (j < base) ⊎ (base + size ≤ j) → Table code d base size l (set w j z)
-  table-kept j z (inl h) = record { sized = t .sized; region = region-below code d base l w j z (t .region) h }
-  table-kept j z (inr h) = record { sized = t .sized; region = region-above code d base l w j z (t .region) (omega (arith, t .sized)) }
+table-store : {A : Type 0} {code : A → ℤ} {d : A} {base size : ℕ} {l m : List A} {w : List ℤ} {j : ℕ} {z : ℤ} → Table code d base size l w → Store code base size l j z m → base + size ≤ length w
+    → Table code d base size m (set w j z)
+table-store {A} {code} {d} {base} {size} {l} {m} {w} {j} {z} t (before h) f = record { sized = t .sized; region = region-above code d base l w j z (t .region) (omega (arith, t .sized)) }
+table-store {A} {code} {d} {base} {size} {l} {m} {w} {j} {z} t (behind h) f = record { sized = t .sized; region = region-below code d base l w j z (t .region) h }
+table-store {A} {code} {d} {base} {size} {l} {m} {w} {j} {z} t (here i a h p q) f =
+    rw (p, q) (record { sized = length-set l i a ∙ t .sized; region = region-set code d base l w i a (t .region) (omega (arith, t .sized)) (omega (arith, t .sized)) })
 
 -- the case stays under a store behind it
 laid-kept : {c : Case} {w : List ℤ} → Laid c w → (j : ℕ) (z : ℤ) → distance-at ≤ j → Laid c (set w j z)
@@ -62,88 +65,39 @@ put-head t i a = record { depths = t .depths; parents = t .parents; links = t .l
 abbrev pub put-tail : Tables → (i : ℕ) → ℕ → Tables
 put-tail t i a = record { depths = t .depths; parents = t .parents; links = t .links; cells = t .cells; heads = t .heads; tails = set (t .tails) i a }
 
--- one law for each table: its own item changes, and what stands before or behind stays
+-- one law for all tables
+held-store : {c : Case} {t : Tables} {w : List ℤ} → Held c t w → (u : Tables) (j : ℕ) (z : ℤ) → distance-at ≤ j → Store far distance-at (c .graph .vertices) (t .depths) j z (u .depths)
+    → Store by-more parent-at (c .graph .vertices) (t .parents) j z (u .parents) → Store pos link-at (c .graph .vertices) (t .links) j z (u .links)
+    → Store far message-at (length (c .graph .edges)) (t .cells) j z (u .cells) → Store pos head-at (c .workers) (t .heads) j z (u .heads) → Store pos tail-at (c .workers) (t .tails) j z (u .tails)
+    → Held c u (set w j z)
+held-store {c} {t} {w} h u j z far-off d p n m b e =
+    let l = h .laid .within in
+    let long = h .laid .long in
+    record {
+      laid = laid-kept (h .laid) j z far-off;
+      depths = table-store (h .depths) d (omega arith);
+      parents = table-store (h .parents) p (omega arith);
+      links = table-store (h .links) n (omega arith);
+      cells = table-store (h .cells) m (omega arith);
+      heads = table-store (h .heads) b (omega arith);
+      tails = table-store (h .tails) e (omega arith);
+    }
+
 module _ {c : Case} {t : Tables} {w : List ℤ} (h : Held c t w) (i : ℕ) where
   pub held-depth : (a : Option ℕ) → i < c .graph .vertices → Held c (put-depth t i a) (set w (distance-at + i) (far a))
-  held-depth a g =
-      let l = h .laid .within in
-      let n = h .laid .long in
-      record {
-        laid = laid-kept (h .laid) _ _ (omega arith);
-        depths = table-set (h .depths) i a g (omega arith);
-        parents = table-kept (h .parents) _ _ (inl (omega arith));
-        links = table-kept (h .links) _ _ (inl (omega arith));
-        cells = table-kept (h .cells) _ _ (inl (omega arith));
-        heads = table-kept (h .heads) _ _ (inl (omega arith));
-        tails = table-kept (h .tails) _ _ (inl (omega arith));
-      }
+  held-depth a g = let l = h .laid .within in held-store h (put-depth t i a) (distance-at + i) (far a) (omega arith) (here i a g refl refl) (behind (omega arith)) (behind (omega arith)) (behind (omega arith)) (behind (omega arith)) (behind (omega arith))
 
   pub held-parent : (a : Option ℕ) → i < c .graph .vertices → Held c (put-parent t i a) (set w (parent-at + i) (by-more a))
-  held-parent a g =
-      let l = h .laid .within in
-      let n = h .laid .long in
-      record {
-        laid = laid-kept (h .laid) _ _ (omega arith);
-        depths = table-kept (h .depths) _ _ (inr (omega arith));
-        parents = table-set (h .parents) i a g (omega arith);
-        links = table-kept (h .links) _ _ (inl (omega arith));
-        cells = table-kept (h .cells) _ _ (inl (omega arith));
-        heads = table-kept (h .heads) _ _ (inl (omega arith));
-        tails = table-kept (h .tails) _ _ (inl (omega arith));
-      }
+  held-parent a g = let l = h .laid .within in held-store h (put-parent t i a) (parent-at + i) (by-more a) (omega arith) (before (omega arith)) (here i a g refl refl) (behind (omega arith)) (behind (omega arith)) (behind (omega arith)) (behind (omega arith))
 
   pub held-link : (a : ℕ) → i < c .graph .vertices → Held c (put-link t i a) (set w (link-at + i) (pos a))
-  held-link a g =
-      let l = h .laid .within in
-      let n = h .laid .long in
-      record {
-        laid = laid-kept (h .laid) _ _ (omega arith);
-        depths = table-kept (h .depths) _ _ (inr (omega arith));
-        parents = table-kept (h .parents) _ _ (inr (omega arith));
-        links = table-set (h .links) i a g (omega arith);
-        cells = table-kept (h .cells) _ _ (inl (omega arith));
-        heads = table-kept (h .heads) _ _ (inl (omega arith));
-        tails = table-kept (h .tails) _ _ (inl (omega arith));
-      }
+  held-link a g = let l = h .laid .within in held-store h (put-link t i a) (link-at + i) (pos a) (omega arith) (before (omega arith)) (before (omega arith)) (here i a g refl refl) (behind (omega arith)) (behind (omega arith)) (behind (omega arith))
 
   pub held-cell : (a : Option ℕ) → i < length (c .graph .edges) → Held c (put-cell t i a) (set w (message-at + i) (far a))
-  held-cell a g =
-      let l = h .laid .within in
-      let n = h .laid .long in
-      record {
-        laid = laid-kept (h .laid) _ _ (omega arith);
-        depths = table-kept (h .depths) _ _ (inr (omega arith));
-        parents = table-kept (h .parents) _ _ (inr (omega arith));
-        links = table-kept (h .links) _ _ (inr (omega arith));
-        cells = table-set (h .cells) i a g (omega arith);
-        heads = table-kept (h .heads) _ _ (inl (omega arith));
-        tails = table-kept (h .tails) _ _ (inl (omega arith));
-      }
+  held-cell a g = let l = h .laid .within in held-store h (put-cell t i a) (message-at + i) (far a) (omega arith) (before (omega arith)) (before (omega arith)) (before (omega arith)) (here i a g refl refl) (behind (omega arith)) (behind (omega arith))
 
   pub held-head : (a : ℕ) → i < c .workers → Held c (put-head t i a) (set w (head-at + i) (pos a))
-  held-head a g =
-      let l = h .laid .within in
-      let n = h .laid .long in
-      record {
-        laid = laid-kept (h .laid) _ _ (omega arith);
-        depths = table-kept (h .depths) _ _ (inr (omega arith));
-        parents = table-kept (h .parents) _ _ (inr (omega arith));
-        links = table-kept (h .links) _ _ (inr (omega arith));
-        cells = table-kept (h .cells) _ _ (inr (omega arith));
-        heads = table-set (h .heads) i a g (omega arith);
-        tails = table-kept (h .tails) _ _ (inl (omega arith));
-      }
+  held-head a g = let l = h .laid .within in held-store h (put-head t i a) (head-at + i) (pos a) (omega arith) (before (omega arith)) (before (omega arith)) (before (omega arith)) (before (omega arith)) (here i a g refl refl) (behind (omega arith))
 
   pub held-tail : (a : ℕ) → i < c .workers → Held c (put-tail t i a) (set w (tail-at + i) (pos a))
-  held-tail a g =
-      let l = h .laid .within in
-      let n = h .laid .long in
-      record {
-        laid = laid-kept (h .laid) _ _ (omega arith);
-        depths = table-kept (h .depths) _ _ (inr (omega arith));
-        parents = table-kept (h .parents) _ _ (inr (omega arith));
-        links = table-kept (h .links) _ _ (inr (omega arith));
-        cells = table-kept (h .cells) _ _ (inr (omega arith));
-        heads = table-kept (h .heads) _ _ (inr (omega arith));
-        tails = table-set (h .tails) i a g (omega arith);
-      }
+  held-tail a g = let l = h .laid .within in held-store h (put-tail t i a) (tail-at + i) (pos a) (omega arith) (before (omega arith)) (before (omega arith)) (before (omega arith)) (before (omega arith)) (before (omega arith)) (here i a g refl refl)
