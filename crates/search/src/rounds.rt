@@ -1,6 +1,5 @@
 // Runs by rounds. When a round begins no cell has a message, so only the edges of the vertices scanned in it can get one:
 // a round does every turn, then the deliveries on the edges of these vertices, in number order.
-ghost use Prim.Native.Nat.{ℕ, _≤_, _<_};
 ghost use lib.ListN.{length};
 ghost use Rattle.search.specs.Asks.{Picked, Least, Turns-ask, Turns-say, Edges-ask, Edges-say, Sweep-asks, Sweep-says, Round-asks, Round-says, Rounds-done, By-rounds-asks, By-rounds-says};
 use super::cells::Cells;

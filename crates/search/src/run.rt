@@ -1,8 +1,8 @@
 // A run of the search in the lent cells: offers, scans, turns, deliveries and acts. A distance is its signed number; each
 // function keeps the cells and the counters equal to a run of the model (specs/Rep.antt).
 ghost use mathlib.Core.Path.{_≡_};
-ghost use Prim.Native.Nat.{_<_, _≤_, _^_, _+_, _-_};
-ghost use lib.IntN.{ℤ, pos, negℤ, _-ℤ_};
+ghost use Prim.Native.Nat.{_<_, _≤_, _^_, _-_};
+ghost use lib.IntN.{pos, negℤ, _-ℤ_};
 ghost use lib.Signed.{ltZ, mag};
 ghost use Rattle.model.specs.Case.{most-vertices};
 ghost use Rattle.search.specs.Asks.{Offer-asks, Send-says, Relax-says, Edge-says, Scan-asks, Scan-says, counted-run, over, Turn-asks, Turn-says, Deliver-asks, Deliver-says, Act-asks, Act-says, blank-run, Begin-asks, Begin-says, List-asks, List-done};
@@ -206,7 +206,8 @@ pub(crate) fn act(work: &mut [i32], run: Run, a: usize, p: usize) -> Run
     deliver(work, run, a - p)
 }
 
-// A fresh run beside a case that stands in the cells: nothing has a distance, a parent or a message but the source.
+// A fresh run beside a case that stands in the cells: the source has distance 0 and waits in its owner's queue; all else is
+// without distance, parent (and link, one table behind) or message.
 pub(crate) fn begin(work: &mut [i32], source: usize, marks: usize) -> Run
     requires { ⌜ Begin-asks source marks (now work) ⌝ }
     ensures { λ r. ⌜ Begin-says source marks r (now (work .entry)) (now (work .exit)) ⌝ }
