@@ -18,7 +18,7 @@ use Rattle.model.specs.Case.{Case, most-vertices, most-edges, Sound, Within}
 use Rattle.model.specs.Run.{State, is-some, ended-lasso, has-ended, with-queues, with-cells, relax, scan, no-vertex, no-message, counted, depth-or, turn-of, turn, delivery-of, delivery, act, acted}
 use Rattle.model.proofs.Steps.{scan-keeps, act-keeps}
 use Rattle.model.proofs.Shapes.{head-depth}
-use Rattle.model.proofs.Fits.{A-few}
+use Rattle.model.proofs.Fits.{accepting-few}
 use Rattle.model.proofs.Few.{Paid, few, paid-acts, relax-count}
 use Rattle.model.proofs.Bounds.{most-acts-within}
 use Rattle.search.specs.declared.run.Run.{Run}
@@ -171,7 +171,7 @@ act-delivery c a p x h w l = let k : c .workers ≤ a = omega arith in rw (w, h,
 -- the depth that a scan reads is not below the floor
 pub depth-low : (c : Case) (x : State) (p v : ℕ) (q : List ℕ) → Sound c → Within c → Paid c x → x .broken ≡ none → getD (x .queues) p [] ≡ v ∷ q → depth-or (getD (x .depths) v none) ≤ most-vertices
 depth-low c x p v q ok l paid whole e =
-    omega (arith, paid .shape .above whole v (depth-or (getD (x .depths) v none)) (head-depth c ok p v q x (paid .shape) e), A-few c ok, l .vertices)
+    omega (arith, paid .shape .above whole v (depth-or (getD (x .depths) v none)) (head-depth c ok p v q x (paid .shape) e), accepting-few c ok, l .vertices)
 
 pub turn-none : (c : Case) (x : State) (p : ℕ) → getD (x .queues) p [] ≡ [] → turn c p x ≡ x
 unfolding turn turn-of

@@ -11,7 +11,8 @@ use lib.ListN.{length, getD, set, length-set}
 use lib.Seq.{getD-set-same, getD-set-other}
 use Rattle.model.specs.Case.{Case, owner}
 use Rattle.model.specs.Run.{member}
-use Rattle.model.proofs.Tools.{or-false, or-cases, or-right, member-first, member-later}
+use Rattle.text.proofs.Tests.{or-false, or-cases, or-right}
+use Rattle.model.proofs.Tools.{member-first, member-later}
 use Rattle.search.specs.Rep.{link, Chain, Ends, Lined}
 use Rattle.search.proofs.Regions.{same-or}
 
@@ -47,10 +48,10 @@ unfolding member
 ends-member t u [] h = rw (eq-eqb t u h)
 ends-member t u (x ∷ q) h = or-right (eqb t u) (member t (x ∷ q)) (ends-member t x q h)
 
-ends-snoc : (v : ℕ) (q : List ℕ) → Ends v (q ++ (v ∷ []))
-ends-snoc v [] = refl
-ends-snoc v (x ∷ []) = refl
-ends-snoc v (x ∷ y ∷ q) = ends-snoc v (y ∷ q)
+walk-end-snoc : (v : ℕ) (q : List ℕ) → Ends v (q ++ (v ∷ []))
+walk-end-snoc v [] = refl
+walk-end-snoc v (x ∷ []) = refl
+walk-end-snoc v (x ∷ y ∷ q) = walk-end-snoc v (y ∷ q)
 
 -- chains
 chain-kept : (N : List ℕ) (j a : ℕ) (q : List ℕ) → Chain N q → member j q ≡ false → Chain (set N j a) q
@@ -135,7 +136,7 @@ module _ (c : Case) (qs : List (List ℕ)) (N H T : List ℕ) (v p : ℕ) (L : L
   tails-joined : (r : ℕ) → r < c .workers → Ends (getD (set T p v) r 0) (getD joined r [])
   tails-joined r =
       at-set (λ (r : ℕ) (q : List ℕ). r < c .workers → Ends (getD (set T p v) r 0) q) qs p (getD qs p [] ++ (v ∷ [])) [] pq
-      (λ g. let k : p < length T = omega arith in rw (getD-set-same T p v 0 k) (ends-snoc v (getD qs p [])))
+      (λ g. let k : p < length T = omega arith in rw (getD-set-same T p v 0 k) (walk-end-snoc v (getD qs p [])))
       (λ r n g. rw (getD-set-other T p r v 0 n) (L .tails r g)) r
 
   -- an empty queue

@@ -10,7 +10,7 @@ use lib.Seq.{append-snoc, getD-set-same, getD-set-other, getD-append-seam}
 use lib.IntN.{ℤ, pos}
 use Rattle.model.specs.Case.{Case, Sound, most-vertices, most-edges}
 use Rattle.model.specs.Graph.{Graph, edge, is-walk, walk-end, Reaches, Lex, Fewest}
-use Rattle.model.proofs.Walks.{Steps, steps, walk-snoc, ends-snoc}
+use Rattle.model.proofs.Walks.{Steps, steps, walk-snoc, walk-end-snoc}
 use Rattle.model.proofs.Stems.{fewest-one, stem-fewest, stem-short}
 use Rattle.model.specs.Answer.{stem}
 use Rattle.model.proofs.Tools.{getD-out, getD-replicate-same}
@@ -156,7 +156,7 @@ fewest-le g v t fs w r = record { short = w .fewest fs r; first = w .first fs r 
 
 -- one edge more
 reach-on : (g : Graph) (t : List ℕ) (e : ℕ) → is-walk g (g .source) t ≡ true → e < length (g .edges) → edge g e .from ≡ tip g t → Reaches g (edge g e .to) (t ++ (e ∷ []))
-reach-on g t e w h q = record { walks = walk-snoc g (g .source) t e w h q; arrives = ends-snoc g (g .source) t e }
+reach-on g t e w h q = record { walks = walk-snoc g (g .source) t e w h q; arrives = walk-end-snoc g (g .source) t e }
 
 -- THE TREE
 module _ (g : Graph) (ts : List (List ℕ)) (ms : List ℕ) (r : Tree g ts ms) where
@@ -166,7 +166,7 @@ module _ (g : Graph) (ts : List (List ℕ)) (ms : List ℕ) (r : Tree g ts ms) w
     where
       go : Made g ts ms j → ⊥
       go (at-source p q) = let y : tip g (getD ts j []) ≡ g .source = rw p (unfold walk-end in refl) in omega (arith, rw y at z)
-      go (by-edge i e l b f p q) = let y : tip g (getD ts j []) ≡ edge g e .to = rw p (ends-snoc g (g .source) (getD ts i []) e) in omega (arith, rw y at z)
+      go (by-edge i e l b f p q) = let y : tip g (getD ts j []) ≡ edge g e .to = rw p (walk-end-snoc g (g .source) (getD ts i []) e) in omega (arith, rw y at z)
 
   pub found-by : (v : ℕ) → (getD ms v 0 ≡ 0 → ⊥) → (j : ℕ) × (j < length ts) × (tip g (getD ts j []) ≡ v)
   found-by v n = go (r .known v)
@@ -321,7 +321,7 @@ module _ (g : Graph) (ts : List (List ℕ)) (ms : List ℕ) (h e : ℕ) (r : Tre
   more = omega (arith, length-append ts (new ∷ []))
 
   new-tip : tip g new ≡ edge g e .to
-  new-tip = ends-snoc g (g .source) (getD ts h []) e
+  new-tip = walk-end-snoc g (g .source) (getD ts h []) e
 
   made-old : (j : ℕ) → j < length ts → Made g ts ms j → Made g walks marks j
   made-old j l (at-source p m) = at-source (getD-front ts new j l ∙ p) (mark-same ms _ _ e 1 z m (omega arith))
@@ -428,7 +428,7 @@ module _ (c : Case) (ts : List (List ℕ)) (ms : List ℕ) (w : List ℤ) (d : D
     where
       by : (j : ℕ) → tip (c .graph) (getD ts j []) ≡ v → Made (c .graph) ts ms j → getD ms v 0 < length (c .graph .edges) + 2
       by j q (at-source p m) = let y : v ≡ c .graph .source = sym q ∙ (rw p (unfold walk-end in refl)) in rw (y, m) (omega arith)
-      by j q (by-edge i e l b f p m) = let y : v ≡ edge (c .graph) e .to = sym q ∙ (rw p (ends-snoc (c .graph) (c .graph .source) (getD ts i []) e)) in rw (y, m) (omega arith)
+      by j q (by-edge i e l b f p m) = let y : v ≡ edge (c .graph) e .to = sym q ∙ (rw p (walk-end-snoc (c .graph) (c .graph .source) (getD ts i []) e)) in rw (y, m) (omega arith)
 
       go : (getD ms v 0 ≡ 0) ⊎ ((j : ℕ) × (j < length ts) × (tip (c .graph) (getD ts j []) ≡ v)) → getD ms v 0 < length (c .graph .edges) + 2
       go (inl z) = omega (arith, z)
@@ -495,7 +495,7 @@ module _ (c : Case) (h v e tail : ℕ) (w : List ℤ) (d : Drawn c w) (s : Scann
               marks = region-above pos 0 found-at (set (y .list) (edge g e .to) (e + 2)) w1 (queue-at + tail) (pos (edge g e .to))
                   (region-set pos 0 found-at (y .list) w (edge g e .to) (e + 2) (y .stands .marks) (omega arith) (omega (arith, d .long)))
                   (omega (arith, length-set (y .list) (edge g e .to) (e + 2)));
-              queue = subst (λ (k : ℕ). Region (by-tip g) [] queue-at (y .walks ++ (new ∷ [])) (set w1 (queue-at + tail) (pos k))) (ends-snoc g (g .source) (getD (y .walks) h []) e)
+              queue = subst (λ (k : ℕ). Region (by-tip g) [] queue-at (y .walks ++ (new ∷ [])) (set w1 (queue-at + tail) (pos k))) (walk-end-snoc g (g .source) (getD (y .walks) h []) e)
                   (region-snoc (by-tip g) [] queue-at (y .walks) w1 (queue-at + tail) new
                   (region-below (by-tip g) [] queue-at (y .walks) w (found-at + edge g e .to) (pos (e + 2)) (y .stands .queue) (omega arith))
                   (omega (arith, y .size))
@@ -654,7 +654,7 @@ module _ (c : Case) (goal mark at : ℕ) (w : List ℤ) (s : Stemming c goal mar
   last-of : 1 < mark → Made (c .graph) (s .grown) (s .list) (s .number) → Last
   last-of h (at-source p q) = absurd (let y : tip (c .graph) (getD (s .grown) (s .number) []) ≡ c .graph .source = rw p (unfold walk-end in refl) in omega (arith, q, rw y at (s .mark)))
   last-of h (by-edge i e l b f p q) =
-      let y : tip (c .graph) (getD (s .grown) (s .number) []) ≡ edge (c .graph) e .to = rw p (ends-snoc (c .graph) (c .graph .source) (getD (s .grown) i []) e) in
+      let y : tip (c .graph) (getD (s .grown) (s .number) []) ≡ edge (c .graph) e .to = rw p (walk-end-snoc (c .graph) (c .graph .source) (getD (s .grown) i []) e) in
       let x : e ≡ mark - 2 = omega (arith, q, rw y at (s .mark)) in
       record {
         before = i;
@@ -710,5 +710,5 @@ module _ (c : Case) (goal mark at : ℕ) (w : List ℤ) (s : Stemming c goal mar
       go : Made (c .graph) (s .grown) (s .list) (s .number) → Written c (stem (c .graph) goal) at cycle-at w
       go (at-source p q) = subst (λ (es : List ℕ). Written c es at cycle-at w) (sym (ap (λ (l : List ℕ). l ++ s .so-far) p) ∙ s .whole) (s .written)
       go (by-edge i e l b f p q) =
-          let y : tip (c .graph) (getD (s .grown) (s .number) []) ≡ edge (c .graph) e .to = rw p (ends-snoc (c .graph) (c .graph .source) (getD (s .grown) i []) e) in
+          let y : tip (c .graph) (getD (s .grown) (s .number) []) ≡ edge (c .graph) e .to = rw p (walk-end-snoc (c .graph) (c .graph .source) (getD (s .grown) i []) e) in
           absurd (omega (arith, q, rw y at (s .mark)))

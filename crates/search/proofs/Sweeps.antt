@@ -14,7 +14,8 @@ use lib.IntN.{ℤ}
 use Rattle.model.specs.Graph.{Graph, edge, edge-depth, accepting-count}
 use Rattle.model.specs.Case.{Case, owner, most-acts, Sound}
 use Rattle.model.specs.Run.{State, has-ended, fresh, with-queues, with-cells, scan, no-message, depth-or, delivery, act, acted, range, round-acts, rounds, by-rounds}
-use Rattle.model.proofs.Tools.{clash, some-not-none, getD-out, getD-replicate-same, no-cell, no-cells, member-first}
+use Rattle.text.proofs.Tests.{clash}
+use Rattle.model.proofs.Tools.{some-not-none, getD-out, getD-replicate-same, no-cell, no-cells, member-first}
 use Rattle.model.proofs.Steps.{scan-keeps, act-keeps, acted-keeps}
 use Rattle.model.proofs.Few.{Paid, paid-acts, relax-cells}
 use Rattle.model.proofs.Rounds.{act-over, acted-over}

@@ -3,7 +3,7 @@ use Rattle.model.proofs.Few.{fresh-paid}
 use Rattle.model.proofs.Bounds.{most-acts-within}
 use native.Mathlib.Omega.{arith}
 use Rattle.model.specs.Run.{fresh}
-use Rattle.model.proofs.Fits.{A-few}
+use Rattle.model.proofs.Fits.{accepting-few}
 use Rattle.search.specs.Asks.{Rounds-done, By-rounds-says}
 use Rattle.search.proofs.Sweeps.{fresh-empty, by-rounds-rep, many-is}
 use borrow.Author.Needs.{needs}
@@ -18,7 +18,7 @@ add-many c = search needs
 
 add-many-2 : tie.Need-add-many-2
 add-many-2 c = let s = c .before .pre in
-    omega (arith, s .rep .counted .marks, A-few (s .case) (s .rep .held .laid .sound), s .rep .held .laid .within .vertices)
+    omega (arith, s .rep .counted .marks, accepting-few (s .case) (s .rep .held .laid .sound), s .rep .held .laid .within .vertices)
 
 mul-many : tie.Need-mul-many
 mul-many c = let s = c .before .pre in

@@ -1,4 +1,4 @@
-use Rattle.model.proofs.Fits.{A-few}
+use Rattle.model.proofs.Fits.{accepting-few}
 use mathlib.Core.Path.{_≡_, sym, ap, _∙_}
 use mathlib.Core.Bool.{true, false}
 use mathlib.Core.Option.{none}
@@ -107,7 +107,7 @@ push-requires c κs = let s = c .before .before .before .before .before .before 
 
 floor-requires : tie.Need-floor-requires
 floor-requires c κs = let s = c .before .before .before .before .before .before .before .before .before .before .before .before .before .before .before .pre in
-    omega (arith, s .rep .counted .marks, A-few (s .case) (s .rep .held .laid .sound), s .rep .held .laid .within .vertices)
+    omega (arith, s .rep .counted .marks, accepting-few (s .case) (s .rep .held .laid .sound), s .rep .held .laid .within .vertices)
 
 lower-requires-2 : tie.Need-lower-requires-2
 lower-requires-2 c κs = search needs
