@@ -20,6 +20,8 @@ use Rattle.model.specs.Case.{most-vertices, most-edges, most-workers, longest-f
 use Rattle.model.specs.CaseFile.{refuse, first-of, head-names, vertex-names, edge-names, begins-version, other-version, counts-good, vertices-refusal, edges-refusal, case-refusal, accepted, case-in}
 use Rattle.model.proofs.Accepting.{edge-ends}
 use Rattle.casefile.specs.Judging.{skip, header, judged, counts-in-range, head-refusal, head-says, block-says}
+use Rattle.casefile.specs.declared.Case.{Case}
+use Rattle.casefile.specs.declared.Judged.{Judged}
 use Rattle.casefile.specs.declared.Judged.the-variants.{Refused, Accepted}
 use Rattle.casefile.specs.declared.Head.the-variants.{Refused as Bad-head, Counts}
 use Rattle.casefile.specs.declared.Block.the-variants.{Refused as Bad-block, Past}
@@ -299,3 +301,23 @@ module _ (n m u p : ℕ) where
   pub right-so-far : 1 ≤ n → n ≤ most-vertices → m ≤ most-edges → u < n → 1 ≤ p → leb p most-workers ≡ counts-in-range n m u p
   unfolding counts-in-range
   right-so-far a b c d e = rw (le-leb 1 n a, le-leb n most-vertices b, le-leb m most-edges c, lt-ltb u n d, le-leb 1 p e) refl
+
+-- THE JUDGE'S ANSWER gives the refusal, or the case
+pub turned : (s : List ℕ) {k : ℕ} {r : Judged} → r ≡ judged s → r ≡ Refused k → (case-refusal s ≡ k) × (k ≡ 0 → ⊥)
+unfolding judged accepted
+turned s {k} e q = go (eqb (case-refusal s) 0) refl (sym e ∙ q)
+  where
+    go : (b : Bool) → eqb (case-refusal s) 0 ≡ b → cond b (Accepted (header s)) (Refused (case-refusal s)) ≡ Refused k → (case-refusal s ≡ k) × (k ≡ 0 → ⊥)
+    go true h q = let z : _≡_ {A = ℕ} 0 1 = cc in absurd (omega arith)
+    go false h q = let z : case-refusal s ≡ k = cc in (z, λ w. eqb-false (case-refusal s) 0 h (z ∙ w))
+
+pub taken : (s : List ℕ) {c : Case} {r : Judged} → r ≡ judged s → r ≡ Accepted c → (accepted s ≡ true) × (c ≡ header s)
+unfolding judged
+taken s {c} e q = go (accepted s) refl (sym e ∙ q)
+  where
+    go : (b : Bool) → accepted s ≡ b → cond b (Accepted (header s)) (Refused (case-refusal s)) ≡ Accepted c → (accepted s ≡ true) × (c ≡ header s)
+    go true h q = (h, cc)
+    go false h q = let z : _≡_ {A = ℕ} 0 1 = cc in absurd (omega arith)
+
+pub taken-right : (s : List ℕ) {c : Case} {r : Judged} → r ≡ judged s → r ≡ Accepted c → case-refusal s ≡ 0
+taken-right s e q = eqb-true (case-refusal s) 0 (unfold accepted in (taken s e q .0))

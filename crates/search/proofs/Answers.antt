@@ -19,7 +19,7 @@ use Rattle.model.specs.Run.{distance}
 use Rattle.model.specs.Answer.{lasso-word, empty-word, edge-rows, vertex-rows}
 use Rattle.model.specs.Entry.{in-front}
 use Rattle.model.proofs.Fits.{All-below}
-use Rattle.search.specs.Cells.{Region, far, distance-at, stem-at}
+use Rattle.search.specs.Cells.{Region, far, distance-at}
 use Rattle.search.specs.Writing.{Puts, head-text, Edges-at, Edges-say, Vertex-says, Vertices-say, Reached, Answers, Lasso-says, Empty-says}
 use Rattle.search.proofs.Rows.{edges-none, edges-more, edges-all, vertices-none, vertices-more, vertices-all, no-vertex-line, vertex-line, rows-none, rows-same, rows-one, rows-all, lasso-parts, empty-parts}
 
@@ -173,8 +173,8 @@ counted-end {n} {v} {k} {w} c h =
     record { few = omega (arith, c .few, c .within); count = λ ds g e. c .count ds g e ∙ rows-all ds v (omega arith) }
 
 -- THE ANSWERS
-pub lasso-says : {stem start cycle a b e r : ℕ} {w : List ℤ} {o p q s z : List ℕ} → Puts 0 (head-text lasso-word stem cycle 0) a o p → Writes a (ascii "edge\n") b p q
-    → Edges-say b stem-at stem e w q s → Edges-say e start cycle r w s z → Lasso-says stem start cycle r w o z
+pub lasso-says : {first stem start cycle a b e r : ℕ} {w : List ℤ} {o p q s z : List ℕ} → Puts 0 (head-text lasso-word stem cycle 0) a o p → Writes a (ascii "edge\n") b p q
+    → Edges-say b first stem e w q s → Edges-say e start cycle r w s z → Lasso-says first stem start cycle r w o z
 lasso-says {a = a} {o = o} {p = p} f g x y = record {
   answer = λ ss es i k j l room.
       let head : Puts 0 (head-text lasso-word (length ss) (length es) 0) a o p = rw (k, l) f in

@@ -11,5 +11,8 @@ pub mod Sweeps
 pub mod Frames
 pub mod Cycles
 pub mod Search
+pub mod Loads
+pub mod Ends
+pub mod Entries
 pub mod Answers
 pub mod Rows

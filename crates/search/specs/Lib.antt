@@ -2,5 +2,8 @@
 pub mod Cells
 pub mod Rep
 pub mod Asks
+pub mod Loading
 pub mod Show
 pub mod Writing
+pub mod Finish
+pub mod Entries

@@ -10,7 +10,7 @@ use Rattle.text.specs.Writing.{put}
 use Rattle.model.specs.Case.{most-vertices, most-edges}
 use Rattle.model.specs.Answer.{answer-names, head-row, edge-rows, lasso-text, vertex-rows, empty-text}
 use Rattle.model.specs.Entry.{in-front}
-use Rattle.search.specs.Cells.{Region, Below, far, distance-at, stem-at}
+use Rattle.search.specs.Cells.{Region, Below, far, distance-at}
 
 -- bytes in their place where they have room; o is the output before, z after, r the place past the bytes
 pub record Puts (at : ℕ) (bs : List ℕ) (r : ℕ) (o z : List ℕ) : Type 0 where
@@ -48,14 +48,14 @@ pub record Answers (answer : List ℕ) (r : ℕ) (o z : List ℕ) : Type 0 where
   pub written : r ≡ length answer
   pub output : z ≡ in-front answer o
 
-pub record Lasso-asks (stem start cycle : ℕ) (w : List ℤ) : Type 0 where
-  pub stem-edges : Edges-at stem-at stem w
+pub record Lasso-asks (first stem start cycle : ℕ) (w : List ℤ) : Type 0 where
+  pub stem-edges : Edges-at first stem w
   pub cycle-edges : Edges-at start cycle w
   pub stem-short : stem ≤ most-vertices
   pub cycle-short : cycle ≤ most-vertices
 
-pub record Lasso-says (stem start cycle r : ℕ) (w : List ℤ) (o z : List ℕ) : Type 0 where
-  pub answer : (ss es : List ℕ) → Region pos 0 stem-at ss w → length ss ≡ stem → Region pos 0 start es w → length es ≡ cycle
+pub record Lasso-says (first stem start cycle r : ℕ) (w : List ℤ) (o z : List ℕ) : Type 0 where
+  pub answer : (ss es : List ℕ) → Region pos 0 first ss w → length ss ≡ stem → Region pos 0 start es w → length es ≡ cycle
       → length (lasso-text ss es) ≤ length o → Answers (lasso-text ss es) r o z
 
 pub record Empty-says (n r : ℕ) (w : List ℤ) (o z : List ℕ) : Type 0 where

@@ -50,20 +50,21 @@ fn write_edges(output: &mut [u8], at: usize, work: &[i32], base: usize, count: u
     here
 }
 
-// The answer "lasso": the stem's edges stand from Cells::STEM on, the cycle's from cell `start` on.
+// The answer "lasso": the stem's edges stand from cell `first` on, the cycle's from cell `start` on.
 pub(crate) fn write_lasso(
     output: &mut [u8],
     work: &[i32],
+    first: usize,
     stem: usize,
     start: usize,
     cycle: usize,
 ) -> usize
-    requires { ⌜ Lasso-asks stem start cycle (now work) ⌝ }
-    ensures { λ r. ⌜ Lasso-says stem start cycle r (now (work .entry)) (now (output .entry)) (now (output .exit)) ⌝ }
+    requires { ⌜ Lasso-asks first stem start cycle (now work) ⌝ }
+    ensures { λ r. ⌜ Lasso-says first stem start cycle r (now (work .entry)) (now (output .entry)) (now (output .exit)) ⌝ }
 {
     let mut at = write_head(output, b"lasso", stem, cycle, 0);
     at = write_bytes(output, at, b"edge\n");
-    at = write_edges(output, at, work, Cells::STEM, stem);
+    at = write_edges(output, at, work, first, stem);
     write_edges(output, at, work, start, cycle)
 }
 

@@ -1,0 +1,197 @@
+-- Ends: from a run that stands in the cells to its answer and its outcome. Assumes nothing.
+use mathlib.Core.Path.{_≡_, refl, sym, ap, subst, _∙_}
+use mathlib.Core.Bool.{Bool, true, false, cond}
+use mathlib.Core.List.{List}
+use mathlib.Core.Option.{Option, none, some}
+use Prim.Native.Nat.{ℕ, suc, _+_, _-_, _≤_, _<_}
+use native.Mathlib.Omega.{arith}
+use lib.Dec.{eqb}
+use lib.ListN.{length, getD, replicate}
+use lib.IntN.{ℤ, pos}
+use borrow.Author.Tests.{ltb-true, ltb-false, eq-eqb, ne-eqb}
+use Rattle.text.proofs.Tests.{Test, test, holds, fails, Same, same?, same, other, clash}
+use Rattle.model.specs.Graph.{Graph, edge}
+use Rattle.model.specs.Case.{Case, least-output, most-edges, most-vertices, Sound, Within}
+use Rattle.model.specs.Run.{State, is-some, ended-lasso, has-ended}
+use Rattle.model.specs.Answer.{stem, cycle, cycle-start, lasso-text, empty-text, answer-of, answer}
+use Rattle.model.specs.Entry.{verdict, zeros, Cut-short, Finished, Run-says}
+use Rattle.model.specs.declared.Outcome.{Outcome}
+use Rattle.model.proofs.Findings.{Known, stem-few}
+use Rattle.model.proofs.Fits.{cycle-few, answer-fits}
+use Rattle.search.specs.Cells.{Region, Below, more, cycle-at, cells-end}
+use Rattle.search.specs.Rep.{Rep, Laid, Firsts}
+use Rattle.search.specs.Asks.{over}
+use Rattle.search.specs.Show as show
+use Rattle.search.specs.Show.{Drawn, Lies, Broke, Showable, Shows, Lasso-there, Written}
+use Rattle.search.specs.Writing.{Edges-at, Distances-at, Lasso-asks, Lasso-says, Empty-says, Answers}
+use Rattle.search.specs.Finish.{Gone, Lasso-done, Answer-done, Finish-says, verdict-of}
+use Rattle.search.specs.declared.run.Run.{Run}
+use Rattle.search.proofs.Acts.{over-is}
+use Rattle.search.proofs.Cycles.{run-broke, run-real}
+
+-- whether the floor is broken, by the counter
+more-some : (o : Option ℕ) (k : ℕ) → k ≡ more o → (k ≡ 0 → ⊥) → (b : ℕ) × (o ≡ some b) × (k - 1 ≡ b)
+more-some none k e n = absurd (n e)
+more-some (some b) k e n = (b, refl, omega arith)
+
+more-none : (o : Option ℕ) (k : ℕ) → k ≡ more o → k ≡ 0 → o ≡ none
+more-none none k e z = refl
+more-none (some b) k e z = absurd (omega arith)
+
+module _ {c : Case} {x : State} {k : Run} {w : List ℤ} (r : Rep c x k w) where
+  pub broken-some : (k .broken ≡ 0 → ⊥) → (b : ℕ) × (x .broken ≡ some b) × (k .broken - 1 ≡ b)
+  broken-some n = more-some (x .broken) (k .broken) (r .counted .broke) n
+
+  pub broken-none : k .broken ≡ 0 → x .broken ≡ none
+  broken-none z = more-none (x .broken) (k .broken) (r .counted .broke) z
+
+  drawn : Drawn c w
+  drawn = let l = r .held .laid in record { sound = l .sound; within = l .within; froms = l .from-cells; tos = l .to-cells; long = omega (arith, l .long) }
+
+-- the first-edge table, as the search for the stem reads it
+firsts-show : (g : Graph) (F : List ℕ) → Firsts g F → show.Firsts g F
+firsts-show g F f = record {
+  sized = f .sized;
+  most = λ v h. f .below v (omega (arith, f .sized));
+  low = λ v e a b q. low v e a b q (test (lib.Dec.ltb e (getD F v 0)));
+  high = λ v e a b q. high v e a b q (test (lib.Dec.ltb e (getD F (v + 1) 0)));
+  only = λ v e a p q. omega (arith, f .after v e (omega arith) p (omega (arith, f .below (v + 1) (omega arith))), f .before (v + 1) e (omega arith) q);
+}
+  where
+    low : (v e : ℕ) → v < g .vertices → e < length (g .edges) → edge g e .from ≡ v → Test (lib.Dec.ltb e (getD F v 0)) → getD F v 0 ≤ e
+    low v e a b q (holds t) = absurd (omega (arith, f .before v e (omega arith) (ltb-true e (getD F v 0) t)))
+    low v e a b q (fails t) = ltb-false e (getD F v 0) t
+
+    high : (v e : ℕ) → v < g .vertices → e < length (g .edges) → edge g e .from ≡ v → Test (lib.Dec.ltb e (getD F (v + 1) 0)) → e < getD F (v + 1) 0
+    high v e a b q (holds t) = ltb-true e (getD F (v + 1) 0) t
+    high v e a b q (fails t) = absurd (omega (arith, f .after (v + 1) e (omega arith) (ltb-false e (getD F (v + 1) 0) t) b))
+
+module _ {c : Case} {x : State} {k : Run} {n s : ℕ} {w : List ℤ} {o : List ℕ} (g : Gone c x k n s w o) where
+  pub lies : Lies c (x .parents) w
+  lies = record { drawn = drawn (g .rep); parents = g .rep .held .parents .region; sized = g .rep .held .parents .sized; real = run-real c x (g .known .trace) }
+
+  pub laid : show.Laid c w
+  laid = let l = g .rep .held .laid in record { drawn = drawn (g .rep); list = l .first; firsts = firsts-show (c .graph) (l .first) (l .firsts); region = l .first-cells }
+
+  pub broke : (b : ℕ) → x .broken ≡ some b → Broke c (x .parents) b
+  broke b h = run-broke c x (g .known .trace) (g .known .tale .walked) b h
+
+  pub showable : (b : ℕ) → x .broken ≡ some b → Showable b s n w
+  showable b h = record { case = c; parents = x .parents; lies = lies; laid = laid; broke = broke b h; source-is = g .start; vertices = g .vertices }
+
+  fits : (q : Option ℕ) → x .broken ≡ q → length (answer-of (c .graph) q (x .parents) (x .depths)) ≤ length o
+  fits q h = let l = g .rep .held .laid in omega (arith, answer-fits c (l .sound) (l .within) x (g .known) q h, g .room)
+
+  pub fits-least : length (answer (c .graph) x) ≤ least-output
+  unfolding answer
+  fits-least = let l = g .rep .held .laid in answer-fits c (l .sound) (l .within) x (g .known) (x .broken) refl
+
+  answer-is : (q : Option ℕ) → x .broken ≡ q → answer-of (c .graph) q (x .parents) (x .depths) ≡ answer (c .graph) x
+  unfolding answer
+  answer-is q h = ap (λ (p : Option ℕ). answer-of (c .graph) p (x .parents) (x .depths)) (sym h)
+
+  module _ (b : ℕ) (h : x .broken ≡ some b) {at to : ℕ} {v : List ℤ} (long : cells-end ≤ length v) (t : Lasso-there c (x .parents) b at to v) where
+    written-at : {es : List ℕ} {p e : ℕ} → Written c es p e v → e ≤ cells-end → Edges-at p (e - p) v
+    written-at {es} {p} {e} y l =
+        let z = y .ends in
+        record { inside = omega arith; each = λ i q. record { number = getD es i 0; is = y .region .each i (omega arith); less = omega (arith, y .small i (omega arith), g .rep .held .laid .within .edges) } }
+
+    pub lasso-asks : Lasso-asks at (cycle-at - at) to (cells-end - to) v
+    lasso-asks =
+        let z = t .stem .ends in
+        let y = t .cycle .ends in
+        let ok = g .rep .held .laid in
+        record {
+          stem-edges = written-at (t .stem) (omega arith);
+          cycle-edges = written-at (t .cycle) (omega arith);
+          stem-short = omega (arith, stem-few c (ok .sound) x (g .known) b h, ok .within .vertices);
+          cycle-short = omega (arith, cycle-few (c .graph) (x .parents) b, ok .within .vertices);
+        }
+
+    pub lasso-answers : {r : ℕ} {z : List ℕ} → Lasso-says at (cycle-at - at) to (cells-end - to) r v o z → Answers (answer (c .graph) x) r o z
+    lasso-answers {r} {z} y =
+        let p = t .stem .ends in
+        let q = t .cycle .ends in
+        subst (λ (a : List ℕ). Answers a r o z) (whole ∙ answer-is (some b) h)
+        (y .answer (stem (c .graph) (cycle-start (c .graph) (x .parents) b)) (cycle (c .graph) (x .parents) b) (t .stem .region) (omega arith) (t .cycle .region) (omega arith) (rw whole (fits (some b) h)))
+      where
+        whole : lasso-text (stem (c .graph) (cycle-start (c .graph) (x .parents) b)) (cycle (c .graph) (x .parents) b) ≡ answer-of (c .graph) (some b) (x .parents) (x .depths)
+        whole = unfold answer-of in refl
+
+  pub empty-answers : {r : ℕ} {z : List ℕ} → x .broken ≡ none → Empty-says n r w o z → Answers (answer (c .graph) x) r o z
+  empty-answers {r} {z} h y =
+      subst (λ (a : List ℕ). Answers a r o z) (whole ∙ answer-is none h)
+      (y .answer (x .depths) (g .rep .held .depths .region) (g .rep .held .depths .sized ∙ sym (g .vertices)) (rw whole (fits none h)))
+    where
+      whole : empty-text (x .depths) ≡ answer-of (c .graph) none (x .parents) (x .depths)
+      whole = unfold answer-of in refl
+
+  -- THE OUTCOME
+  verdict-is : verdict-of k ≡ verdict x
+  unfolding verdict ended-lasso
+  verdict-is = go (x .broken) refl
+    where
+      go : (q : Option ℕ) → x .broken ≡ q → verdict-of k ≡ cond (is-some (x .broken)) 1 2
+      go none h = rw (h, eq-eqb (k .broken) 0 (g .rep .counted .broke ∙ ap more h)) (unfold is-some in refl)
+      go (some b) h = rw (h, ne-eqb (k .broken) 0 (λ z. omega (arith, g .rep .counted .broke ∙ ap more h))) (unfold is-some in refl)
+
+  zeros-kept : (u v : List ℤ) → v ≡ zeros u → length u ≡ length w → v ≡ zeros w
+  unfolding zeros
+  zeros-kept u v e l = e ∙ ap (λ (j : ℕ). replicate j (pos 0)) l
+
+  pub cut-short : {v : List ℤ} → over k ≡ false → v ≡ zeros w → Run-says 0 (has-ended x) c x (record { refusal = 10; verdict = 0; acts = k .acts; written = 0 }) o o w v
+  unfolding Run-says
+  cut-short e z = rw (over-is c x k w (g .rep) ∙ e) (record { refusal = refl; verdict = refl; acts = g .rep .counted .acts; written = refl; output = refl; work = z })
+
+  pub finished : {r : ℕ} (u : List ℤ) {v : List ℤ} {z : List ℕ} → over k ≡ true → Answers (answer (c .graph) x) r o z → v ≡ zeros u → length u ≡ length w →
+      Run-says 0 (has-ended x) c x (record { refusal = 0; verdict = verdict-of k; acts = k .acts; written = r }) o z w v
+  unfolding Run-says
+  finished u e a z l = rw (over-is c x k w (g .rep) ∙ e) (record { refusal = refl; verdict = verdict-is; acts = g .rep .counted .acts; written = a .written; output = a .output; work = zeros-kept u _ z l })
+
+-- THE FUNCTIONS of src/finish.rt: the lasso is shown, then written
+pub lasso-none : (k : Run) {n s r : ℕ} {w : List ℤ} {o z : List ℕ} → k .broken ≡ 0 → Lasso-done k n s r w o z
+lasso-none k e = record { answers = λ c x b g h. absurd (omega (arith, g .rep .counted .broke ∙ ap more h)) }
+
+module _ {c : Case} {x : State} {k : Run} {n s : ℕ} {w : List ℤ} {o : List ℕ} (g : Gone c x k n s w o) (broken : k .broken ≡ 0 → ⊥) where
+  pub asked-shown : Showable (k .broken - 1) s n w
+  asked-shown = let b = broken-some (g .rep) broken in rw (b .2) (showable g (b .0) (b .1))
+
+  module _ (at to : ℕ) (v : List ℤ) (y : Shows (k .broken - 1) s n at to w v) where
+    pub there : Lasso-there c (x .parents) (k .broken - 1) at to v
+    unfolding Shows
+    there = let b = broken-some (g .rep) broken in y .1 c (x .parents) (lies g) (laid g) (rw (b .2) (broke g (b .0) (b .1))) (g .start) (g .vertices)
+
+    long-after : cells-end ≤ length v
+    unfolding Shows
+    long-after = omega (arith, y .0 .long, g .rep .held .laid .long)
+
+    pub asked-written : Lasso-asks at (cycle-at - at) to (cells-end - to) v
+    asked-written = let b = broken-some (g .rep) broken in lasso-asks g (k .broken - 1) (rw (b .2) (b .1)) long-after there
+
+    shown-answers : {r : ℕ} {z : List ℕ} → Lasso-says at (cycle-at - at) to (cells-end - to) r v o z → Answers (answer (c .graph) x) r o z
+    shown-answers l = let b = broken-some (g .rep) broken in lasso-answers g (k .broken - 1) (rw (b .2) (b .1)) long-after there l
+
+pub lasso-shown : (k : Run) (n s at to : ℕ) (w v : List ℤ) {r : ℕ} {o z : List ℕ} → (k .broken ≡ 0 → ⊥) → Shows (k .broken - 1) s n at to w v → Lasso-says at (cycle-at - at) to (cells-end - to) r v o z →
+    Lasso-done k n s r w o z
+lasso-shown k n s at to w v e y l = record { answers = λ c x b g h. shown-answers g e at to v y l }
+
+-- then either answer
+pub answered-lasso : {k : Run} {n s r : ℕ} {w : List ℤ} {o z : List ℕ} → (k .broken ≡ 0 → ⊥) → Lasso-done k n s r w o z → Answer-done k n s r w o z
+answered-lasso n l = record { answers = λ c x g e. let b = broken-some (g .rep) n in l .answers c x (b .0) g (b .1) }
+
+pub answered-empty : (k : Run) {n s r : ℕ} {w : List ℤ} {o z : List ℕ} → k .broken ≡ 0 → Empty-says n r w o z → Answer-done k n s r w o z
+answered-empty k e y = record { answers = λ c x g _. empty-answers g (broken-none (g .rep) e) y }
+
+pub distances-at : {c : Case} {x : State} {k : Run} {n s : ℕ} {w : List ℤ} {o : List ℕ} → Gone c x k n s w o → Distances-at n w
+distances-at g = let l = g .rep .held .laid in record { few = omega (arith, g .vertices, l .within .vertices); inside = omega (arith, l .long, g .vertices, l .within .vertices) }
+
+-- then the outcome
+pub done-written : {c : Case} {x : State} {k : Run} {n s r : ℕ} {w : List ℤ} {o z : List ℕ} → Gone c x k n s w o → over k ≡ true → Answer-done k n s r w o z → r ≤ least-output
+done-written {c} {x} {k} {w = w} g e a = omega (arith, a .answers c x g (over-is c x k w (g .rep) ∙ e) .written, fits-least g)
+
+pub finish-cut : (k : Run) {n s : ℕ} {w v : List ℤ} {o : List ℕ} → over k ≡ false → v ≡ zeros w → Finish-says k n s (record { refusal = 10; verdict = 0; acts = k .acts; written = 0 }) w v o o
+finish-cut k e z = record { says = λ c x g. cut-short g e z }
+
+pub finish-done : {k : Run} {n s r : ℕ} {w : List ℤ} (u : List ℤ) {v : List ℤ} {o z : List ℕ} {t : ℕ} → over k ≡ true → Answer-done k n s r w o z → v ≡ zeros u → length u ≡ length w → t ≡ verdict-of k →
+    Finish-says k n s (record { refusal = 0; verdict = t; acts = k .acts; written = r }) w v o z
+finish-done {k} {w = w} u e a z l q = record { says = λ c x g. rw q (finished g u e (a .answers c x g (over-is c x k w (g .rep) ∙ e)) z l) }

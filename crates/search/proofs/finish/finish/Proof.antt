@@ -1,0 +1,57 @@
+-- `finish::finish`: cut short, or with a result; the cells are cleared either way.
+use mathlib.Core.Path.{refl, sym, _∙_}
+use native.Mathlib.Omega.{arith}
+use Rattle.text.proofs.Tests.{refuted, upheld}
+use Rattle.search.proofs.Ends.{done-written, finish-cut, finish-done}
+use borrow.Author.Needs.{needs}
+use Rattle.search.proofs.finish.finish.Statement.{statement}
+use Rattle.search.proofs.finish.finish.Tie as tie
+
+is-over-requires : tie.Need-is-over-requires
+is-over-requires c κs = search needs
+
+clear-requires : tie.Need-clear-requires
+clear-requires c κs = search needs
+
+same-length : tie.Need-same-length
+same-length c = search needs
+
+returns : tie.Need-returns
+returns c = finish-cut _ (sym (c .before .before .before .before .is-over .ensures) ∙ refuted _ _ (c .before .before .before .if1 .taken) refl) (c .before .clear .ensures)
+
+write-answer-requires : tie.Need-write-answer-requires
+write-answer-requires c κs = search needs
+
+clear-requires-2 : tie.Need-clear-requires-2
+clear-requires-2 c κs = search needs
+
+verdict-requires : tie.Need-verdict-requires
+verdict-requires c κs = search needs
+
+cast-t20 : tie.Need-cast-t20
+cast-t20 c = record { fits = omega (arith, done-written (c .before .before .before .before .before .before .before .before .before .before .before .before .before .pre .gone) (sym (c .before .before .before .before .before .before .before .before .before .before .before .is-over .ensures) ∙ upheld _ _ (c .before .before .before .before .before .before .before .before .before .before .if1 .left) refl) (c .before .before .before .before .before .before .before .write-answer .ensures)) }
+
+same-length-2 : tie.Need-same-length-2
+same-length-2 c = search needs
+
+same-length-3 : tie.Need-same-length-3
+same-length-3 c = search needs
+
+returns-2 : tie.Need-returns-2
+returns-2 c = finish-done _ (sym (c .before .before .before .before .before .before .before .before .before .before .before .is-over .ensures) ∙ upheld _ _ (c .before .before .before .before .before .before .before .before .before .before .if1 .left) refl) (c .before .before .before .before .before .before .before .write-answer .ensures) (c .before .before .clear2 .ensures) (c .before .before .before .before .before .before .before .write-answer .kept .1 .0) (c .verdict .ensures)
+
+pub finish-spec : {M : Type 1} → statement M
+finish-spec =
+    tie.close
+    (tie.spec
+    is-over-requires
+    clear-requires
+    same-length
+    returns
+    write-answer-requires
+    clear-requires-2
+    verdict-requires
+    cast-t20
+    same-length-2
+    same-length-3
+    returns-2)

@@ -1,0 +1,13 @@
+-- `finish::verdict`: by the counter.
+use borrow.Author.Tests.{eq-eqb, ne-eqb}
+use Rattle.search.proofs.finish.verdict.Statement.{statement}
+use Rattle.search.proofs.finish.verdict.Tie as tie
+
+returns : tie.Need-returns
+returns c = rw (ne-eqb _ _ (c .if1 .taken))
+
+returns-2 : tie.Need-returns-2
+returns-2 c = rw (eq-eqb _ _ (c .if1 .left))
+
+pub verdict-spec : {M : Type 1} → statement M
+verdict-spec = tie.close (tie.spec returns returns-2)

@@ -1,0 +1,78 @@
+// The end of a run: its answer into the output, its outcome, and the cells zeros again. Contracts cite specs/Finish.antt.
+ghost use Rattle.search.specs.Finish.{Answer-asks, Lasso-done, Answer-done, Finish-says, verdict-of};
+ghost use mathlib.Core.Path.{_≡_};
+use crate::answer::write_empty;
+use crate::answer::write_lasso;
+use crate::cells::Cells;
+use crate::cells::clear;
+use crate::run::Run;
+use crate::run::is_over;
+use crate::show::show_lasso;
+use casefile::Case;
+use model::Outcome;
+
+// The answer "lasso" of a run whose floor the vertex `broken` broke.
+fn lasso_answer(output: &mut [u8], work: &mut [i32], run: Run, n: usize, source: usize) -> usize
+    requires { ⌜ Answer-asks run n source (now work) (now output) ⌝ }
+    ensures { λ r. ⌜ Lasso-done run n source r (now (work .entry)) (now (output .entry)) (now (output .exit)) ⌝ }
+{
+    if run.broken == 0 {
+        return 0;
+    }
+    let shown = show_lasso(work, run.broken - 1, source, n);
+    let stem = shown.stem;
+    let cycle = shown.cycle;
+    let end = Cells::CYCLE + Case::MOST_VERTICES;
+    write_lasso(output, work, stem, Cells::CYCLE - stem, cycle, end - cycle)
+}
+
+// The answer of a run that has ended.
+fn write_answer(output: &mut [u8], work: &mut [i32], run: Run, n: usize, source: usize) -> usize
+    requires { ⌜ Answer-asks run n source (now work) (now output) ⌝ }
+    ensures { λ r. ⌜ Answer-done run n source r (now (work .entry)) (now (output .entry)) (now (output .exit)) ⌝ }
+{
+    if run.broken != 0 {
+        return lasso_answer(output, work, run, n, source);
+    }
+    write_empty(output, work, n)
+}
+
+// The verdict of a run that has ended.
+fn verdict(run: Run) -> u32
+    ensures { λ r. ⌜ r ≡ verdict-of run ⌝ }
+{
+    if run.broken != 0 {
+        return 1;
+    }
+    2
+}
+
+// Ends a run: with a result if it is over, else by refusal 10.
+pub(crate) fn finish(
+    output: &mut [u8],
+    work: &mut [i32],
+    run: Run,
+    n: usize,
+    source: usize,
+) -> Outcome
+    requires { ⌜ Answer-asks run n source (now work) (now output) ⌝ }
+    ensures { λ r. ⌜ Finish-says run n source r (now (work .entry)) (now (work .exit)) (now (output .entry)) (now (output .exit)) ⌝ }
+{
+    if !is_over(run) {
+        clear(work);
+        return Outcome {
+            refusal: 10,
+            verdict: 0,
+            acts: run.acts,
+            written: 0,
+        };
+    }
+    let written = write_answer(output, work, run, n, source);
+    clear(work);
+    Outcome {
+        refusal: 0,
+        verdict: verdict(run),
+        acts: run.acts,
+        written: written as u32,
+    }
+}
