@@ -1,0 +1,31 @@
+// The C interface: the three entries under their exported names. include/rezkundo.h declares them; a slice crosses as a
+// pointer and a length. Contracts are `model`'s Entry definitions.
+ghost use Rattle.model.specs.Entry.{Check-says, List-says, Rounds-say};
+use model::Checked;
+use model::Outcome;
+
+#[no_mangle]
+pub extern "C" fn rezkundo_run_list(
+    text: &[u8],
+    acts: &[u32],
+    output: &mut [u8],
+    work: &mut [i32],
+) -> Outcome
+    ensures { λ r. ⌜ List-says (now (text .entry)) (now (acts .entry)) r (now (output .entry)) (now (output .exit)) (now (work .entry)) (now (work .exit)) ⌝ }
+{
+    search::run_list(text, acts, output, work)
+}
+
+#[no_mangle]
+pub extern "C" fn rezkundo_run_rounds(text: &[u8], output: &mut [u8], work: &mut [i32]) -> Outcome
+    ensures { λ r. ⌜ Rounds-say (now (text .entry)) r (now (output .entry)) (now (output .exit)) (now (work .entry)) (now (work .exit)) ⌝ }
+{
+    search::run_rounds(text, output, work)
+}
+
+#[no_mangle]
+pub extern "C" fn rezkundo_check_answer(text: &[u8], answer: &[u8]) -> Checked
+    ensures { λ r. ⌜ Check-says (now (text .entry)) (now (answer .entry)) r ⌝ }
+{
+    checker::check_answer(text, answer)
+}
