@@ -1,0 +1,4 @@
+//! What both measuring programs share: the graphs and the clock.
+
+pub mod clock;
+pub mod graphs;

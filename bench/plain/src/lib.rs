@@ -1,0 +1,6 @@
+//! Plain Rust versions of what the library does, written for speed, to be
+//! measured beside it.
+
+pub mod nested;
+pub mod reader;
+pub mod rounds;

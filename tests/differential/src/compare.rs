@@ -1,0 +1,224 @@
+//! One call of a tool beside the same call of the reference.
+
+use std::fmt::{self, Debug, Display, Formatter};
+
+use reference::entries::{Checked, OUTPUT_BYTES, Outcome, Reference, Tool, WORK_CELLS};
+
+/// Items of the larger vector before the lent part, and after it.
+const GUARD: usize = 64;
+
+/// How the run is called.
+#[derive(Clone, Copy)]
+pub enum Entry<'a> {
+    Rounds,
+    List(&'a [u32]),
+}
+
+/// Lengths of the two lent buffers.
+#[derive(Clone, Copy, Debug)]
+pub struct Lengths {
+    pub output: usize,
+    pub work: usize,
+}
+
+/// The least lengths that are not refused.
+pub const LEAST: Lengths = Lengths {
+    output: OUTPUT_BYTES,
+    work: WORK_CELLS,
+};
+
+/// A call on which tool and reference differ.
+pub struct Mismatch {
+    /// One line: the call and the first difference.
+    pub summary: String,
+    /// The inputs, whole.
+    pub inputs: String,
+}
+
+/// A buffer that is lent as the middle part of a larger vector, so that a
+/// write outside the lent part can be seen.
+struct Lent<T> {
+    items: Vec<T>,
+}
+
+impl<T: Copy + PartialEq + Debug> Lent<T> {
+    fn new(length: usize, pattern: impl Fn(usize) -> T) -> Self {
+        Lent {
+            items: (0..length + 2 * GUARD).map(pattern).collect(),
+        }
+    }
+
+    fn part(&mut self) -> &mut [T] {
+        let end = self.items.len() - GUARD;
+        &mut self.items[GUARD..end]
+    }
+
+    /// The first difference; guards count like the rest.
+    fn difference(&self, expected: &Self, name: &str) -> Option<String> {
+        let place = self
+            .items
+            .iter()
+            .zip(&expected.items)
+            .position(|(got, want)| got != want)?;
+        let (got, want) = (self.items[place], expected.items[place]);
+        let place = place as i64 - GUARD as i64;
+        Some(format!("{name}[{place}] should be {want:?} and is {got:?}"))
+    }
+}
+
+/// The pattern that fills the output before a call. Its length shares no
+/// factor with powers of two, so that shifted copies differ.
+fn output_pattern(place: usize) -> u8 {
+    (place % 251) as u8 ^ 0xa5
+}
+
+/// The pattern that fills the work buffer before a call: never 0.
+fn work_pattern(place: usize) -> i32 {
+    !(place as i32)
+}
+
+/// What a run leaves.
+struct Left {
+    outcome: Outcome,
+    output: Lent<u8>,
+    work: Lent<i32>,
+}
+
+fn run(tool: &dyn Tool, entry: Entry, text: &[u8], lengths: Lengths) -> Left {
+    let mut output = Lent::new(lengths.output, output_pattern);
+    let mut work = Lent::new(lengths.work, work_pattern);
+    let outcome = match entry {
+        Entry::Rounds => tool.run_rounds(text, output.part(), work.part()),
+        Entry::List(acts) => tool.run_list(text, acts, output.part(), work.part()),
+    };
+    Left {
+        outcome,
+        output,
+        work,
+    }
+}
+
+fn difference(got: &Left, want: &Left) -> Option<String> {
+    if got.outcome != want.outcome {
+        return Some(format!(
+            "should return {:?} and returns {:?}",
+            want.outcome, got.outcome
+        ));
+    }
+    let output = got.output.difference(&want.output, "output");
+    output.or_else(|| got.work.difference(&want.work, "work"))
+}
+
+/// How many calls came out in each way: place 0 counts results and passes,
+/// the others the refusals of that number.
+#[derive(Default)]
+pub struct Tally {
+    runs: [u64; 14],
+    checks: [u64; 14],
+}
+
+impl Tally {
+    pub fn calls(&self) -> u64 {
+        self.runs.iter().chain(&self.checks).sum()
+    }
+}
+
+impl Display for Tally {
+    fn fmt(&self, formatter: &mut Formatter) -> fmt::Result {
+        for (name, counts) in [("runs", &self.runs), ("checks", &self.checks)] {
+            write!(formatter, "{name} by refusal:")?;
+            for (refusal, count) in counts.iter().enumerate().filter(|(_, count)| **count > 0) {
+                write!(formatter, " {refusal}: {count}")?;
+            }
+            writeln!(formatter)?;
+        }
+        Ok(())
+    }
+}
+
+/// A tool under comparison.
+pub struct Comparison<'a> {
+    tool: &'a dyn Tool,
+    pub tally: Tally,
+}
+
+impl<'a> Comparison<'a> {
+    pub fn new(tool: &'a dyn Tool) -> Self {
+        Comparison {
+            tool,
+            tally: Tally::default(),
+        }
+    }
+
+    /// Compares a run; returns what both return, and the answer.
+    pub fn run(
+        &mut self,
+        entry: Entry,
+        text: &[u8],
+        lengths: Lengths,
+    ) -> Result<(Outcome, Vec<u8>), Mismatch> {
+        let mut want = run(&Reference, entry, text, lengths);
+        self.tally.runs[want.outcome.refusal as usize] += 1;
+        let got = run(self.tool, entry, text, lengths);
+        if let Some(difference) = difference(&got, &want) {
+            let name = if let Entry::Rounds = entry {
+                "run_rounds"
+            } else {
+                "run_list"
+            };
+            return Err(Mismatch {
+                summary: format!("{name} {difference}"),
+                inputs: run_inputs(entry, text, lengths),
+            });
+        }
+        let answer = want.output.part()[..want.outcome.written as usize].to_vec();
+        Ok((want.outcome, answer))
+    }
+
+    /// Compares a check; returns what both return.
+    pub fn check(&mut self, text: &[u8], answer: &[u8]) -> Result<Checked, Mismatch> {
+        let want = Reference.check_answer(text, answer);
+        self.tally.checks[want.refusal as usize] += 1;
+        let got = self.tool.check_answer(text, answer);
+        if got == want {
+            return Ok(want);
+        }
+        Err(Mismatch {
+            summary: format!("check_answer should return {want:?} and returns {got:?}"),
+            inputs: format!("case:\n{}\nanswer:\n{}", shown(text), shown(answer)),
+        })
+    }
+
+    /// Compares the check of an answer that a run has given: it must pass
+    /// with the run's verdict.
+    pub fn check_own(&mut self, text: &[u8], answer: &[u8], verdict: u32) -> Result<(), Mismatch> {
+        let checked = self.check(text, answer)?;
+        if checked
+            == (Checked {
+                refusal: 0,
+                verdict,
+            })
+        {
+            return Ok(());
+        }
+        Err(Mismatch {
+            summary: format!(
+                "check_answer should pass the run's own answer and returns {checked:?}"
+            ),
+            inputs: format!("case:\n{}\nanswer:\n{}", shown(text), shown(answer)),
+        })
+    }
+}
+
+fn run_inputs(entry: Entry, text: &[u8], lengths: Lengths) -> String {
+    let acts = match entry {
+        Entry::Rounds => "by rounds".to_owned(),
+        Entry::List(acts) => format!("acts: {acts:?}"),
+    };
+    format!("{lengths:?}\n{acts}\ncase:\n{}", shown(text))
+}
+
+/// A text with its odd bytes made visible, line by line.
+fn shown(text: &[u8]) -> String {
+    text.escape_ascii().to_string().replace("\\n", "\\n\n")
+}

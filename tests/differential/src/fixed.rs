@@ -1,0 +1,181 @@
+//! Comparisons that do not depend on a seed: the kept runs, the limits, the
+//! buffers, every small change to a file and every small graph.
+
+use inputs::damage::every_small_change;
+use inputs::graphs::{every_case, text_of};
+use inputs::kept::{K1, kept_runs};
+use reference::case::{Case, MOST_EDGES, MOST_VERTICES, MOST_WORKERS};
+use reference::text::LONGEST_FILE;
+
+use crate::compare::{Comparison, Entry, LEAST, Lengths, Mismatch};
+
+const OUTPUT_LENGTHS: [usize; 4] = [0, 8_191, 8_192, 9_000];
+const WORK_LENGTHS: [usize; 4] = [0, 16_383, 16_384, 20_000];
+
+/// All of them.
+pub fn compare_all(comparison: &mut Comparison) -> Result<(), Mismatch> {
+    compare_kept_runs(comparison)?;
+    compare_buffer_lengths(comparison)?;
+    compare_limits(comparison)?;
+    compare_long_files(comparison)?;
+    compare_small_changes(comparison)?;
+    compare_small_graphs(comparison)?;
+    compare_long_runs(comparison)
+}
+
+fn compare_kept_runs(comparison: &mut Comparison) -> Result<(), Mismatch> {
+    for kept in kept_runs() {
+        let entry = kept.acts.as_deref().map_or(Entry::Rounds, Entry::List);
+        comparison.run(entry, kept.text.as_bytes(), LEAST)?;
+        comparison.check(kept.text.as_bytes(), kept.answer.as_bytes())?;
+    }
+    Ok(())
+}
+
+/// Every pair of lengths with a result, a refused case, a refused list and a
+/// list that runs out.
+fn compare_buffer_lengths(comparison: &mut Comparison) -> Result<(), Mismatch> {
+    let overlong = vec![b'x'; LONGEST_FILE + 1];
+    for output in OUTPUT_LENGTHS {
+        for work in WORK_LENGTHS {
+            let lengths = Lengths { output, work };
+            for text in [K1.as_bytes(), b"", b"version x\n2", &overlong] {
+                comparison.run(Entry::Rounds, text, lengths)?;
+                for acts in [
+                    &[][..],
+                    &[0],
+                    &[0, 2, 1, 3, 0, 4, 1, 3],
+                    &[5],
+                    &[u32::MAX, 0],
+                ] {
+                    comparison.run(Entry::List(acts), text, lengths)?;
+                }
+            }
+        }
+    }
+    Ok(())
+}
+
+/// A case of so many vertices, edges and workers, all in one long line of
+/// vertices with some edges to spare; past a limit, it must be refused.
+fn case_of(vertices: usize, edges: usize, workers: usize) -> Case {
+    let steps = 1..=edges.div_ceil(vertices);
+    let pairs = (0..vertices).flat_map(|from| steps.clone().map(move |step| (from, from + step)));
+    let mut ends: Vec<_> = pairs.map(|(from, to)| (from, to % vertices)).collect();
+    ends.sort_unstable();
+    ends.dedup();
+    ends.truncate(edges);
+    Case {
+        source: 0,
+        workers,
+        accepting: (0..vertices).map(|vertex| vertex % 50 == 7).collect(),
+        owners: (0..vertices).map(|vertex| vertex % workers).collect(),
+        edges: ends,
+    }
+}
+
+fn compare_limits(comparison: &mut Comparison) -> Result<(), Mismatch> {
+    let greatest = (MOST_VERTICES, MOST_EDGES, MOST_WORKERS);
+    for (more_vertices, more_edges, more_workers) in [(0, 0, 0), (1, 0, 0), (0, 1, 0), (0, 0, 1)] {
+        let (vertices, edges, workers) = greatest;
+        let case = case_of(
+            vertices + more_vertices,
+            edges + more_edges,
+            workers + more_workers,
+        );
+        compare_whole(comparison, &text_of(&case))?;
+    }
+    for vertices in [1, 2, MOST_VERTICES] {
+        for source in [vertices - 1, vertices] {
+            let case = Case {
+                source,
+                ..case_of(vertices, 0, MOST_WORKERS)
+            };
+            compare_whole(comparison, &text_of(&case))?;
+        }
+    }
+    let mut owner_too_large = case_of(3, 3, 2);
+    owner_too_large.owners[2] = 2;
+    compare_whole(comparison, &text_of(&owner_too_large))
+}
+
+/// A run by rounds and the check of its own answer.
+fn compare_whole(comparison: &mut Comparison, text: &[u8]) -> Result<(), Mismatch> {
+    let (outcome, answer) = comparison.run(Entry::Rounds, text, LEAST)?;
+    if outcome.refusal == 0 {
+        comparison.check_own(text, &answer, outcome.verdict)?;
+    }
+    Ok(())
+}
+
+/// Files of the greatest length and one byte more, as case and as answer.
+fn compare_long_files(comparison: &mut Comparison) -> Result<(), Mismatch> {
+    let answer = "version verdict stem cycle reached\n1 lasso 1 2 0\nedge\n0\n1\n2\n";
+    for start in [
+        K1,
+        answer,
+        "version x\n2 ",
+        "version x\n1\n",
+        "version ",
+        "versio",
+        "",
+    ] {
+        for filler in [b'x', b'\n', b' ', b'0'] {
+            for length in [LONGEST_FILE, LONGEST_FILE + 1] {
+                let mut file = start.as_bytes().to_vec();
+                file.resize(length, filler);
+                comparison.run(Entry::Rounds, &file, LEAST)?;
+                comparison.run(Entry::List(&[0, u32::MAX]), &file, LEAST)?;
+                comparison.check(&file, answer.as_bytes())?;
+                comparison.check(&file, &file)?;
+                comparison.check(K1.as_bytes(), &file)?;
+            }
+        }
+    }
+    Ok(())
+}
+
+fn compare_small_changes(comparison: &mut Comparison) -> Result<(), Mismatch> {
+    for kept in kept_runs() {
+        if !["K1", "K2", "K4"].contains(&kept.name) {
+            continue;
+        }
+        let (text, answer) = (kept.text.as_bytes(), kept.answer.as_bytes());
+        for changed in every_small_change(text) {
+            comparison.run(Entry::Rounds, &changed, LEAST)?;
+            comparison.check(&changed, answer)?;
+        }
+        for changed in every_small_change(answer) {
+            comparison.check(text, &changed)?;
+        }
+    }
+    Ok(())
+}
+
+fn compare_small_graphs(comparison: &mut Comparison) -> Result<(), Mismatch> {
+    for case in (1..=3).flat_map(every_case) {
+        compare_whole(comparison, &text_of(&case))?;
+    }
+    Ok(())
+}
+
+/// Rings whose lone accepting vertex lowers little in each lap, while
+/// accepting vertices that cannot be reached put the floor far down.
+fn compare_long_runs(comparison: &mut Comparison) -> Result<(), Mismatch> {
+    for (ring, others, workers) in [(60, 60, 1), (60, 60, 7), (150, 40, 16), (2, 498, 2)] {
+        let vertices = ring + others;
+        let case = Case {
+            source: ring / 2,
+            workers,
+            accepting: (0..vertices)
+                .map(|vertex| vertex == 0 || vertex >= ring)
+                .collect(),
+            owners: (0..vertices).map(|vertex| vertex % workers).collect(),
+            edges: (0..ring)
+                .map(|vertex| (vertex, (vertex + 1) % ring))
+                .collect(),
+        };
+        compare_whole(comparison, &text_of(&case))?;
+    }
+    Ok(())
+}

@@ -1,0 +1,433 @@
+//! The reference with one fault each: the comparison must find every one.
+//!
+//! A mutant takes over one hook of a run or a check and leaves the rest as
+//! the reference has it.
+
+use std::borrow::Cow;
+
+use reference::answer::{Answer, EMPTY_NAMES, cycle, fewest_edges_to};
+use reference::case::{self, Case};
+use reference::checker::{self, is_lasso_shaped, leaves_accepting};
+use reference::entries::{Checked, Outcome, Report, Tool, WORK_CELLS, check_with, run_with};
+use reference::refusal::Refusal;
+use reference::run::{Finding, Run, by_list, judge_acts};
+
+/// A faulty tool: each hook is right unless a mutant takes it over.
+trait Faulty {
+    /// The case text that is read in place of the one given.
+    fn case_text<'a>(&self, text: &'a [u8]) -> Cow<'a, [u8]> {
+        text.into()
+    }
+
+    /// The list that is followed in place of the one given.
+    fn list<'a>(&self, _case: &Case, acts: &'a [u32]) -> &'a [u32] {
+        acts
+    }
+
+    /// Changes a fresh run.
+    fn begin(&self, _run: &mut Run) {}
+
+    /// Does an act.
+    fn act(&self, run: &mut Run, act: usize) {
+        run.act(act);
+    }
+
+    /// The answer of a run.
+    fn answer(&self, run: &Run) -> Option<Answer> {
+        answer_at_any_rate(run)
+    }
+
+    /// Changes what a run leaves in its buffers; `before` is what was there.
+    fn leave(&self, _outcome: Outcome, _before: &Buffers, _output: &mut [u8], _work: &mut [i32]) {}
+
+    /// Reads and judges an answer.
+    fn check(&self, case: &Case, answer: &[u8]) -> Result<Answer, Refusal> {
+        checker::check(case, answer)
+    }
+}
+
+/// Copies of both buffers, made before a run.
+struct Buffers {
+    output: Vec<u8>,
+    work: Vec<i32>,
+}
+
+/// A faulty run may see the floor broken where no parents close a cycle; it
+/// then answers with none, for even a mutant must not panic.
+fn answer_at_any_rate(run: &Run) -> Option<Answer> {
+    match run.finding? {
+        Finding::Lasso { breaker } if cycle(run, breaker).is_none() => Some(Answer::Lasso {
+            stem: vec![],
+            cycle: vec![],
+        }),
+        _ => Answer::of(run),
+    }
+}
+
+/// A mutant with its name.
+pub struct Mutant {
+    pub name: &'static str,
+    fault: Box<dyn Faulty>,
+}
+
+impl Mutant {
+    fn search(&self, case: &Case, acts: impl Iterator<Item = usize>) -> Report {
+        let mut run = Run::fresh(case);
+        self.fault.begin(&mut run);
+        for act in acts {
+            self.fault.act(&mut run, act);
+            if run.finding.is_some() {
+                break;
+            }
+        }
+        Report {
+            acts: run.acts_counted,
+            answer: self.fault.answer(&run),
+        }
+    }
+
+    fn run(
+        &self,
+        text: &[u8],
+        output: &mut [u8],
+        work: &mut [i32],
+        search: impl FnOnce(&Case) -> Result<Report, Refusal>,
+    ) -> Outcome {
+        let before = Buffers {
+            output: output.to_vec(),
+            work: work.to_vec(),
+        };
+        let outcome = run_with(&self.fault.case_text(text), output, work, search);
+        self.fault.leave(outcome, &before, output, work);
+        outcome
+    }
+}
+
+impl Tool for Mutant {
+    fn run_list(&self, text: &[u8], acts: &[u32], output: &mut [u8], work: &mut [i32]) -> Outcome {
+        self.run(text, output, work, |case| {
+            let acts = self.fault.list(case, acts);
+            judge_acts(case, acts)?;
+            Ok(self.search(case, acts.iter().map(|&act| act as usize)))
+        })
+    }
+
+    fn run_rounds(&self, text: &[u8], output: &mut [u8], work: &mut [i32]) -> Outcome {
+        self.run(text, output, work, |case| {
+            Ok(self.search(case, (0..case.act_count()).cycle()))
+        })
+    }
+
+    fn check_answer(&self, text: &[u8], answer: &[u8]) -> Checked {
+        check_with(&self.fault.case_text(text), |case| {
+            self.fault.check(case, answer)
+        })
+    }
+}
+
+/// The tool without any fault: the comparison must not find anything.
+pub fn faultless() -> Mutant {
+    Mutant {
+        name: "no fault",
+        fault: Box::new(NoFault),
+    }
+}
+
+/// Every mutant.
+pub fn mutants() -> Vec<Mutant> {
+    let mutant = |name, fault| Mutant { name, fault };
+    vec![
+        mutant("floor at -A", Box::new(FloorAtMinusA)),
+        mutant(
+            "ended while a message waits",
+            Box::new(EndedWhileMessageWaits),
+        ),
+        mutant("late higher offer overwrites", Box::new(LateHigherOffer)),
+        mutant("stem from parent edges", Box::new(StemFromParents)),
+        mutant("accepting on the stem counts", Box::new(AcceptingOnStem)),
+        mutant("cells past 16,384 not zeroed", Box::new(FarCellsKept)),
+        mutant("output changed on refusal 10", Box::new(OutputChanged)),
+        mutant("9 only up to the run's end", Box::new(NineUpToEnd)),
+        mutant("-0 accepted", Box::new(MinusZero)),
+        mutant("trailing bytes accepted", Box::new(TrailingBytes)),
+        mutant(
+            "waiting offer stays when a lower one comes",
+            Box::new(WaitingOfferStays),
+        ),
+        mutant("scan goes on below the floor", Box::new(ScanGoesOn)),
+        mutant(
+            "distance read again within a scan",
+            Box::new(DistanceReadAgain),
+        ),
+        mutant("idle acts counted", Box::new(IdleCounted)),
+        mutant(
+            "only reachable accepting vertices in A",
+            Box::new(ReachableOnly),
+        ),
+        mutant("delivered vertex joins at the head", Box::new(JoinsAtHead)),
+        mutant("stem last in dictionary order", Box::new(StemLastInOrder)),
+        mutant("work kept on refusal 10", Box::new(WorkKept)),
+        mutant(
+            "line without line feed accepted at the end",
+            Box::new(TornLine),
+        ),
+        mutant(
+            "passing rule judged before bytes too many",
+            Box::new(RuleBeforeEnd),
+        ),
+    ]
+}
+
+struct NoFault;
+impl Faulty for NoFault {}
+
+struct FloorAtMinusA;
+impl Faulty for FloorAtMinusA {
+    fn begin(&self, run: &mut Run) {
+        run.floor += 1;
+    }
+}
+
+struct EndedWhileMessageWaits;
+impl Faulty for EndedWhileMessageWaits {
+    fn act(&self, run: &mut Run, act: usize) {
+        run.act(act);
+        if run.finding.is_none() && run.queues_empty() {
+            run.finding = Some(Finding::Empty);
+        }
+    }
+}
+
+/// Only early in a run, so that every run still ends.
+struct LateHigherOffer;
+impl Faulty for LateHigherOffer {
+    fn act(&self, run: &mut Run, act: usize) {
+        let edge = act.checked_sub(run.case.workers);
+        if let Some((edge, offer)) = edge.and_then(|edge| Some((edge, run.cells[edge]?))) {
+            let distance = &mut run.distances[run.case.edges[edge].1];
+            if run.acts_counted < 50 && distance.is_some_and(|distance| distance < offer) {
+                // Forgetting the lower distance makes the try take the offer.
+                *distance = None;
+            }
+        }
+        run.act(act);
+    }
+}
+
+struct StemFromParents;
+impl Faulty for StemFromParents {
+    fn answer(&self, run: &Run) -> Option<Answer> {
+        let Some(Answer::Lasso { cycle, .. }) = answer_at_any_rate(run) else {
+            return answer_at_any_rate(run);
+        };
+        let mut stem = Vec::new();
+        let mut vertex = run.case.edges[cycle[0]].0;
+        while vertex != run.case.source && stem.len() < run.case.vertices() {
+            let edge = run.parents[vertex]?;
+            stem.insert(0, edge);
+            vertex = run.case.edges[edge].0;
+        }
+        Some(Answer::Lasso { stem, cycle })
+    }
+}
+
+struct AcceptingOnStem;
+impl Faulty for AcceptingOnStem {
+    fn check(&self, case: &Case, answer: &[u8]) -> Result<Answer, Refusal> {
+        match checker::read(case, answer)? {
+            Answer::Lasso { stem, cycle }
+                if is_lasso_shaped(case, &stem, &cycle) && leaves_accepting(case, &stem) =>
+            {
+                Ok(Answer::Lasso { stem, cycle })
+            }
+            _ => checker::check(case, answer),
+        }
+    }
+}
+
+struct FarCellsKept;
+impl Faulty for FarCellsKept {
+    fn leave(&self, _outcome: Outcome, before: &Buffers, _output: &mut [u8], work: &mut [i32]) {
+        let near = WORK_CELLS.min(work.len());
+        work[near..].copy_from_slice(&before.work[near..]);
+    }
+}
+
+struct OutputChanged;
+impl Faulty for OutputChanged {
+    fn leave(&self, outcome: Outcome, before: &Buffers, output: &mut [u8], _work: &mut [i32]) {
+        if outcome.refusal == Refusal::ActsRanOut.number() {
+            output[0] = !before.output[0];
+        }
+    }
+}
+
+struct NineUpToEnd;
+impl Faulty for NineUpToEnd {
+    fn list<'a>(&self, case: &Case, acts: &'a [u32]) -> &'a [u32] {
+        let in_range = acts
+            .iter()
+            .take_while(|&&act| (act as usize) < case.act_count())
+            .count();
+        let ended = by_list(case, &acts[..in_range]).is_ok_and(|run| run.finding.is_some());
+        if ended { &acts[..in_range] } else { acts }
+    }
+}
+
+struct MinusZero;
+impl Faulty for MinusZero {
+    fn check(&self, case: &Case, answer: &[u8]) -> Result<Answer, Refusal> {
+        let answer = String::from_utf8_lossy(answer);
+        let Some((head, lines)) = answer.split_once(EMPTY_NAMES) else {
+            return checker::check(case, answer.as_bytes());
+        };
+        let kind_lines = lines.replace(" -0\n", " 0\n");
+        checker::check(case, [head, EMPTY_NAMES, &kind_lines].concat().as_bytes())
+    }
+}
+
+struct TrailingBytes;
+impl Faulty for TrailingBytes {
+    fn case_text<'a>(&self, text: &'a [u8]) -> Cow<'a, [u8]> {
+        let ends = (0..text.len()).filter(|&place| text[place] == b'\n');
+        let whole = ends
+            .map(|end| &text[..=end])
+            .find(|part| case::read(part).is_ok());
+        whole.unwrap_or(text).into()
+    }
+}
+
+struct WaitingOfferStays;
+impl Faulty for WaitingOfferStays {
+    fn act(&self, run: &mut Run, act: usize) {
+        let waiting = run.cells.clone();
+        run.act(act);
+        if act < run.case.workers {
+            for (cell, waiting) in run.cells.iter_mut().zip(waiting) {
+                *cell = waiting.or(*cell);
+            }
+        }
+    }
+}
+
+struct ScanGoesOn;
+impl Faulty for ScanGoesOn {
+    fn act(&self, run: &mut Run, act: usize) {
+        let head = run.queues.get(act).and_then(|queue| queue.front().copied());
+        let distance = head.and_then(|head| run.distances[head]);
+        run.act(act);
+        if let (Some(head), Some(distance), Some(_)) = (head, distance, run.finding) {
+            // Offers that were made before the break change nothing now.
+            for edge in run.case.edges_from(head) {
+                run.offer(edge, distance + run.case.length(edge));
+            }
+        }
+    }
+}
+
+struct DistanceReadAgain;
+impl Faulty for DistanceReadAgain {
+    fn act(&self, run: &mut Run, act: usize) {
+        let Some(vertex) = run.queues.get_mut(act).and_then(|queue| queue.pop_front()) else {
+            run.act(act);
+            return;
+        };
+        for edge in run.case.edges_from(vertex) {
+            let distance = run.distances[vertex].unwrap_or_default();
+            run.offer(edge, distance + run.case.length(edge));
+            if run.finding.is_some() {
+                break;
+            }
+        }
+        run.acts_counted += 1;
+        run.end_if_nothing_waits();
+    }
+}
+
+struct IdleCounted;
+impl Faulty for IdleCounted {
+    fn act(&self, run: &mut Run, act: usize) {
+        let counted = run.acts_counted;
+        run.act(act);
+        run.acts_counted = counted + 1;
+    }
+}
+
+struct ReachableOnly;
+impl Faulty for ReachableOnly {
+    fn begin(&self, run: &mut Run) {
+        let case = run.case;
+        let unreachable = |&vertex: &usize| fewest_edges_to(case, vertex)[case.source].is_none();
+        let accepting = (0..case.vertices()).filter(|&vertex| case.accepting[vertex]);
+        run.floor += accepting.filter(unreachable).count() as i32;
+    }
+}
+
+struct JoinsAtHead;
+impl Faulty for JoinsAtHead {
+    fn act(&self, run: &mut Run, act: usize) {
+        let Some(edge) = act.checked_sub(run.case.workers) else {
+            run.act(act);
+            return;
+        };
+        let owner = run.case.owners[run.case.edges[edge].1];
+        let length = run.queues[owner].len();
+        run.act(act);
+        if run.queues[owner].len() > length {
+            run.queues[owner].rotate_right(1);
+        }
+    }
+}
+
+struct StemLastInOrder;
+impl Faulty for StemLastInOrder {
+    fn answer(&self, run: &Run) -> Option<Answer> {
+        let Some(Answer::Lasso { cycle, .. }) = answer_at_any_rate(run) else {
+            return answer_at_any_rate(run);
+        };
+        let edges_left = fewest_edges_to(run.case, run.case.edges[cycle[0]].0);
+        let mut stem = Vec::new();
+        let mut vertex = run.case.source;
+        for left in (0..edges_left[vertex]?).rev() {
+            let nearer = |edge: &usize| edges_left[run.case.edges[*edge].1] == Some(left);
+            let edge = run.case.edges_from(vertex).rfind(nearer)?;
+            stem.push(edge);
+            vertex = run.case.edges[edge].1;
+        }
+        Some(Answer::Lasso { stem, cycle })
+    }
+}
+
+struct WorkKept;
+impl Faulty for WorkKept {
+    fn leave(&self, outcome: Outcome, before: &Buffers, _output: &mut [u8], work: &mut [i32]) {
+        if outcome.refusal == Refusal::ActsRanOut.number() {
+            work.copy_from_slice(&before.work);
+        }
+    }
+}
+
+struct TornLine;
+impl Faulty for TornLine {
+    fn case_text<'a>(&self, text: &'a [u8]) -> Cow<'a, [u8]> {
+        let ended = [text, b"\n"].concat();
+        if case::read(&ended).is_ok() {
+            ended.into()
+        } else {
+            text.into()
+        }
+    }
+}
+
+/// Judges the walk of a lasso before it looks for bytes after the last line.
+struct RuleBeforeEnd;
+impl Faulty for RuleBeforeEnd {
+    fn check(&self, case: &Case, answer: &[u8]) -> Result<Answer, Refusal> {
+        let ends = (0..answer.len()).filter(|&place| answer[place] == b'\n');
+        let whole = ends
+            .map(|end| &answer[..=end])
+            .find(|part| checker::read(case, part).is_ok());
+        checker::check(case, whole.unwrap_or(answer))?;
+        checker::check(case, answer)
+    }
+}

@@ -1,0 +1,167 @@
+//! Random cases, and the text of a case.
+
+use std::collections::BTreeSet;
+use std::fmt::Write;
+
+use reference::case::{
+    COUNT_NAMES, Case, EDGE_NAMES, MOST_EDGES, MOST_VERTICES, MOST_WORKERS, VERTEX_NAMES,
+};
+
+use crate::rng::Rng;
+
+/// How large a random case may be.
+#[derive(Clone, Copy, Debug, PartialEq, Eq)]
+pub enum Size {
+    /// 1 to 8 vertices.
+    Small,
+    /// 9 to 40 vertices.
+    Medium,
+    /// 300 to 500 vertices.
+    Large,
+}
+
+/// Which edges a random case may have.
+#[derive(Clone, Copy)]
+enum Edges {
+    Any,
+    /// Only to higher vertices, so that there is no cycle.
+    Rising,
+    /// A ring through all vertices and some chords.
+    Ring,
+    /// Rising ones and a single edge back.
+    OneBack,
+}
+
+/// A random case.
+pub fn random_case(rng: &mut Rng, size: Size) -> Case {
+    let vertices = match size {
+        Size::Small => rng.between(1, 8),
+        Size::Medium => rng.between(9, 40),
+        Size::Large => rng.pick(&[300, 499, MOST_VERTICES]),
+    };
+    let few_workers = rng.pick(&[1, 2, 2, 3, 4]);
+    let any_workers = rng.between(1, MOST_WORKERS);
+    let workers = rng.pick(&[few_workers, few_workers, any_workers]);
+    Case {
+        source: if rng.chance(1, 2) {
+            0
+        } else {
+            rng.below(vertices)
+        },
+        workers,
+        accepting: random_marks(rng, vertices),
+        owners: (0..vertices).map(|_| rng.below(workers)).collect(),
+        edges: random_edges(rng, vertices, size),
+    }
+}
+
+/// Accepting marks of every density, from none through one to all.
+fn random_marks(rng: &mut Rng, vertices: usize) -> Vec<bool> {
+    let percent = rng.pick(&[0, 0, 10, 30, 50, 80, 100]);
+    let mut marks: Vec<bool> = (0..vertices).map(|_| rng.chance(percent, 100)).collect();
+    if rng.chance(3, 4) {
+        marks[rng.below(vertices)] = true;
+    }
+    marks
+}
+
+fn random_edges(rng: &mut Rng, vertices: usize, size: Size) -> Vec<(usize, usize)> {
+    let style = rng.pick(&[
+        Edges::Any,
+        Edges::Any,
+        Edges::Rising,
+        Edges::Ring,
+        Edges::OneBack,
+    ]);
+    let possible = vertices * vertices;
+    let wanted = match size {
+        Size::Large => rng.pick(&[vertices, 2 * vertices, MOST_EDGES]),
+        _ if rng.chance(1, 4) => rng.between(0, possible),
+        _ => rng.between(0, 2 * vertices),
+    };
+    let mut edges = BTreeSet::new();
+    if let Edges::Ring = style {
+        edges.extend((0..vertices).map(|vertex| (vertex, (vertex + 1) % vertices)));
+    }
+    // Draws that repeat an edge or break the style are lost: `wanted` is an
+    // aim, not a promise.
+    for _ in 0..2 * wanted {
+        let (from, to) = (rng.below(vertices), rng.below(vertices));
+        let fits = match style {
+            Edges::Any | Edges::Ring => true,
+            Edges::Rising | Edges::OneBack => from < to,
+        };
+        if fits && edges.len() < wanted.min(MOST_EDGES) {
+            edges.insert((from, to));
+        }
+    }
+    if let Edges::OneBack = style
+        && edges.len() < MOST_EDGES
+    {
+        let to = rng.below(vertices);
+        edges.insert((rng.between(to, vertices - 1), to));
+    }
+    edges.into_iter().collect()
+}
+
+/// Every graph on so many vertices, each as a case with one worker per vertex
+/// and, if there are several, as a case with one worker.
+pub fn every_case(vertices: usize) -> impl Iterator<Item = Case> {
+    let pairs = vertices * vertices;
+    let graphs = 1_usize << (pairs + vertices);
+    let workers = if vertices == 1 {
+        vec![1]
+    } else {
+        vec![vertices, 1]
+    };
+    (0..graphs).flat_map(move |bits| {
+        let bit = move |place: usize| bits >> place & 1 == 1;
+        let edge = move |pair: usize| (pair / vertices, pair % vertices);
+        workers.clone().into_iter().map(move |workers| Case {
+            source: 0,
+            workers,
+            accepting: (0..vertices).map(|vertex| bit(pairs + vertex)).collect(),
+            owners: (0..vertices).map(|vertex| vertex % workers).collect(),
+            edges: (0..pairs).filter(|&pair| bit(pair)).map(edge).collect(),
+        })
+    })
+}
+
+/// A copy with one value changed, nearly always to one that a reader must
+/// refuse. Its text has the right layout, so that no fault of layout hides it.
+pub fn with_wrong_value(rng: &mut Rng, case: &Case) -> Case {
+    let mut case = case.clone();
+    let (vertex, vertices) = (rng.below(case.vertices()), case.vertices());
+    let edge = rng.below(case.edges.len().max(1));
+    match rng.below(8) {
+        0 => case.source = vertices + rng.below(2),
+        1 => case.workers = rng.pick(&[0, MOST_WORKERS + 1]),
+        2 => case.owners[vertex] = case.workers,
+        _ if case.edges.is_empty() => case.edges.push((0, vertices)),
+        3 => case.edges[edge].0 = vertices,
+        4 => case.edges[edge].1 = vertices + rng.below(2),
+        5 => case.edges.insert(edge, case.edges[edge]),
+        6 => case.edges.swap(0, edge),
+        _ => case.edges.reverse(),
+    }
+    case
+}
+
+/// The text of a case. It may be one that a reader must refuse: nothing is
+/// checked here.
+pub fn text_of(case: &Case) -> Vec<u8> {
+    let (vertices, edges) = (case.vertices(), case.edges.len());
+    let mut text = format!(
+        "{COUNT_NAMES}\n1 {vertices} {edges} {} {}\n",
+        case.source, case.workers
+    );
+    text += &format!("{VERTEX_NAMES}\n");
+    for (vertex, (&mark, owner)) in case.accepting.iter().zip(&case.owners).enumerate() {
+        writeln!(text, "{vertex} {} {owner}", u8::from(mark)).expect("a string takes any text");
+    }
+    text += &format!("{EDGE_NAMES}\n");
+    for (from, to) in &case.edges {
+        writeln!(text, "{from} {to}").expect("a string takes any text");
+    }
+    text.into_bytes()
+}

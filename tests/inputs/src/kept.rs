@@ -1,0 +1,112 @@
+//! The bench runs K1 to K11 that the paper keeps, with their outcomes as the
+//! paper prints them.
+
+use reference::entries::Outcome;
+
+pub const K1: &str = "version vertices edges source workers
+1 3 3 0 2
+vertex accepting owner
+0 0 0
+1 1 1
+2 0 0
+from to
+0 1
+1 2
+2 1
+";
+
+const K1_LASSO: &str = "version verdict stem cycle reached\n1 lasso 1 2 0\nedge\n0\n1\n2\n";
+const K2_EMPTY: &str =
+    "version verdict stem cycle reached\n1 empty 0 0 3\nvertex distance\n0 0\n1 -1\n2 -1\n";
+const SELF_LASSO: &str = "version verdict stem cycle reached\n1 lasso 0 1 0\nedge\n0\n";
+const SOURCE_ONLY: &str =
+    "version verdict stem cycle reached\n1 empty 0 0 1\nvertex distance\n0 0\n";
+
+const K4: &str = "version vertices edges source workers
+1 1 0 0 1
+vertex accepting owner
+0 1 0
+from to
+";
+
+const K6: &str = "version vertices edges source workers
+1 2 1 0 1
+vertex accepting owner
+0 0 0
+1 1 0
+from to
+1 1
+";
+
+/// One run of the table.
+pub struct KeptRun {
+    pub name: &'static str,
+    pub text: String,
+    /// The list of acts; nothing for a run by rounds.
+    pub acts: Option<Vec<u32>>,
+    pub outcome: Outcome,
+    pub answer: &'static str,
+}
+
+/// The whole table.
+pub fn kept_runs() -> Vec<KeptRun> {
+    let k2 = K1.replace("0 0 0\n1 1 1", "0 1 0\n1 0 1");
+    let k3 = K4.replace("1 1 0 0 1", "1 1 1 0 1") + "0 0\n";
+    let k5 = k3.replace("0 1 0\nfrom", "0 0 0\nfrom");
+    let k8 = K1
+        .replace("1 3 3 0 2", "1 3 3 0 1")
+        .replace("1 1 1", "1 1 0");
+    let k10 = K1.replace("1 3 3 0 2", "2 3 3 0 2");
+    let k11 = K1
+        .replace("1 3 3 0 2", "1 3 4 0 2")
+        .replace("1 2\n2 1", "1 2\n1 2\n2 1");
+    let k1 = K1.to_owned();
+    vec![
+        ended("K1", k1.clone(), 1, 8, K1_LASSO),
+        ended("K2", k2, 2, 6, K2_EMPTY),
+        ended("K3", k3, 1, 2, SELF_LASSO),
+        ended("K4", K4.to_owned(), 2, 1, SOURCE_ONLY),
+        ended("K5", k5, 2, 1, SOURCE_ONLY),
+        ended("K6", K6.to_owned(), 2, 1, SOURCE_ONLY),
+        refused("K7", k1.clone(), Some(vec![]), 10),
+        ended("K8", k8, 1, 4, K1_LASSO),
+        refused("K9", k1, Some(vec![2]), 10),
+        refused("K10", k10, None, 3),
+        refused("K11", k11, None, 8),
+    ]
+}
+
+fn ended(
+    name: &'static str,
+    text: String,
+    verdict: u32,
+    acts: u32,
+    answer: &'static str,
+) -> KeptRun {
+    let outcome = Outcome {
+        refusal: 0,
+        verdict,
+        acts,
+        written: answer.len() as u32,
+    };
+    KeptRun {
+        name,
+        text,
+        acts: None,
+        outcome,
+        answer,
+    }
+}
+
+fn refused(name: &'static str, text: String, acts: Option<Vec<u32>>, refusal: u32) -> KeptRun {
+    KeptRun {
+        name,
+        text,
+        acts,
+        outcome: Outcome {
+            refusal,
+            ..Outcome::default()
+        },
+        answer: "",
+    }
+}

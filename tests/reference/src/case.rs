@@ -1,0 +1,156 @@
+//! The case file.
+
+use std::ops::Range;
+
+use crate::refusal::Refusal;
+use crate::text::{LONGEST_FILE, Lines, VERSION_WORD, has_other_version};
+
+pub const MOST_VERTICES: usize = 500;
+pub const MOST_EDGES: usize = 2_000;
+pub const MOST_WORKERS: usize = 16;
+
+pub const COUNT_NAMES: &str = "version vertices edges source workers";
+pub const VERTEX_NAMES: &str = "vertex accepting owner";
+pub const EDGE_NAMES: &str = "from to";
+
+/// An accepted case.
+#[derive(Clone, Debug, PartialEq, Eq)]
+pub struct Case {
+    pub source: usize,
+    pub workers: usize,
+    pub accepting: Vec<bool>,
+    pub owners: Vec<usize>,
+    /// Ends of each edge, `(from, to)`, strictly rising.
+    pub edges: Vec<(usize, usize)>,
+}
+
+impl Case {
+    /// How many vertices there are.
+    pub fn vertices(&self) -> usize {
+        self.accepting.len()
+    }
+
+    /// A in the paper: every accepting vertex counts, reachable or not.
+    pub fn accepting_count(&self) -> usize {
+        self.accepting.iter().filter(|&&mark| mark).count()
+    }
+
+    /// P + m in the paper: acts are the numbers below this.
+    pub fn act_count(&self) -> usize {
+        self.workers + self.edges.len()
+    }
+
+    /// The numbers of the edges that leave a vertex.
+    pub fn edges_from(&self, vertex: usize) -> Range<usize> {
+        let first = self.edges.partition_point(|&(from, _)| from < vertex);
+        let end = self.edges.partition_point(|&(from, _)| from <= vertex);
+        first..end
+    }
+
+    pub fn length(&self, edge: usize) -> i32 {
+        let (from, _) = self.edges[edge];
+        if self.accepting[from] { -1 } else { 0 }
+    }
+
+    /// Whether the edge joins vertices of two owners, and so has a cell.
+    pub fn has_cell(&self, edge: usize) -> bool {
+        let (from, to) = self.edges[edge];
+        self.owners[from] != self.owners[to]
+    }
+}
+
+/// The numbers of line 2, in range.
+struct Counts {
+    vertices: usize,
+    edges: usize,
+    source: usize,
+    workers: usize,
+}
+
+/// Reads a case file; the first fault from the front decides.
+pub fn read(text: &[u8]) -> Result<Case, Refusal> {
+    if text.len() > LONGEST_FILE {
+        return Err(Refusal::FileTooLong);
+    }
+    if !text.starts_with(VERSION_WORD) {
+        return Err(Refusal::NoVersionWord);
+    }
+    if has_other_version(text) {
+        return Err(Refusal::OtherVersion);
+    }
+    let mut lines = Lines::of(text);
+    let counts = read_counts(&mut lines)?;
+    let (accepting, owners) = read_vertices(&mut lines, &counts)?;
+    let edges = read_edges(&mut lines, &counts)?;
+    if !lines.at_end() {
+        return Err(Refusal::CaseLayout);
+    }
+    Ok(Case {
+        source: counts.source,
+        workers: counts.workers,
+        accepting,
+        owners,
+        edges,
+    })
+}
+
+fn read_names(lines: &mut Lines, names: &str) -> Result<(), Refusal> {
+    if lines.next_line() == Some(names.as_bytes()) {
+        Ok(())
+    } else {
+        Err(Refusal::CaseLayout)
+    }
+}
+
+fn read_counts(lines: &mut Lines) -> Result<Counts, Refusal> {
+    read_names(lines, COUNT_NAMES)?;
+    // The version is 1 here: any other number was refused before.
+    let [_version, vertices, edges, source, workers] =
+        lines.next_numbers().ok_or(Refusal::CaseLayout)?;
+    let in_range = (1..=MOST_VERTICES).contains(&vertices)
+        && edges <= MOST_EDGES
+        && source < vertices
+        && (1..=MOST_WORKERS).contains(&workers);
+    if !in_range {
+        return Err(Refusal::CountOutOfRange);
+    }
+    Ok(Counts {
+        vertices,
+        edges,
+        source,
+        workers,
+    })
+}
+
+/// Accepting marks and owners.
+type Vertices = (Vec<bool>, Vec<usize>);
+
+fn read_vertices(lines: &mut Lines, counts: &Counts) -> Result<Vertices, Refusal> {
+    read_names(lines, VERTEX_NAMES)?;
+    let (mut accepting, mut owners) = (Vec::new(), Vec::new());
+    for expected in 0..counts.vertices {
+        let [vertex, mark, owner] = lines.next_numbers().ok_or(Refusal::CaseLayout)?;
+        if vertex != expected || mark > 1 || owner >= counts.workers {
+            return Err(Refusal::BadVertexLine);
+        }
+        accepting.push(mark == 1);
+        owners.push(owner);
+    }
+    Ok((accepting, owners))
+}
+
+fn read_edges(lines: &mut Lines, counts: &Counts) -> Result<Vec<(usize, usize)>, Refusal> {
+    read_names(lines, EDGE_NAMES)?;
+    let mut edges = Vec::new();
+    for _ in 0..counts.edges {
+        let [from, to] = lines.next_numbers().ok_or(Refusal::CaseLayout)?;
+        if from >= counts.vertices || to >= counts.vertices {
+            return Err(Refusal::EdgeEndOutOfRange);
+        }
+        if edges.last().is_some_and(|&before| before >= (from, to)) {
+            return Err(Refusal::EdgesNotRising);
+        }
+        edges.push((from, to));
+    }
+    Ok(edges)
+}

@@ -1,0 +1,170 @@
+//! The checker of answer files.
+
+use crate::answer::{ANSWER_NAMES, Answer, EMPTY_NAMES, LASSO_NAMES};
+use crate::case::Case;
+use crate::refusal::Refusal;
+use crate::text::{
+    LONGEST_FILE, Lines, SignedNumber, VERSION_WORD, has_other_version, number, signed_number,
+};
+
+const HIGHEST_COUNT: usize = 500;
+const HIGHEST_DISTANCE: usize = 500;
+
+/// Reads an answer to an accepted case and judges it by the passing rule.
+pub fn check(case: &Case, text: &[u8]) -> Result<Answer, Refusal> {
+    let answer = read(case, text)?;
+    if passes(case, &answer) {
+        Ok(answer)
+    } else {
+        Err(Refusal::AnswerWrong)
+    }
+}
+
+/// The numbers of line 2, in range and suiting the verdict.
+enum Counts {
+    Lasso { stem: usize, cycle: usize },
+    Empty { reached: usize },
+}
+
+/// Reads an answer; the first fault from the front decides.
+pub fn read(case: &Case, text: &[u8]) -> Result<Answer, Refusal> {
+    if text.len() > LONGEST_FILE {
+        return Err(Refusal::FileTooLong);
+    }
+    if !text.starts_with(VERSION_WORD) {
+        return Err(Refusal::AnswerLayout);
+    }
+    if has_other_version(text) {
+        return Err(Refusal::OtherVersion);
+    }
+    let mut lines = Lines::of(text);
+    let answer = match read_counts(&mut lines)? {
+        Counts::Lasso { stem, cycle } => read_lasso(case, &mut lines, stem, cycle)?,
+        Counts::Empty { reached } => read_empty(case, &mut lines, reached)?,
+    };
+    if !lines.at_end() {
+        return Err(Refusal::AnswerLayout);
+    }
+    Ok(answer)
+}
+
+fn read_names(lines: &mut Lines, names: &str) -> Result<(), Refusal> {
+    if lines.next_line() == Some(names.as_bytes()) {
+        Ok(())
+    } else {
+        Err(Refusal::AnswerLayout)
+    }
+}
+
+fn read_counts(lines: &mut Lines) -> Result<Counts, Refusal> {
+    read_names(lines, ANSWER_NAMES)?;
+    // Every fault of this line has one number, so their order is not seen.
+    counts_of_line(lines).ok_or(Refusal::AnswerLayout)
+}
+
+fn counts_of_line(lines: &mut Lines) -> Option<Counts> {
+    let [version, verdict, stem, cycle, reached] = lines.next_fields()?;
+    number(version)?;
+    let count = |field| number(field).filter(|&count| count <= HIGHEST_COUNT);
+    match (verdict, count(stem)?, count(cycle)?, count(reached)?) {
+        (b"lasso", stem, cycle @ 1.., 0) => Some(Counts::Lasso { stem, cycle }),
+        (b"empty", 0, 0, reached @ 1..) => Some(Counts::Empty { reached }),
+        _ => None,
+    }
+}
+
+fn read_lasso(
+    case: &Case,
+    lines: &mut Lines,
+    stem: usize,
+    cycle: usize,
+) -> Result<Answer, Refusal> {
+    read_names(lines, LASSO_NAMES)?;
+    let mut edges = Vec::new();
+    for _ in 0..stem + cycle {
+        let [edge] = lines.next_numbers().ok_or(Refusal::AnswerLayout)?;
+        if edge >= case.edges.len() {
+            return Err(Refusal::AnswerWrong);
+        }
+        edges.push(edge);
+    }
+    let cycle = edges.split_off(stem);
+    Ok(Answer::Lasso { stem: edges, cycle })
+}
+
+fn read_empty(case: &Case, lines: &mut Lines, count: usize) -> Result<Answer, Refusal> {
+    read_names(lines, EMPTY_NAMES)?;
+    let mut reached: Vec<(usize, i32)> = Vec::new();
+    for _ in 0..count {
+        // Both fields must be well formed before either value is judged.
+        let (vertex, distance) = vertex_line(lines).ok_or(Refusal::AnswerLayout)?;
+        let rises = reached.last().is_none_or(|&(before, _)| before < vertex);
+        if vertex >= case.vertices() || !rises {
+            return Err(Refusal::AnswerWrong);
+        }
+        let distance = distance_in_range(distance).ok_or(Refusal::AnswerLayout)?;
+        reached.push((vertex, distance));
+    }
+    Ok(Answer::Empty { reached })
+}
+
+fn vertex_line(lines: &mut Lines) -> Option<(usize, SignedNumber)> {
+    let [vertex, distance] = lines.next_fields()?;
+    Some((number(vertex)?, signed_number(distance)?))
+}
+
+fn distance_in_range(number: SignedNumber) -> Option<i32> {
+    let minus_zero = number.negative && number.size == 0;
+    if minus_zero || number.size > HIGHEST_DISTANCE {
+        return None;
+    }
+    let size = number.size as i32;
+    Some(if number.negative { -size } else { size })
+}
+
+/// The passing rule.
+pub fn passes(case: &Case, answer: &Answer) -> bool {
+    match answer {
+        Answer::Lasso { stem, cycle } => {
+            is_lasso_shaped(case, stem, cycle) && leaves_accepting(case, cycle)
+        }
+        Answer::Empty { reached } => is_closed(case, reached),
+    }
+}
+
+/// Whether stem and cycle are one walk from the source and the cycle closes.
+pub fn is_lasso_shaped(case: &Case, stem: &[usize], cycle: &[usize]) -> bool {
+    let mut at = case.source;
+    for &edge in stem.iter().chain(cycle) {
+        let (from, to) = case.edges[edge];
+        if from != at {
+            return false;
+        }
+        at = to;
+    }
+    at == case.edges[cycle[0]].0
+}
+
+/// Whether one of the edges leaves an accepting vertex.
+pub fn leaves_accepting(case: &Case, edges: &[usize]) -> bool {
+    edges.iter().any(|&edge| case.accepting[case.edges[edge].0])
+}
+
+/// Whether the source is listed and no edge from a listed vertex leads out of
+/// the list or to a number that is too high.
+fn is_closed(case: &Case, reached: &[(usize, i32)]) -> bool {
+    let listed = |vertex| {
+        reached
+            .iter()
+            .find(|entry| entry.0 == vertex)
+            .map(|entry| entry.1)
+    };
+    let keeps = |edge: usize| {
+        let (from, to) = case.edges[edge];
+        let Some(start) = listed(from) else {
+            return true;
+        };
+        listed(to).is_some_and(|end| end <= start + case.length(edge))
+    };
+    listed(case.source).is_some() && (0..case.edges.len()).all(keeps)
+}

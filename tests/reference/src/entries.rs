@@ -1,0 +1,127 @@
+//! The three entries, with the buffers that a caller lends.
+
+use crate::answer::Answer;
+use crate::case::{self, Case};
+use crate::checker;
+use crate::refusal::Refusal;
+use crate::run::{Run, by_list, by_rounds};
+
+/// The least output, in bytes.
+pub const OUTPUT_BYTES: usize = 8_192;
+/// The least work buffer, in cells.
+pub const WORK_CELLS: usize = 16_384;
+
+/// What a run returns. A refusal has verdict 0.
+#[derive(Clone, Copy, Debug, Default, PartialEq, Eq)]
+pub struct Outcome {
+    pub refusal: u32,
+    pub verdict: u32,
+    pub acts: u32,
+    pub written: u32,
+}
+
+impl Outcome {
+    fn refused(refusal: Refusal) -> Self {
+        Outcome {
+            refusal: refusal.number(),
+            ..Outcome::default()
+        }
+    }
+}
+
+/// What a check returns. A refusal has verdict 0.
+#[derive(Clone, Copy, Debug, Default, PartialEq, Eq)]
+pub struct Checked {
+    pub refusal: u32,
+    pub verdict: u32,
+}
+
+/// Anything that offers the three entries.
+pub trait Tool {
+    fn run_list(&self, text: &[u8], acts: &[u32], output: &mut [u8], work: &mut [i32]) -> Outcome;
+
+    fn run_rounds(&self, text: &[u8], output: &mut [u8], work: &mut [i32]) -> Outcome;
+
+    fn check_answer(&self, text: &[u8], answer: &[u8]) -> Checked;
+}
+
+/// What a begun run leaves to report.
+pub struct Report {
+    pub acts: u32,
+    /// Nothing if the acts ran out before the end.
+    pub answer: Option<Answer>,
+}
+
+impl Report {
+    pub fn of(run: &Run) -> Self {
+        Report {
+            acts: run.acts_counted,
+            answer: Answer::of(run),
+        }
+    }
+}
+
+/// The frame of both runs: buffers, then the case, then the search, then what
+/// is left in the buffers.
+pub fn run_with(
+    text: &[u8],
+    output: &mut [u8],
+    work: &mut [i32],
+    search: impl FnOnce(&Case) -> Result<Report, Refusal>,
+) -> Outcome {
+    if output.len() < OUTPUT_BYTES || work.len() < WORK_CELLS {
+        return Outcome::refused(Refusal::BufferTooSmall);
+    }
+    let report = match case::read(text).and_then(|case| search(&case)) {
+        Ok(report) => report,
+        Err(refusal) => return Outcome::refused(refusal),
+    };
+    work.fill(0);
+    let Some(answer) = report.answer else {
+        return Outcome {
+            acts: report.acts,
+            ..Outcome::refused(Refusal::ActsRanOut)
+        };
+    };
+    let written = answer.text();
+    output[..written.len()].copy_from_slice(written.as_bytes());
+    Outcome {
+        refusal: 0,
+        verdict: answer.verdict(),
+        acts: report.acts,
+        written: written.len() as u32,
+    }
+}
+
+/// The frame of the checker: the whole case is judged before the answer.
+pub fn check_with(text: &[u8], check: impl FnOnce(&Case) -> Result<Answer, Refusal>) -> Checked {
+    match case::read(text).and_then(|case| check(&case)) {
+        Ok(answer) => Checked {
+            refusal: 0,
+            verdict: answer.verdict(),
+        },
+        Err(refusal) => Checked {
+            refusal: refusal.number(),
+            verdict: 0,
+        },
+    }
+}
+
+/// The reference as a tool.
+pub struct Reference;
+
+impl Tool for Reference {
+    fn run_list(&self, text: &[u8], acts: &[u32], output: &mut [u8], work: &mut [i32]) -> Outcome {
+        run_with(text, output, work, |case| {
+            Ok(Report::of(&by_list(case, acts)?))
+        })
+    }
+
+    fn run_rounds(&self, text: &[u8], output: &mut [u8], work: &mut [i32]) -> Outcome {
+        run_with(text, output, work, |case| Ok(Report::of(&by_rounds(case))))
+    }
+
+    fn check_answer(&self, text: &[u8], answer: &[u8]) -> Checked {
+        check_with(text, |case| checker::check(case, answer))
+    }
+}
