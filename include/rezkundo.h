@@ -13,7 +13,7 @@
 extern "C" {
 #endif
 
-/* Of a run: refusal 0 or its number (docs/DECISIONS.md); verdict 1 lasso, 2 empty, 0 none; the acts counted; the
+/* Of a run: refusal 0 or its number (docs/REFUSALS.md); verdict 1 lasso, 2 empty, 0 none; the acts counted; the
  * answer's length. */
 typedef struct { uint32_t refusal, verdict, acts, written; } rezkundo_outcome;
 
