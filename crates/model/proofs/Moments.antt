@@ -12,12 +12,13 @@ use lib.ListN.{length, getD, set}
 use lib.Seq.{getD-set-same, getD-set-other}
 use Rattle.model.specs.Graph.{edge, edge-depth}
 use Rattle.model.specs.Case.{Case, owner, Sound}
-use Rattle.model.specs.Run.{State, ended-lasso, fresh, with-queues, with-cells, takes, member, taken, relax, send, scan-edge, scan-from, counted, depth-or, act, acted, by-list}
+use Rattle.model.specs.Run.{State, ended-lasso, fresh, with-queues, with-cells, takes, member, taken, relax, send, scan-edge, scan-from, counted, depth-or, acted, by-list}
 use Rattle.text.proofs.Tests.{Same, same?, same, other, clash}
 use Rattle.model.proofs.Tools.{some-not-none, getD-replicate-same, member-later, member-first, once-head, set-some, some-inj, snoc-in}
 use Rattle.model.proofs.Steps.{relax-cases, scan-keeps, Acts, acted-keeps}
 use Rattle.model.proofs.Shapes.{Shape, enqueue-cases, not-broken, shape-relax, shape-cell, shape-queue, shape-counted, cell-in, head-depth, fresh-shape}
 use Rattle.model.proofs.Few.{waiting, relax-cells}
+use Rattle.model.proofs.Rounds.{acted-append}
 use Rattle.model.proofs.Walked.{lower-cases, takes-less, taken-at, taken-other}
 use Rattle.model.proofs.Trace.{relax-deeper}
 
@@ -46,11 +47,6 @@ module _ (c : Case) (ok : Sound c) (v d : ℕ) where
         let r = stays-relax e o (with-cells (set (x .cells) e none) x) (not-broken x n) (cell-in c ok x e o (p .0) h) (shape-cell c ok e none x (p .0), p .1) in
         (shape-counted c ok _ (r .0), r .1);
   }
-
-acted-append : (c : Case) (xs ys : List ℕ) (x : State) → acted c (xs ++ ys) x ≡ acted c ys (acted c xs x)
-unfolding acted
-acted-append c [] ys x = refl
-acted-append c (a ∷ xs) ys x = acted-append c xs ys (act c a x)
 
 pub never-raised : (c : Case) → Sound c → (xs ys : List ℕ) → Shape c (by-list c xs) → (v d : ℕ) → getD (by-list c xs .depths) v none ≡ some d → Deeper v d (by-list c (xs ++ ys))
 unfolding by-list
