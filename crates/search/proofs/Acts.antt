@@ -7,7 +7,7 @@ use Prim.Native.Nat.{ℕ, suc, _+_, _-_, _≤_, _<_, _^_}
 use native.Mathlib.Omega.{arith}
 use native.Mathlib.Nat.{zero-add}
 use native.Mathlib.Numerals.{add-one, one-add}
-use borrow.Author.Tests.{lt-ltb, le-ltb}
+use borrow.Author.Tests.{lt-ltb, le-ltb, eq-eqb}
 use lib.Dec.{eqb, eqb·suc-zero}
 use lib.ListN.{length, getD, set, drop, drop-of-length-le}
 use lib.Seq.{drop-cons}
@@ -90,7 +90,15 @@ over-is c x k w rep = rw (rep .counted .broke, rep .counted .over, not-broken-is
     twice true b = refl
     twice false b = refl
 
+-- no cell is full where the counter is 0
+pub none-full : (c : Case) (x : State) (k : Run) (w : List ℤ) → Rep c x k w → k .full ≡ 0 → no-message (x .cells) ≡ true
+none-full c x k w rep e = sym (no-message-is (x .cells)) ∙ eq-eqb (tally one-if (x .cells)) 0 (sym (rep .counted .full) ∙ e)
+
 -- TURNS
+pub link-none : (q : List ℕ) → link q ≡ 1 → q ≡ []
+link-none [] h = refl
+link-none (u ∷ q) h = absurd (omega arith)
+
 pub link-split : (q : List ℕ) (h : ℕ) → link q ≡ h → (h ≡ 1 → ⊥) → (r : List ℕ) × (q ≡ (h - 2) ∷ r)
 link-split [] h e n = absurd (n (sym e))
 link-split (u ∷ q) h e n = let z : u ≡ h - 2 = omega arith in (q, ap (λ (i : ℕ). i ∷ q) z)

@@ -8,22 +8,22 @@ use Prim.Native.Nat.{ℕ, zero, suc, _+_, _-_, _*_, _≤_, _<_}
 use native.Mathlib.Omega.{arith}
 use native.Mathlib.Nat.{zero-add, add-zero}
 use native.Mathlib.Numerals.{add-one}
-use lib.ListN.{length, getD, set}
-use lib.Seq.{getD-set-same, getD-set-other}
+use lib.ListN.{length, getD, set, take}
+use lib.Seq.{getD-set-same, getD-set-other, getD-take, length-take-le}
 use lib.IntN.{ℤ}
 use Rattle.model.specs.Graph.{Graph, edge, edge-depth, accepting-count}
-use Rattle.model.specs.Case.{Case, owner, most-acts, Sound}
+use Rattle.model.specs.Case.{Case, most-acts, Sound}
 use Rattle.model.specs.Run.{State, has-ended, fresh, with-queues, with-cells, scan, no-message, depth-or, delivery, act, acted, range, round-acts, rounds, by-rounds}
 use Rattle.text.proofs.Tests.{clash}
-use Rattle.model.proofs.Tools.{some-not-none, getD-out, getD-replicate-same, no-cell, no-cells, member-first}
+use Rattle.model.proofs.Tools.{some-not-none, getD-out, getD-replicate-same, no-cell, no-cells}
 use Rattle.model.proofs.Steps.{scan-keeps, act-keeps, acted-keeps}
 use Rattle.model.proofs.Few.{Paid, paid-acts, relax-cells}
 use Rattle.model.proofs.Rounds.{act-over, acted-over}
 use Rattle.search.specs.declared.run.Run.{Run}
 use Rattle.search.specs.Rep.{Firsts, Rep, link}
-use Rattle.search.specs.Asks.{Least, Only}
+use Rattle.search.specs.Asks.{Least, Among, Only, Turns-leave}
 use Rattle.search.proofs.Regions.{same-or, below-or}
-use Rattle.search.proofs.Acts.{turn-none, turn-is, delivery-none, delivery-some, act-turn, act-delivery}
+use Rattle.search.proofs.Acts.{none-full, link-none, link-split, link-two, turn-none, turn-is, delivery-none, delivery-some, act-turn, act-delivery}
 
 -- ACTS BY NUMBER
 step-range : (c : Case) (k i : ℕ) (x : State) → acted c (range (suc k) i) x ≡ acted c (range k (suc i)) (act c i x)
@@ -68,6 +68,10 @@ module _ (c : Case) (x : State) (s t : ℕ) where
   pub along-done : (i : ℕ) (k : Run) (w : List ℤ) → Along c x s t i k w → t ≤ i → Rep c (acted c (range (t - s) s) x) k w
   along-done i k w u h = subst (λ (y : State). Rep c y k w) (along-is i k w u h) (u .rep)
 
+  -- nothing is done after the end
+  pub along-over : (i : ℕ) (k : Run) (w : List ℤ) → (u : Along c x s t i k w) → has-ended (u .at) ≡ true → Rep c (acted c (range (t - s) s) x) k w
+  along-over i k w u o = subst (λ (y : State). Rep c y k w) (sym (acted-over c (range (t - i) i) (u .at) o) ∙ u .rest) (u .rep)
+
 -- IDLE DELIVERIES
 minus : (p e : ℕ) → (p + e) - p ≡ e
 minus p e = omega arith
@@ -98,6 +102,10 @@ jump c a b y h g f =
 
 next-delivery : (c : Case) (k e : ℕ) (y : State) → acted c (range (suc k) (c .workers + e)) y ≡ acted c (range k (c .workers + suc e)) (act c (c .workers + e) y)
 next-delivery c k e y = let r : suc (c .workers + e) ≡ c .workers + suc e = omega arith in step-range c k (c .workers + e) y ∙ rw r
+
+-- a delivery, by its act's number
+pub act-rep : (c : Case) (e p : ℕ) (y : State) (k : Run) (w : List ℤ) → p ≡ c .workers → has-ended y ≡ false → Rep c (delivery c e y) k w → Rep c (act c (p + e) y) k w
+act-rep c e p y k w q o rep = subst (λ (z : State). Rep c z k w) (sym (act-delivery c (p + e) p y o q (omega arith) ∙ rw (minus p e))) rep
 
 -- WHAT A DELIVERY LEAVES
 module _ (c : Case) (e : ℕ) (y : State) (l : e < length (y .cells)) where
@@ -183,11 +191,7 @@ module _ (c : Case) (ok : Sound c) where
       ap (λ (z : State). getD (z .cells) f none) e
       ∙ clears m 0 y (paid-acted (range (c .workers) 0) x p) (zero-add m) (λ i l. absurd (omega arith)) (ap has-ended (sym e) ∙ o) f)
 
--- TURNS: each message stands on an edge of a vertex that was the head of a worker before w
-abbrev pub Heads : Case → (heads : List ℕ) → (w : ℕ) → State → Type 0
-Heads c H w y =
-    (f d : ℕ) → getD (y .cells) f none ≡ some d → (owner c (edge (c .graph) f .from) < w) × (getD H (owner c (edge (c .graph) f .from)) 0 ≡ edge (c .graph) f .from + 2)
-
+-- TURNS
 scan-leaves : (c : Case) (v d : ℕ) (z : State) (f : ℕ) → (edge (c .graph) f .from ≡ v → ⊥) → getD (scan c v d z .cells) f none ≡ getD (z .cells) f none
 scan-leaves c v d z f n =
     scan-keeps c v d (λ _ u. getD (u .cells) f none ≡ getD (z .cells) f none)
@@ -199,61 +203,88 @@ scan-leaves c v d z f n =
     })
     z refl
 
-heads-none : (c : Case) (H : List ℕ) (x : State) → no-message (x .cells) ≡ true → Heads c H 0 x
-heads-none c H x h f d e = some-not-none (getD (x .cells) f none) d e (no-cell (x .cells) h f)
+only-none : (c : Case) (H : List ℕ) (x : State) → no-message (x .cells) ≡ true → Only c H 0 x
+unfolding Only
+only-none c H x h f d e = some-not-none (getD (x .cells) f none) d e (no-cell (x .cells) h f)
 
-heads-step : (c : Case) (H : List ℕ) (w : ℕ) (y : State) → Paid c y → w < c .workers → w < length H → Heads c H w y
-    → Heads c (set H w (link (getD (y .queues) w []))) (w + 1) (act c w y)
-heads-step c H w y p l m g f d h = go (has-ended y) refl (getD (y .queues) w []) refl
+-- the turn of a worker whose queue is empty
+turn-over : (c : Case) (w : ℕ) (y : State) → w < c .workers → getD (y .queues) w [] ≡ [] → act c w y ≡ y
+turn-over c w y l e = go (has-ended y) refl
+  where
+    go : (b : Bool) → has-ended y ≡ b → act c w y ≡ y
+    go true o = act-over c w y o
+    go false o = act-turn c w y o l ∙ turn-none c y w e
+
+among-more : (H : List ℕ) (k h z : ℕ) → Among H k h → Among (set H k z) (k + 1) h
+among-more H k h z a = record { place = a .place; below = omega (arith, a .below); is = getD-set-other H k (a .place) z 0 (λ i. omega (arith, a .below)) ∙ a .is }
+
+-- the turn of a worker whose queue's head is v
+only-step : (c : Case) (H : List ℕ) (k w v : ℕ) (q : List ℕ) (y : State) → w < c .workers → k < length H → getD (y .queues) w [] ≡ v ∷ q → Only c H k y
+    → Only c (set H k (v + 2)) (k + 1) (act c w y)
+unfolding Only
+only-step c H k w v q y l m e g f d h = go (has-ended y) refl (same-or u v)
   where
     u : ℕ
     u = edge (c .graph) f .from
 
-    old : (z : ℕ) → getD (y .cells) f none ≡ some d → (owner c u < w + 1) × (getD (set H w z) (owner c u) 0 ≡ u + 2)
-    old z e = let r = g f d e in (omega (arith, r .0), getD-set-other H w (owner c u) z 0 (λ i. omega (arith, r .0)) ∙ r .1)
-
     moved : (z : State) → act c w y ≡ z → getD (z .cells) f none ≡ some d
-    moved z e = subst (λ (s : State). getD (s .cells) f none ≡ some d) e h
+    moved z i = subst (λ (s : State). getD (s .cells) f none ≡ some d) i h
 
-    turned : has-ended y ≡ false → (v : ℕ) (q : List ℕ) → getD (y .queues) w [] ≡ v ∷ q → (u ≡ v) ⊎ (u ≡ v → ⊥) → (owner c u < w + 1) × (getD (set H w (link (v ∷ q))) (owner c u) 0 ≡ u + 2)
-    turned o v q e (inl i) =
-        let own : owner c u ≡ w = rw i (p .shape .owned v w (rw e (member-first v q))) in
-        (omega arith, rw (own, i) (getD-set-same H w (v + 2) 0 m))
-    turned o v q e (inr n) =
-        old (link (v ∷ q)) (sym (scan-leaves c v (depth-or (getD (y .depths) v none)) (with-queues (set (y .queues) w q) y) f n) ∙ moved _ (act-turn c w y o l ∙ turn-is c y w v q e))
+    old : getD (y .cells) f none ≡ some d → Among (set H k (v + 2)) (k + 1) (u + 2)
+    old i = among-more H k (u + 2) (v + 2) (g f d i)
 
-    go : (b : Bool) → has-ended y ≡ b → (q : List ℕ) → getD (y .queues) w [] ≡ q → (owner c u < w + 1) × (getD (set H w (link (getD (y .queues) w []))) (owner c u) 0 ≡ u + 2)
-    go true o q e = old _ (moved y (act-over c w y o))
-    go false o [] e = old _ (moved y (act-turn c w y o l ∙ turn-none c y w e))
-    go false o (v ∷ q) e = rw e (turned o v q e (same-or u v))
-
-heads-only : (c : Case) (H : List ℕ) (w : ℕ) (y : State) → Heads c H w y → Only c H y
-unfolding Only
-heads-only c H w y g e d h = g e d h .1
+    go : (b : Bool) → has-ended y ≡ b → (u ≡ v) ⊎ (u ≡ v → ⊥) → Among (set H k (v + 2)) (k + 1) (u + 2)
+    go true o s = old (moved y (act-over c w y o))
+    go false o (inl i) = record { place = k; below = omega arith; is = rw i (getD-set-same H k (v + 2) 0 m) }
+    go false o (inr n) =
+        old (sym (scan-leaves c v (depth-or (getD (y .depths) v none)) (with-queues (set (y .queues) w q) y) f n) ∙ moved _ (act-turn c w y o l ∙ turn-is c y w v q e))
 
 -- the turns of the workers before w are done
-pub record Turning (c : Case) (x : State) (p : ℕ) (H : List ℕ) (w : ℕ) (k : Run) (cells : List ℤ) : Type 0 where
+pub record Turning (c : Case) (x : State) (p : ℕ) (H : List ℕ) (scanned w : ℕ) (k : Run) (cells : List ℤ) : Type 0 where
   pub along : Along c x 0 p w k cells
-  pub heads : Heads c H w (along .at)
+  pub only : Only c H scanned (along .at)
 
-pub turns-start : (c : Case) (x : State) (p : ℕ) (H : List ℕ) (k : Run) (cells : List ℤ) → Rep c x k cells → Paid c x → no-message (x .cells) ≡ true → Turning c x p H 0 k cells
-turns-start c x p H k cells rep paid e = record { along = record { at = x; rep = rep; paid = paid; rest = refl }; heads = heads-none c H x e }
+module _ (c : Case) (x : State) (p : ℕ) (e : p ≡ c .workers) where
+  pub turns-start : (H : List ℕ) (k : Run) (cells : List ℤ) → Rep c x k cells → Paid c x → no-message (x .cells) ≡ true → Turning c x p H 0 0 k cells
+  turns-start H k cells rep paid i = record { along = record { at = x; rep = rep; paid = paid; rest = refl }; only = only-none c H x i }
 
-pub turns-step : (c : Case) (x : State) (p : ℕ) (H : List ℕ) (w h : ℕ) (k k′ : Run) (cells cells′ : List ℤ) → (u : Turning c x p H w k cells) → w < p → p ≡ c .workers → p ≤ length H
-    → link (getD (u .along .at .queues) w []) ≡ h → Rep c (act c w (u .along .at)) k′ cells′ → Turning c x p (set H w h) (w + 1) k′ cells′
-unfolding along-step
-turns-step c x p H w h k k′ cells cells′ u l e m i rep =
-    record {
-      along = along-step c x 0 p w k k′ cells cells′ (u .along) l rep;
-      heads = subst (λ (z : ℕ). Heads c (set H w z) (w + 1) (act c w (u .along .at))) i (heads-step c H w (u .along .at) (u .along .paid) (omega arith) (omega arith) (u .heads));
-    }
+  pub turns-idle : (H : List ℕ) (n w : ℕ) (k : Run) (cells : List ℤ) → (u : Turning c x p H n w k cells) → w < p → link (getD (u .along .at .queues) w []) ≡ 1 → Turning c x p H n (w + 1) k cells
+  unfolding along-step
+  turns-idle H n w k cells u l h =
+      let i = turn-over c w (u .along .at) (omega arith) (link-none (getD (u .along .at .queues) w []) h) in
+      record {
+        along = along-step c x 0 p w k k cells cells (u .along) l (subst (λ (y : State). Rep c y k cells) (sym i) (u .along .rep));
+        only = subst (λ (y : State). Only c H n y) (sym i) (u .only);
+      }
 
-pub turns-done : (c : Case) (x : State) (p : ℕ) (H : List ℕ) (w : ℕ) (k : Run) (cells : List ℤ) → (u : Turning c x p H w k cells) → p ≤ w → p ≡ c .workers
-    → let y = acted c (range (c .workers) 0) x in Rep c y k cells × Only c H y
-turns-done c x p H w k cells u l e =
-    let z : p - 0 ≡ c .workers = omega arith in
-    let i : u .along .at ≡ acted c (range (c .workers) 0) x = along-is c x 0 p w k cells (u .along) l ∙ rw z in
-    (subst (λ (y : State). Rep c y k cells) i (u .along .rep), subst (λ (y : State). Only c H y) i (heads-only c H w (u .along .at) (u .heads)))
+  pub turns-step : (H : List ℕ) (n w h : ℕ) (k k′ : Run) (cells cells′ : List ℤ) → (u : Turning c x p H n w k cells) → w < p → n < length H
+      → link (getD (u .along .at .queues) w []) ≡ h → (h ≡ 1 → ⊥) → Rep c (act c w (u .along .at)) k′ cells′ → Turning c x p (set H n h) (n + 1) (w + 1) k′ cells′
+  unfolding along-step
+  turns-step H n w h k k′ cells cells′ u l m i o rep =
+      let q = link-split (getD (u .along .at .queues) w []) h i o in
+      let z : h - 2 + 2 ≡ h = omega (arith, link-two (getD (u .along .at .queues) w []) h i o) in
+      record {
+        along = along-step c x 0 p w k k′ cells cells′ (u .along) l rep;
+        only = subst (λ (g : ℕ). Only c (set H n g) (n + 1) (act c w (u .along .at))) z (only-step c H n w (h - 2) (q .0) (u .along .at) (omega arith) m (q .1) (u .only));
+      }
+
+  pub turns-done : (H : List ℕ) (n w : ℕ) (k : Run) (cells : List ℤ) → (u : Turning c x p H n w k cells) → p ≤ w → n ≤ p
+      → Turns-leave c (acted c (range (c .workers) 0) x) (record { run = k; scanned = n }) cells H
+  turns-done H n w k cells u l m =
+      let z : p - 0 ≡ c .workers = omega arith in
+      let i : u .along .at ≡ acted c (range (c .workers) 0) x = along-is c x 0 p w k cells (u .along) l ∙ rw z in
+      record {
+        rep = subst (λ (y : State). Rep c y k cells) i (u .along .rep);
+        few = omega arith;
+        only = subst (λ (y : State). Only c H n y) i (u .only);
+      }
+
+-- a list's front has its first numbers
+pub only-front : (c : Case) (H : List ℕ) (k : ℕ) (y : State) → k ≤ length H → Only c H k y → Only c (take k H) (length (take k H)) y
+unfolding Only
+only-front c H k y h g e d q =
+    let a = g e d q in
+    record { place = a .place; below = omega (arith, a .below, length-take-le k H h); is = getD-take k H (a .place) 0 (a .below) ∙ a .is }
 
 -- FIRST EDGES: they rise, and there is one table of them
 firsts-le : (g : Graph) (F G : List ℕ) (u v : ℕ) → Firsts g F → Firsts g G → u ≤ v → v ≤ g .vertices → getD F u 0 ≤ getD G v 0
@@ -291,46 +322,58 @@ pub record Swept (c : Case) (x : State) (F H : List ℕ) (at : ℕ) (k : Run) (w
   pub state : State
   pub rep : Rep c state k w
   pub paid : Paid c state
-  pub only : Only c H state
+  pub only : Only c H (length H) state
   pub rest : acted c (range (length (c .graph .edges) - getD F (at - 2) 0) (c .workers + getD F (at - 2) 0)) state ≡ acted c (range (length (c .graph .edges)) (c .workers)) x
 
-module _ (c : Case) (ok : Sound c) (F H : List ℕ) (f : Firsts (c .graph) F) (room : c .workers ≤ length H) (top : ℕ) (is : top ≡ c .graph .vertices + 2) where
+module _ (c : Case) (ok : Sound c) (F H : List ℕ) (f : Firsts (c .graph) F) (top : ℕ) (is : top ≡ c .graph .vertices + 2) where
   -- no message stands between the edges of one vertex and of the next that was scanned
-  gap : (y : State) (a lo at r : ℕ) → Only c H y → ((e : ℕ) → a ≤ e → e < length (c .graph .edges) → lo ≤ edge (c .graph) e .from) → at ≤ lo + 2 → Least H at top r → 2 ≤ r
-      → (e : ℕ) → a ≤ e → e < getD F (r - 2) 0 → getD (y .cells) e none ≡ none
+  gap : (y : State) (at r : ℕ) → Only c H (length H) y → 2 ≤ at → at ≤ top → Least H at top r → (e : ℕ) → getD F (at - 2) 0 ≤ e → e < getD F (r - 2) 0 → getD (y .cells) e none ≡ none
   unfolding Only
-  gap y a lo at r only low h least two e l b = go (getD (y .cells) e none) refl
+  gap y at r only two low least e l b = go (getD (y .cells) e none) refl
     where
       go : (o : Option ℕ) → getD (y .cells) e none ≡ o → getD (y .cells) e none ≡ none
       go none q = q
       go (some d) q =
           let n : r - 2 ≤ c .graph .vertices = omega (arith, least .low) in
           let m : e < length (c .graph .edges) = omega (arith, f .below (r - 2) n) in
-          let u = edge (c .graph) e .from in
-          let i : owner c u < length H = omega (arith, ok .owner u (ok .from e m)) in
-          let t : getD H (owner c u) 0 ≡ u + 2 = only e d q in
-          absurd (omega (arith, f .before (r - 2) e n b, low e l m, least .each (owner c u) i (omega (arith, low e l m))))
+          let a = only e d q in
+          let u : at - 2 ≤ edge (c .graph) e .from = f .after (at - 2) e (omega arith) l m in
+          absurd (omega (arith, f .before (r - 2) e n b, least .high low, least .each (a .place) (a .below) (omega (arith, a .is)), a .is))
 
-  only-left : (k e : ℕ) (y : State) → Paid c y → e + k ≤ length (c .graph .edges) → Only c H y → Only c H (acted c (range k (c .workers + e)) y)
+  only-left : (k e : ℕ) (y : State) → Paid c y → e + k ≤ length (c .graph .edges) → Only c H (length H) y → Only c H (length H) (acted c (range k (c .workers + e)) y)
   unfolding Only
   only-left k e y p h only i d g = only i d (acts-left c ok k e y p h i d g)
 
-  pub sweep-start : (x : State) (at : ℕ) (k : Run) (w : List ℤ) → Rep c x k w → Paid c x → Only c H x → Least H 2 top at → Swept c x F H at k w
-  sweep-start x at k w rep p only least =
+  first-0 : getD F 0 0 ≡ 0
+  first-0 = go (below-or 0 (getD F 0 0))
+    where
+      go : (0 < getD F 0 0) ⊎ (getD F 0 0 ≤ 0) → getD F 0 0 ≡ 0
+      go (inl b) = absurd (omega (arith, f .before 0 0 (omega arith) b))
+      go (inr b) = omega arith
+
+  pub sweep-start : (x : State) (k : Run) (w : List ℤ) → Rep c x k w → Paid c x → Only c H (length H) x → Swept c x F H 2 k w
+  sweep-start x k w rep p only =
       let m = length (c .graph .edges) in
-      let two : 2 ≤ at = least .high (omega arith) in
+      let i : 2 - 2 ≡ 0 = omega arith in
       let z : m - 0 ≡ m = omega arith in
+      record { state = x; rep = rep; paid = p; only = only; rest = rw (i, first-0, z, add-zero (c .workers)) }
+
+  -- what lies before the next vertex that was scanned is idle
+  pub sweep-on : (x : State) (at r : ℕ) (k : Run) (w : List ℤ) → Swept c x F H at k w → 2 ≤ at → at ≤ top → Least H at top r → Swept c x F H r k w
+  sweep-on x at r k w s two low least =
+      let n : r - 2 ≤ c .graph .vertices = omega (arith, least .low) in
+      let h : at ≤ r = least .high low in
       record {
-        state = x;
-        rep = rep;
-        paid = p;
-        only = only;
-        rest = sym (rw (z, add-zero (c .workers)) at (jump c 0 (getD F (at - 2) 0) x (omega arith) (f .below (at - 2) (omega (arith, least .low))) (gap x 0 0 2 at only (λ e _ _. omega arith) (omega arith) least two)));
+        state = s .state;
+        rep = s .rep;
+        paid = s .paid;
+        only = s .only;
+        rest = sym (jump c (getD F (at - 2) 0) (getD F (r - 2) 0) (s .state) (firsts-le (c .graph) F F (at - 2) (r - 2) f f (omega arith) n) (f .below (r - 2) n) (gap (s .state) at r (s .only) two low least)) ∙ s .rest;
       }
 
-  pub sweep-step : (x : State) (at at′ : ℕ) (k k′ : Run) (w w′ : List ℤ) → (s : Swept c x F H at k w) → 2 ≤ at → at < top
-      → Rep c (acted c (range (getD F (at - 2 + 1) 0 - getD F (at - 2) 0) (c .workers + getD F (at - 2) 0)) (s .state)) k′ w′ → Least H (at + 1) top at′ → Swept c x F H at′ k′ w′
-  sweep-step x at at′ k k′ w w′ s two l rep least =
+  pub sweep-step : (x : State) (at : ℕ) (k k′ : Run) (w w′ : List ℤ) → (s : Swept c x F H at k w) → 2 ≤ at → at < top
+      → Rep c (acted c (range (getD F (at - 2 + 1) 0 - getD F (at - 2) 0) (c .workers + getD F (at - 2) 0)) (s .state)) k′ w′ → Swept c x F H (at + 1) k′ w′
+  sweep-step x at k k′ w w′ s two l rep =
       let m = length (c .graph .edges) in
       let v = at - 2 in
       let a = getD F v 0 in
@@ -339,28 +382,36 @@ module _ (c : Case) (ok : Sound c) (F H : List ℕ) (f : Firsts (c .graph) F) (r
       let n : v + 1 ≤ c .graph .vertices = omega arith in
       let order : a ≤ b = firsts-le (c .graph) F F v (v + 1) f f (omega arith) n in
       let bm : b ≤ m = f .below (v + 1) n in
-      let high : at + 1 ≤ at′ = least .high (omega arith) in
       let p : (b - a) + (m - b) ≡ m - a = omega arith in
       let q : (c .workers + a) + (b - a) ≡ c .workers + b = omega arith in
-      let only : Only c H y = only-left (b - a) a (s .state) (s .paid) (omega arith) (s .only) in
+      let z : at + 1 - 2 ≡ v + 1 = omega arith in
       record {
         state = y;
         rep = rep;
         paid = paid-acted c ok (range (b - a) (c .workers + a)) (s .state) (s .paid);
-        only = only;
-        rest =
-            sym (jump c b (getD F (at′ - 2) 0) y (firsts-le (c .graph) F F (v + 1) (at′ - 2) f f (omega arith) (omega (arith, least .low))) (f .below (at′ - 2) (omega (arith, least .low)))
-            (gap y b (v + 1) (at + 1) at′ only (λ e g i. f .after (v + 1) e n g i) (omega arith) least (omega arith)))
-            ∙ sym (rw (p, q) at (split-range c (b - a) (m - b) (c .workers + a) (s .state))) ∙ s .rest;
+        only = only-left (b - a) a (s .state) (s .paid) (omega arith) (s .only);
+        rest = rw z (sym (rw (p, q) at (split-range c (b - a) (m - b) (c .workers + a) (s .state))) ∙ s .rest);
       }
+
+  -- what is left is idle
+  sweep-ends : (x : State) (at : ℕ) (k : Run) (w : List ℤ) → (s : Swept c x F H at k w) → at ≤ top → ((e : ℕ) → getD F (at - 2) 0 ≤ e → e < length (c .graph .edges) → getD (s .state .cells) e none ≡ none)
+      → Rep c (acted c (range (length (c .graph .edges)) (c .workers)) x) k w
+  sweep-ends x at k w s low g =
+      let m = length (c .graph .edges) in
+      let a = getD F (at - 2) 0 in
+      let z : m - m ≡ 0 = omega arith in
+      let r : s .state ≡ acted c (range m (c .workers)) x =
+      sym (none-range c (c .workers + m) (s .state)) ∙ (rw z at (sym (jump c a m (s .state) (f .below (at - 2) (omega arith)) (omega arith) g))) ∙ s .rest
+      in
+      subst (λ (y : State). Rep c y k w) r (s .rep)
+
+  pub sweep-empty : (x : State) (at : ℕ) (k : Run) (w : List ℤ) → Swept c x F H at k w → at ≤ top → k .full ≡ 0 → Rep c (acted c (range (length (c .graph .edges)) (c .workers)) x) k w
+  sweep-empty x at k w s low e = sweep-ends x at k w s low (λ i _ _. no-cell (s .state .cells) (none-full c (s .state) k w (s .rep) e) i)
 
   pub sweep-done : (x : State) (at : ℕ) (k : Run) (w : List ℤ) → Swept c x F H at k w → at ≡ top → Rep c (acted c (range (length (c .graph .edges)) (c .workers)) x) k w
   sweep-done x at k w s e =
-      let m = length (c .graph .edges) in
-      let i : getD F (at - 2) 0 ≡ m = ap (λ (j : ℕ). getD F j 0) (let z : at - 2 ≡ c .graph .vertices = omega arith in z) ∙ first-last c F ok f in
-      let j : m - getD F (at - 2) 0 ≡ 0 = omega arith in
-      let r : s .state ≡ acted c (range m (c .workers)) x = sym (none-range c (c .workers + getD F (at - 2) 0) (s .state)) ∙ (rw j at (s .rest)) in
-      subst (λ (y : State). Rep c y k w) r (s .rep)
+      let i : getD F (at - 2) 0 ≡ length (c .graph .edges) = ap (λ (j : ℕ). getD F j 0) (let z : at - 2 ≡ c .graph .vertices = omega arith in z) ∙ first-last c F ok f in
+      sweep-ends x at k w s (omega arith) (λ j l h. absurd (omega arith))
 
 pub round-rep : (c : Case) (x : State) (k : Run) (w : List ℤ) → Sound c → Rep c (acted c (range (length (c .graph .edges)) (c .workers)) (acted c (range (c .workers) 0) x)) k w → Rep c (acted c (round-acts c) x) k w
 round-rep c x k w ok rep = subst (λ (y : State). Rep c y k w) (sym (round-is c ok x)) rep

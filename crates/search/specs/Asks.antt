@@ -12,6 +12,7 @@ use Rattle.model.specs.Case.{Case, owner, most-vertices}
 use Rattle.model.specs.Run.{State, fresh, with-queues, enqueue, send, relax, scan-edge, scan, no-message, turn, delivery, act, acted, range, round-acts, rounds, by-rounds}
 use Rattle.model.proofs.Few.{Paid}
 use Rattle.search.specs.declared.run.Run.{Run}
+use Rattle.search.specs.declared.rounds.Turned.{Turned}
 use Rattle.search.specs.Rep.{Firsts, Laid, Rep}
 
 -- PUSH: a vertex joins the tail of its owner's queue unless it is there
@@ -159,9 +160,15 @@ pub record Least (l : List ℕ) (at none r : ℕ) : Type 0 where
   pub high : at ≤ none → at ≤ r
   pub each : (i : ℕ) → i < length l → at ≤ getD l i 0 → r ≤ getD l i 0
 
--- each message stands on an edge of a vertex that was its owner's head, coded as in a head's cell
-unfoldable pub Only : Case → (heads : List ℕ) → State → Type 0
-Only c H x = (e d : ℕ) → getD (x .cells) e none ≡ some d → getD H (owner c (edge (c .graph) e .from)) 0 ≡ edge (c .graph) e .from + 2
+-- a number is among the first of a list
+pub record Among (l : List ℕ) (many h : ℕ) : Type 0 where
+  pub place : ℕ
+  pub below : place < many
+  pub is : getD l place 0 ≡ h
+
+-- each message stands on an edge of a vertex that is among the first of a list, coded as in a head's cell
+unfoldable pub Only : Case → (heads : List ℕ) → (many : ℕ) → State → Type 0
+Only c H k x = (e d : ℕ) → getD (x .cells) e none ≡ some d → Among H k (edge (c .graph) e .from + 2)
 
 pub record Turns-ask (p : ℕ) (k : Run) (w : List ℤ) (size : ℕ) : Type 0 where
   pub case : Case
@@ -172,10 +179,16 @@ pub record Turns-ask (p : ℕ) (k : Run) (w : List ℤ) (size : ℕ) : Type 0 wh
   pub room : p ≤ size
   pub empty : no-message (state .cells) ≡ true
 
-unfoldable pub Turns-say : (p : ℕ) → (k k′ : Run) → (w w′ : List ℤ) → (heads : List ℕ) → Type 0
-Turns-say p k k′ w w′ H =
+-- the run y after the turns, and the vertices that were scanned
+pub record Turns-leave (c : Case) (y : State) (t : Turned) (w : List ℤ) (heads : List ℕ) : Type 0 where
+  pub rep : Rep c y (t .run) w
+  pub few : t .scanned ≤ c .workers
+  pub only : Only c heads (t .scanned) y
+
+unfoldable pub Turns-say : (p : ℕ) → (k : Run) → (t : Turned) → (w w′ : List ℤ) → (heads : List ℕ) → Type 0
+Turns-say p k t w w′ H =
     (c : Case) (x : State) → Rep c x k w → Paid c x → p ≡ c .workers → p ≤ length H → no-message (x .cells) ≡ true →
-    let y = acted c (range (c .workers) 0) x in Rep c y k′ w′ × Only c H y
+    Turns-leave c (acted c (range (c .workers) 0) x) t w′ H
 
 pub record Edges-ask (v p : ℕ) (k : Run) (w : List ℤ) : Type 0 where
   pub case : Case
@@ -197,12 +210,11 @@ pub record Sweep-asks (p n : ℕ) (heads : List ℕ) (k : Run) (w : List ℤ) : 
   pub paid : Paid case state
   pub workers : p ≡ case .workers
   pub vertices : n ≡ case .graph .vertices
-  pub room : p ≤ length heads
-  pub only : Only case heads state
+  pub only : Only case heads (length heads) state
 
 unfoldable pub Sweep-says : (p n : ℕ) → (heads : List ℕ) → (k k′ : Run) → (w w′ : List ℤ) → Type 0
 Sweep-says p n H k k′ w w′ =
-    (c : Case) (x : State) → Rep c x k w → Paid c x → p ≡ c .workers → n ≡ c .graph .vertices → p ≤ length H → Only c H x →
+    (c : Case) (x : State) → Rep c x k w → Paid c x → p ≡ c .workers → n ≡ c .graph .vertices → Only c H (length H) x →
     Rep c (acted c (range (length (c .graph .edges)) (c .workers)) x) k′ w′
 
 pub record Round-asks (p n : ℕ) (k : Run) (w : List ℤ) : Type 0 where

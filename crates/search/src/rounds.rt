@@ -6,6 +6,7 @@ use super::cells::Cells;
 use super::cells::load_below;
 use super::run::Run;
 use super::run::act;
+use super::run::deliver;
 use super::run::is_over;
 use casefile::Case;
 
@@ -36,20 +37,32 @@ pub(crate) fn least(list: &[usize], at: usize, none: usize) -> usize
     best
 }
 
-// Every turn by worker number. What a worker's head was, coded as in its cell, stands in `heads`.
-pub(crate) fn turns(work: &mut [i32], run: Run, p: usize, heads: &mut [usize]) -> Run
+// What the turns of a round leave: the run, and how many vertices were scanned.
+pub(crate) struct Turned {
+    pub run: Run,
+    pub scanned: usize,
+}
+
+// Every turn by worker number. The vertices that are scanned, coded as a queue's head, go to the front of `heads`.
+pub(crate) fn turns(work: &mut [i32], run: Run, p: usize, heads: &mut [usize]) -> Turned
     requires { ⌜ Turns-ask p run (now work) (length (now heads)) ⌝ }
     ensures { λ r. ⌜ Turns-say p run r (now (work .entry)) (now (work .exit)) (now (heads .exit)) ⌝ }
 {
     let mut r = run;
-    let mut w: usize = 0;
-    while w < p {
+    let mut scanned: usize = 0;
+    for w in 0..p {
         let head = load_below(work, Cells::HEAD + w, Case::MOST_VERTICES + 2);
-        heads[w] = head;
+        if head == 1 {
+            continue;
+        }
+        heads[scanned] = head;
+        scanned += 1;
         r = act(work, r, w, p);
-        w += 1;
     }
-    r
+    Turned {
+        run: r,
+        scanned: scanned,
+    }
 }
 
 // Every delivery on the edges of a vertex, by edge number.
@@ -61,23 +74,31 @@ pub(crate) fn deliver_edges(work: &mut [i32], run: Run, v: usize, p: usize) -> R
     let mut e = load_below(work, Cells::FIRST + v, Case::MOST_EDGES + 1);
     let mut r = run;
     while e < end {
-        r = act(work, r, p + e, p);
+        if is_over(r) {
+            return r;
+        }
+        r = deliver(work, r, e);
         e += 1;
     }
     r
 }
 
-// Every delivery by edge number, where only edges of the vertices in `heads` have messages.
+// Every delivery by edge number, where only edges of the vertices in `heads` have messages. Those of vertices below
+// at − 2 are done; the rest is idle once no cell has a message.
 pub(crate) fn sweep(work: &mut [i32], run: Run, p: usize, n: usize, heads: &[usize]) -> Run
     requires { ⌜ Sweep-asks p n (now heads) run (now work) ⌝ }
     ensures { λ r. ⌜ Sweep-says p n (now (heads .entry)) run r (now (work .entry)) (now (work .exit)) ⌝ }
 {
     let none = n + 2;
     let mut r = run;
-    let mut at = least(heads, 2, none);
-    while at < none {
-        r = deliver_edges(work, r, at - 2, p);
-        at = least(heads, at + 1, none);
+    let mut at: usize = 2;
+    while r.full != 0 {
+        let head = least(heads, at, none);
+        if none <= head {
+            return r;
+        }
+        r = deliver_edges(work, r, head - 2, p);
+        at = head + 1;
     }
     r
 }
@@ -88,8 +109,9 @@ pub(crate) fn round(work: &mut [i32], run: Run, p: usize, n: usize) -> Run
     ensures { λ r. ⌜ Round-says p n run r (now (work .entry)) (now (work .exit)) ⌝ }
 {
     let mut heads = [0usize; Case::MOST_WORKERS];
-    let r = turns(work, run, p, &mut heads);
-    sweep(work, r, p, n, &heads)
+    let turned = turns(work, run, p, &mut heads);
+    let scanned = turned.scanned;
+    sweep(work, turned.run, p, n, &heads[..scanned])
 }
 
 // Rounds, at most so many, to the end of the run.

@@ -1,22 +1,26 @@
 use mathlib.Core.Path.{_≡_, refl, sym, _∙_}
+use mathlib.Core.Bool.{false}
 use mathlib.Core.List.{List}
 use Prim.Native.Nat.{ℕ, _+_, _-_, _≤_, _<_}
 use native.Mathlib.Omega.{arith}
 use lib.ListN.{length, getD}
 use Rattle.model.specs.Case.{Case}
-use Rattle.model.specs.Run.{State}
+use Rattle.model.specs.Run.{State, has-ended}
 use Rattle.model.proofs.Few.{Paid}
-use Rattle.search.specs.Asks.{Act-says, Edges-say}
+use Rattle.search.specs.Asks.{Deliver-says, Edges-say}
 use Rattle.search.specs.Rep.{Firsts, Laid, Rep}
 use Rattle.search.proofs.Ranges.{first-there, first-is}
-use Rattle.search.proofs.Sweeps.{Along, along-start, along-step, along-done, first-same, edges-rep}
+use Rattle.search.proofs.Sweeps.{Along, along-start, along-step, along-over, along-done, act-rep, first-same, edges-rep}
+use Rattle.search.proofs.Acts.{over-is}
+use Rattle.model.proofs.Shapes.{not-broken}
 use borrow.Author.Needs.{needs}
 use Rattle.search.proofs.rounds.deliver_edges.Statement.{statement}
 use Rattle.search.proofs.rounds.deliver_edges.Tie as tie
 use Rattle.search.proofs.rounds.deliver_edges.Reads as reads
 use Rattle.search.proofs.rounds.deliver_edges.Lts as lts
 use Rattle.search.proofs.cells.load_below.Reads as load-below-reads
-use Rattle.search.proofs.run.act.Reads as act-reads
+use Rattle.search.proofs.run.deliver.Reads as deliver-reads
+use Rattle.search.proofs.run.is_over.Reads as is-over-reads
 
 abbrev Inv-loop : tie.InvT-loop
 Inv-loop work₀ v p end e₀ r₀ work e r = (length work ≡ length work₀)
@@ -67,40 +71,56 @@ load-below-requires-2 c κs = let s = c .before .before .before .pre in
 loop-holds : tie.Need-loop-holds Inv-loop μ-loop
 loop-holds c = (refl, λ q x rep paid w l. along-start q x _ _ _ _ rep paid)
 
-add-act : tie.Need-add-act Inv-loop μ-loop
-add-act c = let s = c .before .before .before .before .before .before .before .pre in
-    omega (arith, s .workers, s .rep .held .laid .within .workers, c .before .loop-test .taken, c .before .before .before .before .before .load-below .ensures .1)
-
-act-requires : tie.Need-act-requires Inv-loop μ-loop
-act-requires c κs = let s = c .before .before .before .before .before .before .before .pre in
-    let l = end-low (c .before .before .before .before .before) (s .case) (s .rep .held .laid) (s .below) in
-    let u = c .before .before .loop .inv .1 (s .case) (s .state) (s .rep) (s .paid) (s .workers) l in
-    record { case = s .case; state = u .at; rep = u .rep; paid = u .paid; workers = s .workers; below = omega (arith, l, c .before .loop-test .taken) }
-
-add-e : tie.Need-add-e Inv-loop μ-loop
-add-e c = omega (arith, c .before .before .before .loop-test .taken)
-
-loop-less : tie.Need-loop-less Inv-loop μ-loop
-loop-less c = omega (arith, c .before .before .before .loop-test .taken)
-
-loop-again : tie.Need-loop-again Inv-loop μ-loop
-unfolding Act-says
-loop-again c = (
-  omega (arith, c .before .act .kept .0, c .before .before .before .before .loop .inv .0),
-  λ q x rep paid w l.
-      let p = c .before .before .before .before .before .before .before .before .before .args .p in
-      let e = c .before .before .before .before .loop .e in
-      let z : p + (e + 1) ≡ p + e + 1 = omega arith in
-      let u = c .before .before .before .before .loop .inv .1 q x rep paid w l in
-      rw z (along-step q x _ _ (p + e) _ _ _ _ u (omega (arith, c .before .before .before .loop-test .taken)) (c .before .act .ensures q (u .at) (u .rep) (u .paid) w (omega (arith, c .before .before .before .loop-test .taken)))),
-)
+is-over-requires : tie.Need-is-over-requires Inv-loop μ-loop
+is-over-requires c κs = search needs
 
 same-length : tie.Need-same-length Inv-loop μ-loop
-same-length c = c .before .loop .inv .0
+same-length c = c .before .before .before .loop .inv .0
 
 returns : tie.Need-returns Inv-loop μ-loop
 unfolding Edges-say
 returns c = λ q x F rep paid w h f.
+    let laid = rep .held .laid in
+    let u = c .before .before .before .loop .inv .1 q x rep paid w (end-low (c .before .before .before .before .before .before) q laid h) in
+    edges-rep q x _ _ (c .before .before .before .before .before .before .before .before .args .p) (c .before .before .before .before .load-below2 .result) (c .before .before .before .before .before .before .load-below .result) _ _ w (start-is (c .before .before .before .before) q F laid h f) (end-is (c .before .before .before .before .before .before) q F laid h f)
+    (along-over q x _ _ _ _ _ u (over-is q (u .at) _ _ (u .rep) ∙ sym (c .before .is-over .ensures) ∙ c .if1 .taken))
+
+-- the run has not ended where the loop goes on
+goes : (c : tie.Else1 Inv-loop μ-loop) (q : Case) (x : State) → Rep q x (c .before .before .before .loop .r) (c .before .before .before .loop .work) → has-ended x ≡ false
+goes c q x rep = over-is q x _ _ rep ∙ sym (c .before .is-over .ensures) ∙ c .if1 .left
+
+deliver-requires : tie.Need-deliver-requires Inv-loop μ-loop
+deliver-requires c κs = let s = c .before .before .before .before .before .before .before .before .before .pre in
+    let l = end-low (c .before .before .before .before .before .before .before) (s .case) (s .rep .held .laid) (s .below) in
+    let u = c .before .before .before .before .loop .inv .1 (s .case) (s .state) (s .rep) (s .paid) (s .workers) l in
+    record { case = s .case; state = u .at; rep = u .rep; paid = u .paid; whole = not-broken (u .at) (goes (c .before) (s .case) (u .at) (u .rep)); below = omega (arith, l, c .before .before .before .loop-test .taken) }
+
+add-e : tie.Need-add-e Inv-loop μ-loop
+add-e c = omega (arith, c .before .before .before .before .before .loop-test .taken)
+
+loop-less : tie.Need-loop-less Inv-loop μ-loop
+loop-less c = omega (arith, c .before .before .before .before .before .loop-test .taken)
+
+loop-again : tie.Need-loop-again Inv-loop μ-loop
+unfolding Deliver-says
+loop-again c = (
+  omega (arith, c .before .deliver .kept .0, c .before .before .before .before .before .before .loop .inv .0),
+  λ q x rep paid w l.
+      let p = c .before .before .before .before .before .before .before .before .before .before .before .args .p in
+      let e = c .before .before .before .before .before .before .loop .e in
+      let z : p + (e + 1) ≡ p + e + 1 = omega arith in
+      let t = c .before .before .before .before .before .loop-test .taken in
+      let u = c .before .before .before .before .before .before .loop .inv .1 q x rep paid w l in
+      let o = goes (c .before .before .before) q (u .at) (u .rep) in
+      rw z (along-step q x _ _ (p + e) _ _ _ _ u (omega arith) (act-rep q e p (u .at) _ _ w o (c .before .deliver .ensures q (u .at) (u .rep) (not-broken (u .at) o) (omega arith)))),
+)
+
+same-length-2 : tie.Need-same-length-2 Inv-loop μ-loop
+same-length-2 c = c .before .loop .inv .0
+
+returns-2 : tie.Need-returns-2 Inv-loop μ-loop
+unfolding Edges-say
+returns-2 c = λ q x F rep paid w h f.
     let laid = rep .held .laid in
     edges-rep q x _ _ (c .before .before .before .before .before .before .args .p) (c .before .before .load-below2 .result) (c .before .before .before .before .load-below .result) _ _ w (start-is (c .before .before) q F laid h f) (end-is (c .before .before .before .before) q F laid h f)
     (along-done q x _ _ _ _ _ (c .before .loop .inv .1 q x rep paid w (end-low (c .before .before .before .before) q laid h)) (omega (arith, c .loop-test .left)))
@@ -119,10 +139,12 @@ deliver-edges-spec =
     add-load-below-5
     load-below-requires-2
     loop-holds
-    add-act
-    act-requires
+    is-over-requires
+    same-length
+    returns
+    deliver-requires
     add-e
     loop-less
     loop-again
-    same-length
-    returns)
+    same-length-2
+    returns-2)

@@ -1,13 +1,16 @@
-use Rattle.model.specs.Run.{no-message}
-use mathlib.Core.Path.{_≡_}
+-- `rounds::round` meets its contract: the turns, then the deliveries on edges of the vertices that they scanned. Assumes nothing.
+use mathlib.Core.Path.{_≡_, sym}
 use mathlib.Core.Bool.{true}
+use Prim.Native.Nat.{_≤_}
 use native.Mathlib.Omega.{arith}
+use lib.ListN.{length}
+use lib.Seq.{length-take-le}
 use Rattle.model.specs.Case.{Case}
-use Rattle.model.specs.Run.{State, acted, range}
+use Rattle.model.specs.Run.{State, no-message, acted, range}
 use Rattle.model.proofs.Few.{Paid}
-use Rattle.search.specs.Asks.{Only, Turns-say, Sweep-says, Round-says}
+use Rattle.search.specs.Asks.{Turns-leave, Turns-say, Sweep-says, Round-says}
 use Rattle.search.specs.Rep.{Rep}
-use Rattle.search.proofs.Sweeps.{paid-acted, round-rep}
+use Rattle.search.proofs.Sweeps.{paid-acted, only-front, round-rep}
 use borrow.Author.Needs.{needs}
 use Rattle.search.proofs.rounds.round.Statement.{statement}
 use Rattle.search.proofs.rounds.round.Tie as tie
@@ -16,11 +19,16 @@ use Rattle.search.proofs.rounds.round.Lts as lts
 use Rattle.search.proofs.rounds.sweep.Reads as sweep-reads
 use Rattle.search.proofs.rounds.turns.Reads as turns-reads
 
--- the cells after the turns
+-- what the turns leave
 turned : (c : tie.After-turns) (q : Case) (x : State) → Rep q x (c .before .before .before .args .run) (c .before .before .before .args .work .now) → Paid q x → c .before .before .before .args .p ≡ q .workers → no-message (x .cells) ≡ true
-    → let y = acted q (range (q .workers) 0) x in Rep q y (c .turns .result) (c .turns .last .0) × Only q (c .turns .last .1 .1 .1 .0) y
+    → Turns-leave q (acted q (range (q .workers) 0) x) (c .turns .result) (c .turns .last .0) (c .turns .last .1 .1 .1 .0)
 unfolding Turns-say
 turned c q x rep paid w e = c .turns .ensures q x rep paid w (omega (arith, rep .held .laid .within .workers, c .turns .kept .1)) e
+
+-- the list has room for them
+room : (c : tie.After-turns) → c .turns .result .scanned ≤ length (c .turns .last .1 .1 .1 .0)
+room c = let s = c .before .before .before .pre in
+    omega (arith, turned c (s .case) (s .state) (s .rep) (s .paid) (s .workers) (s .empty) .few, s .rep .held .laid .within .workers, c .turns .kept .1)
 
 slice-aggregate-turns : tie.Need-slice-aggregate-turns
 slice-aggregate-turns c = search needs
@@ -29,8 +37,11 @@ turns-requires : tie.Need-turns-requires
 turns-requires c κs = let s = c .before .before .pre in
     record { case = s .case; state = s .state; rep = s .rep; paid = s .paid; workers = s .workers; room = omega (arith, s .workers, s .rep .held .laid .within .workers); empty = s .empty }
 
+array-share-prefix-heads : tie.Need-array-share-prefix-heads
+array-share-prefix-heads c = room (c .before .before .before)
+
 slice-aggregate-sweep : tie.Need-slice-aggregate-sweep
-slice-aggregate-sweep c = search needs
+slice-aggregate-sweep c = sym (length-take-le _ _ (room (c .before .before .before .before)))
 
 sweep-requires : tie.Need-sweep-requires
 sweep-requires c κs = let s = c .before .before .before .before .before .before .before .pre in
@@ -38,12 +49,11 @@ sweep-requires c κs = let s = c .before .before .before .before .before .before
     record {
       case = s .case;
       state = acted (s .case) (range (s .case .workers) 0) (s .state);
-      rep = t .0;
+      rep = t .rep;
       paid = paid-acted (s .case) (s .rep .held .laid .sound) (range (s .case .workers) 0) (s .state) (s .paid);
       workers = s .workers;
       vertices = s .vertices;
-      room = omega (arith, s .workers, s .rep .held .laid .within .workers, c .before .before .before .before .turns .kept .1);
-      only = t .1;
+      only = only-front (s .case) _ _ _ (room (c .before .before .before .before)) (t .only);
     }
 
 same-length : tie.Need-same-length
@@ -52,9 +62,10 @@ same-length c = search needs
 returns : tie.Need-returns
 unfolding Round-says Sweep-says
 returns c = λ q x rep paid w v e.
-    let t = turned (c .before .before .before .before .before .before) q x rep paid w e in
+    let a = c .before .before .before .before .before .before in
+    let t = turned a q x rep paid w e in
     round-rep q x _ _ (rep .held .laid .sound)
-    (c .before .sweep .ensures q (acted q (range (q .workers) 0) x) (t .0) (paid-acted q (rep .held .laid .sound) (range (q .workers) 0) x paid) w v (omega (arith, rep .held .laid .within .workers, c .before .before .before .before .before .before .turns .kept .1)) (t .1))
+    (c .before .sweep .ensures q (acted q (range (q .workers) 0) x) (t .rep) (paid-acted q (rep .held .laid .sound) (range (q .workers) 0) x paid) w v (only-front q _ _ _ (room a) (t .only)))
 
 pub round-spec : {M : Type 1} → statement M
 round-spec =
@@ -62,6 +73,7 @@ round-spec =
     (tie.spec
     slice-aggregate-turns
     turns-requires
+    array-share-prefix-heads
     slice-aggregate-sweep
     sweep-requires
     same-length
