@@ -15,8 +15,9 @@ use lib.Seq.{drop-cons, getD-set-other}
 use lib.IntN.{ℤ, pos}
 use Rattle.text.specs.Lines.{lines, line-at}
 use Rattle.text.specs.Numbers.{number-at}
-use Rattle.text.proofs.Tests.{or-cases, and-true, clash}
-use Rattle.text.proofs.Reading.{Row, No-row}
+use Rattle.text.proofs.Tests.{or-cases, and-true}
+use Rattle.text.specs.Reading.{Number-there}
+use Rattle.text.proofs.Reading.{Row, row-first, row-last}
 use Rattle.model.specs.Graph.{Edge, edge, mark, total, accepting-count}
 use Rattle.model.specs.Case.{owner, most-workers, least-work, Sound, Within}
 use Rattle.model.specs.CaseFile.{rises, case-refusal, accepted, case-in}
@@ -27,7 +28,8 @@ use Rattle.casefile.proofs.Places.{skip-none}
 use Rattle.casefile.proofs.Loading.{vertex-row, edge-row}
 use Rattle.search.specs.Cells.{Region, Filled, by-from, by-to, accepting-at, owner-at, from-at, to-at, first-at}
 use Rattle.search.specs.Rep.{no-edge}
-use Rattle.search.specs.Loading.{Load-says, Rows-say, Pair-asks, Pair-says, Pairs-say}
+use Rattle.search.specs.declared.load.Known.{Known}
+use Rattle.search.specs.Loading.{Known-is, Load-says, Rows-say, Pair-asks, Pair-says, Pairs-say}
 use Rattle.search.proofs.Regions.{same-or, below-or, fill-start, region-below, region-above, region-none, region-grow, region-whole}
 
 pub sound-in : (s : List ℕ) → accepted s ≡ true → Sound (case-in s)
@@ -46,8 +48,20 @@ module _ {s : List ℕ} {at : ℕ} {vs us : List ℕ} {z y : ℕ} (r : Row s at 
   pub past-same : z ≡ y
   past-same = sym (r .past) ∙ q .past
 
-pub row-there : {X : Type 0} {s : List ℕ} {at : ℕ} {vs : List ℕ} {z : ℕ} → Row s at vs z → No-row (length vs) s at → X
-row-there {vs = vs} r n = clash _ (r .line) (n .none)
+-- number by number: what is read of a row that stands at a place
+module _ {s : List ℕ} {at v u : ℕ} {vs : List ℕ} {z : ℕ} {k : Known} (r : Row s at (v ∷ u ∷ vs) z) (i : Known-is s at k) where
+  known-worth : k .value ≡ v
+  known-worth = i .value ∙ row-first r .worth
+
+  known-later : Row s (k .past) (u ∷ vs) z
+  known-later = rw (i .past) (row-first r .later)
+
+module _ {s : List ℕ} {at v z : ℕ} {k : Known} (r : Row s at (v ∷ []) z) (i : Known-is s at k) where
+  last-worth : k .value ≡ v
+  last-worth = i .value ∙ row-last r .worth
+
+  last-past : k .past ≡ z
+  last-past = i .past ∙ row-last r .past
 
 -- SUMS from a place on
 total-at : (l : List ℕ) (v : ℕ) → v < length l → total (drop v l) ≡ getD l v 0 + total (drop (v + 1) l)
@@ -96,8 +110,23 @@ module _ {s : List ℕ} {here v count : ℕ} {w₀ w : List ℤ} (l : Rows-laid 
     vertex-here : Row s here (v ∷ mark (case-in s .graph) v ∷ owner (case-in s) v ∷ []) (skip (v + 1) s (skip 3 s 0))
     vertex-here = rw (l .place) (vertex-row s a v h)
 
-    pub rows-never : {X : Type 0} → No-row 3 s here → X
-    rows-never n = row-there vertex-here n
+    -- its three numbers, one after the other
+    pub vertex-1 : Number-there s here
+    vertex-1 = row-first vertex-here .there
+
+    module _ {i : Known} (ki : Known-is s here i) where
+      pub vertex-2 : Number-there s (i .past)
+      vertex-2 = row-first (known-later vertex-here ki) .there
+
+      module _ {j : Known} (kj : Known-is s (i .past) j) where
+        pub vertex-3 : Number-there s (j .past)
+        vertex-3 = row-last (known-later (known-later vertex-here ki) kj) .there
+
+        pub vertex-read : {k : Known} → Known-is s (j .past) k → Row s here (i .value ∷ j .value ∷ k .value ∷ []) (k .past)
+        vertex-read kk =
+            let two = known-later vertex-here ki in
+            let three = known-later two kj in
+            rw (known-worth vertex-here ki, known-worth two kj, last-worth three kk, last-past three kk) vertex-here
 
     module _ {i b c z : ℕ} (r : Row s here (i ∷ b ∷ c ∷ []) z) where
       mark-is : b ≡ mark (case-in s .graph) v
@@ -345,8 +374,16 @@ module _ {s : List ℕ} {here e next : ℕ} {w₀ w : List ℤ} (l : Pairs-laid 
     edge-here : Row s here (edge (case-in s .graph) e .from ∷ edge (case-in s .graph) e .to ∷ []) (skip (e + 1) s (skip (4 + case-in s .graph .vertices) s 0))
     edge-here = rw (l .place) (edge-row s a e h)
 
-    pub pairs-never : {X : Type 0} → No-row 2 s here → X
-    pairs-never n = row-there edge-here n
+    -- its two numbers, one after the other
+    pub edge-1 : Number-there s here
+    edge-1 = row-first edge-here .there
+
+    module _ {i : Known} (ki : Known-is s here i) where
+      pub edge-2 : Number-there s (i .past)
+      edge-2 = row-last (known-later edge-here ki) .there
+
+      pub edge-read : {j : Known} → Known-is s (i .past) j → Row s here (i .value ∷ j .value ∷ []) (j .past)
+      edge-read kj = let two = known-later edge-here ki in rw (known-worth edge-here ki, last-worth two kj, last-past two kj) edge-here
 
     module _ {f t z : ℕ} (row : Row s here (f ∷ t ∷ []) z) where
       from-is : f ≡ from-in s e

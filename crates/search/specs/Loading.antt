@@ -2,13 +2,16 @@
 use mathlib.Core.Path.{_≡_}
 use mathlib.Core.Bool.{true}
 use mathlib.Core.List.{List}
-use Prim.Native.Nat.{ℕ, _+_, _-_, _≤_, _<_}
+use Prim.Native.Nat.{ℕ, suc, _+_, _-_, _≤_, _<_}
 use lib.ListN.{length, getD, set}
 use lib.IntN.{ℤ, pos}
+use Rattle.text.specs.Numbers.{value}
+use Rattle.text.specs.Reading.{field-here}
 use Rattle.model.specs.Graph.{accepting-count}
 use Rattle.model.specs.Case.{most-vertices, most-edges, least-work}
 use Rattle.model.specs.CaseFile.{accepted, case-in}
 use Rattle.casefile.specs.Judging.{skip}
+use Rattle.search.specs.declared.load.Known.{Known}
 use Rattle.search.specs.Cells.{Region, Filled, by-from, by-to, accepting-at, owner-at, from-at, to-at, first-at}
 use Rattle.search.specs.Rep.{Firsts, no-edge, Laid}
 
@@ -26,6 +29,11 @@ pub record Load-says (text : List ℕ) (marks : ℕ) (w v : List ℤ) : Type 0 w
   pub laid : Laid (case-in text) v
   pub counted : marks ≡ accepting-count (case-in text .graph)
   pub long : length v ≡ length w
+
+-- A NUMBER that is known to stand at a place: its value, and the place past the byte that ends it
+pub record Known-is (text : List ℕ) (at : ℕ) (k : Known) : Type 0 where
+  pub value : k .value ≡ value (field-here text at)
+  pub past : k .past ≡ at + suc (length (field-here text at))
 
 -- VERTEX LINES: the same for the lines of the vertices alone
 pub record Rows-ask (text : List ℕ) (at n : ℕ) (w : List ℤ) : Type 0 where

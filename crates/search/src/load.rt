@@ -1,12 +1,35 @@
 // Loads an accepted case into the cells: marks, owners, ends, and each vertex's first edge.
-ghost use Rattle.search.specs.Loading.{Load-asks, Load-says, Rows-ask, Rows-say, Pair-asks, Pair-says, Pairs-ask, Pairs-say};
+ghost use Rattle.text.specs.Reading.{Number-there};
+ghost use Rattle.search.specs.Loading.{Known-is, Load-asks, Load-says, Rows-ask, Rows-say, Pair-asks, Pair-says, Pairs-ask, Pairs-say};
 use super::cells::Cells;
 use super::cells::fill;
 use super::cells::store_number;
-use text::read::Row2;
-use text::read::Row3;
-use text::read::row_of_2;
-use text::read::row_of_3;
+
+const DIGIT_0: u8 = 48;
+
+// A number, and the place past the byte that ends it.
+struct Known {
+    value: usize,
+    past: usize,
+}
+
+// The number at `at` of a text that was judged before, so that of each byte only one thing is left to see: whether it
+// ends the number.
+fn known_number(text: &[u8], at: usize) -> Known
+    requires { ⌜ Number-there (now text) at ⌝ }
+    ensures { λ r. ⌜ Known-is (now (text .entry)) at r ⌝ }
+{
+    let mut value: usize = 0;
+    let mut e = at;
+    while DIGIT_0 <= text[e] {
+        value = 10 * value + (text[e] - DIGIT_0) as usize;
+        e += 1;
+    }
+    Known {
+        value: value,
+        past: e + 1,
+    }
+}
 
 // Loads the lines of n vertices, which start at `at`, and counts the accepting ones.
 fn load_vertices(work: &mut [i32], text: &[u8], at: usize, n: usize) -> usize
@@ -17,13 +40,13 @@ fn load_vertices(work: &mut [i32], text: &[u8], at: usize, n: usize) -> usize
     let mut count: usize = 0;
     let mut v: usize = 0;
     while v < n {
-        let Row3::Read(_, mark, owner, z) = row_of_3(text, here) else {
-            return count;
-        };
-        store_number(work, Cells::ACCEPTING + v, mark as usize);
-        store_number(work, Cells::OWNER + v, owner as usize);
-        count += mark as usize;
-        here = z;
+        let vertex = known_number(text, here);
+        let mark = known_number(text, vertex.past);
+        let owner = known_number(text, mark.past);
+        store_number(work, Cells::ACCEPTING + v, mark.value);
+        store_number(work, Cells::OWNER + v, owner.value);
+        count += mark.value;
+        here = owner.past;
         v += 1;
     }
     count
@@ -53,11 +76,10 @@ fn load_edges(work: &mut [i32], text: &[u8], at: usize, n: usize, m: usize)
     let mut next: usize = 0;
     let mut e: usize = 0;
     while e < m {
-        let Row2::Read(from, to, z) = row_of_2(text, here) else {
-            return;
-        };
-        next = load_edge(work, e, from as usize, to as usize, next);
-        here = z;
+        let from = known_number(text, here);
+        let to = known_number(text, from.past);
+        next = load_edge(work, e, from.value, to.value, next);
+        here = to.past;
         e += 1;
     }
     fill(work, Cells::FIRST + next, n + 1 - next, m as i32);

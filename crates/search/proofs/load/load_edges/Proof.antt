@@ -8,8 +8,8 @@ use mir.Facts.{toZ-pos}
 use Rattle.model.specs.Case.{most-edges}
 use Rattle.model.specs.CaseFile.{case-in}
 use lib.ListN.{length}
-use Rattle.text.proofs.Reading.{Row, row2-read, row2-fault}
-use Rattle.search.proofs.Loads.{within-in, Pairs-laid, pairs-start, pairs-end, pairs-never, pair-asks, pairs-step}
+use Rattle.text.proofs.Reading.{Row}
+use Rattle.search.proofs.Loads.{within-in, Pairs-laid, pairs-start, pairs-end, edge-1, edge-2, edge-read, pair-asks, pairs-step}
 use Rattle.search.proofs.load.load_edges.Statement.{statement}
 use Rattle.search.proofs.load.load_edges.Tie as tie
 
@@ -19,51 +19,38 @@ Inv-loop work₀ text at n m here₀ next₀ e₀ work here next e = Pairs-laid 
 abbrev μ-loop : tie.MeasureT-loop
 μ-loop work₀ text at n m here₀ next₀ e₀ work here next e = m - e
 
--- what is known where the line is read
-read : (c : tie.After-from Inv-loop μ-loop) → let v = c .from .given .0 in Row (c .before .before .before .before .before .before .args .text .now) (c .before .before .before .before .loop .here) (v .0 ∷ v .1 .0 ∷ []) (v .1 .1 .0)
-read c = row2-read (c .before .before .row-of-2 .ensures) (c .from .given .1)
+-- what is known where a line is read
+there : (c : tie.In-loop Inv-loop μ-loop) → c .before .loop .e < length (case-in (c .before .before .before .args .text .now) .graph .edges)
+there c = omega (arith, c .loop-test .taken, c .before .before .before .pre .edges)
 
-there : (c : tie.After-from Inv-loop μ-loop) → c .before .before .before .before .loop .e < length (case-in (c .before .before .before .before .before .before .args .text .now) .graph .edges)
-there c = omega (arith, c .before .before .before .loop-test .taken, c .before .before .before .before .before .before .pre .edges)
+few : (c : tie.In-loop Inv-loop μ-loop) → c .before .loop .e < most-edges
+few c = omega (arith, there c, within-in _ (c .before .before .before .pre .taken) .edges)
 
-few : (c : tie.After-from Inv-loop μ-loop) → c .before .before .before .before .loop .e < most-edges
-few c = omega (arith, there c, within-in _ (c .before .before .before .before .before .before .pre .taken) .edges)
+read : (c : tie.After-known-number2 Inv-loop μ-loop) → Row (c .before .before .before .before .before .args .text .now) (c .before .before .before .loop .here) (c .before .known-number .result .value ∷ c .known-number2 .result .value ∷ []) (c .known-number2 .result .past)
+read c = edge-read (c .before .before .before .loop .inv) (c .before .before .before .before .before .pre .taken) (there (c .before .before)) (c .before .known-number .ensures) (c .known-number2 .ensures)
 
 loop-holds : tie.Need-loop-holds Inv-loop μ-loop
 loop-holds c = pairs-start _ _ _ (c .before .pre .place)
 
-row-of-2-requires : tie.Need-row-of-2-requires Inv-loop μ-loop
-row-of-2-requires c κs = search needs
+known-number-requires : tie.Need-known-number-requires Inv-loop μ-loop
+known-number-requires c κs = edge-1 (c .before .loop .inv) (c .before .before .before .pre .taken) (there c)
 
-enum-known-from : tie.Need-enum-known-from Inv-loop μ-loop
-enum-known-from c = search needs
-
-enum-told : tie.Need-enum-told Inv-loop μ-loop
-enum-told c = search needs
-
-same-length : tie.Need-same-length Inv-loop μ-loop
-same-length c = c .before .before .before .before .loop .inv .long
-
-returns : tie.Need-returns Inv-loop μ-loop
-returns c = pairs-never (c .before .before .before .before .loop .inv) (c .before .before .before .before .before .before .pre .taken) (omega (arith, c .before .before .before .loop-test .taken, c .before .before .before .before .before .before .pre .edges)) (row2-fault _ _ (c .before .before .row-of-2 .ensures) (c .enum-told .given .1))
-
-cast-load-edge : tie.Need-cast-load-edge Inv-loop μ-loop
-cast-load-edge c = search needs
-
-cast-load-edge-2 : tie.Need-cast-load-edge-2 Inv-loop μ-loop
-cast-load-edge-2 c = search needs
+known-number-requires-2 : tie.Need-known-number-requires-2 Inv-loop μ-loop
+known-number-requires-2 c κs = edge-2 (c .before .before .loop .inv) (c .before .before .before .before .pre .taken) (there (c .before)) (c .known-number .ensures)
 
 load-edge-requires : tie.Need-load-edge-requires Inv-loop μ-loop
-load-edge-requires c κs = pair-asks (c .before .before .before .before .before .before .loop .inv) (c .before .before .before .before .before .before .before .before .pre .taken) (there (c .before .before)) (read (c .before .before)) (c .before .before .before .before .before .before .before .before .pre .long)
+load-edge-requires c κs = let s = c .before .before .before .before .before .before .pre in
+    pair-asks (c .before .before .before .before .loop .inv) (s .taken) (there (c .before .before .before)) (read (c .before)) (s .long)
 
 add-e : tie.Need-add-e Inv-loop μ-loop
-add-e c = omega (arith, few (c .before .before .before .before))
+add-e c = omega (arith, few (c .before .before .before .before .before))
 
 loop-less : tie.Need-loop-less Inv-loop μ-loop
-loop-less c = omega (arith, c .before .before .before .before .before .before .before .loop-test .taken)
+loop-less c = omega (arith, c .before .before .before .before .before .loop-test .taken)
 
 loop-again : tie.Need-loop-again Inv-loop μ-loop
-loop-again c = pairs-step (c .before .before .before .before .before .before .before .before .loop .inv) (c .before .before .before .before .before .before .before .before .before .before .pre .taken) (there (c .before .before .before .before)) (read (c .before .before .before .before)) (c .before .load-edge .ensures) (c .before .before .before .before .before .before .before .before .before .before .pre .long)
+loop-again c = let s = c .before .before .before .before .before .before .before .before .pre in
+    pairs-step (c .before .before .before .before .before .before .loop .inv) (s .taken) (there (c .before .before .before .before .before)) (read (c .before .before .before)) (c .before .load-edge .ensures) (s .long)
 
 add-fill : tie.Need-add-fill Inv-loop μ-loop
 add-fill c = omega (arith, c .before .before .loop .inv .within, within-in _ (c .before .before .before .before .pre .taken) .vertices)
@@ -80,11 +67,11 @@ cast-fill c = let h : c .before .before .before .before .args .m < 2 ^ 31 = omeg
 fill-requires : tie.Need-fill-requires Inv-loop μ-loop
 fill-requires c κs = omega (arith, c .before .before .loop .inv .within, c .before .before .loop .inv .long, c .before .before .before .before .pre .vertices, c .before .before .before .before .pre .long, within-in _ (c .before .before .before .before .pre .taken) .vertices)
 
-same-length-2 : tie.Need-same-length-2 Inv-loop μ-loop
-same-length-2 c = omega (arith, c .before .fill .kept .0, c .before .before .before .before .loop .inv .long)
+same-length : tie.Need-same-length Inv-loop μ-loop
+same-length c = omega (arith, c .before .fill .kept .0, c .before .before .before .before .loop .inv .long)
 
-returns-2 : tie.Need-returns-2 Inv-loop μ-loop
-returns-2 c =
+returns : tie.Need-returns Inv-loop μ-loop
+returns c =
     let p = c .before .before .before .before .before .before .pre in
     let h : c .before .before .before .before .before .before .args .m < 2 ^ 31 = omega (arith, p .edges, within-in _ (p .taken) .edges) in
     pairs-end (c .before .before .before .before .loop .inv) (p .taken) (p .vertices) (p .edges) (c .before .before .before .loop-test .left) (rw (toZ-pos w32 h) at (c .before .fill .ensures))
@@ -96,13 +83,8 @@ load-edges-spec =
     Inv-loop
     μ-loop
     loop-holds
-    row-of-2-requires
-    enum-known-from
-    enum-told
-    same-length
-    returns
-    cast-load-edge
-    cast-load-edge-2
+    known-number-requires
+    known-number-requires-2
     load-edge-requires
     add-e
     loop-less
@@ -112,5 +94,5 @@ load-edges-spec =
     sub-fill
     cast-fill
     fill-requires
-    same-length-2
-    returns-2)
+    same-length
+    returns)

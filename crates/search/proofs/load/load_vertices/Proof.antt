@@ -1,11 +1,11 @@
 -- `search::load::load_vertices`: each line puts its vertex's mark and owner into the cells.
 use native.Mathlib.Omega.{arith}
 use mathlib.Core.List.{[], _∷_}
-use borrow.Author.Needs.{needs}
 use Prim.Native.Nat.{_-_, _<_}
 use Rattle.model.specs.Case.{most-vertices, most-workers}
-use Rattle.text.proofs.Reading.{Row, row3-read, row3-fault}
-use Rattle.search.proofs.Loads.{within-in, Rows-laid, rows-start, rows-end, rows-never, row-mark, row-owner, rows-step}
+use Rattle.model.specs.CaseFile.{case-in}
+use Rattle.text.proofs.Reading.{Row}
+use Rattle.search.proofs.Loads.{within-in, Rows-laid, rows-start, rows-end, vertex-1, vertex-2, vertex-3, vertex-read, row-mark, row-owner, rows-step}
 use Rattle.search.proofs.load.load_vertices.Statement.{statement}
 use Rattle.search.proofs.load.load_vertices.Tie as tie
 
@@ -15,77 +15,65 @@ Inv-loop work₀ text at n here₀ count₀ v₀ work here count v = Rows-laid t
 abbrev μ-loop : tie.MeasureT-loop
 μ-loop work₀ text at n here₀ count₀ v₀ work here count v = n - v
 
--- what is known where the line is read
-read : (c : tie.After-mark Inv-loop μ-loop) → let v = c .mark .given .0 in Row (c .before .before .before .before .before .before .args .text .now) (c .before .before .before .before .loop .here) (v .0 ∷ v .1 .0 ∷ v .1 .1 .0 ∷ []) (v .1 .1 .1 .0)
-read c = row3-read (c .before .before .row-of-3 .ensures) (c .mark .given .1)
+-- what is known where a line is read
+there : (c : tie.In-loop Inv-loop μ-loop) → c .before .loop .v < case-in (c .before .before .before .args .text .now) .graph .vertices
+there c = omega (arith, c .loop-test .taken, c .before .before .before .pre .vertices)
 
-marked : (c : tie.After-mark Inv-loop μ-loop) → c .mark .given .0 .1 .0 < 2
-marked c = row-mark (c .before .before .before .before .loop .inv) (c .before .before .before .before .before .before .pre .taken) (omega (arith, c .before .before .before .loop-test .taken, c .before .before .before .before .before .before .pre .vertices)) (read c)
+few : (c : tie.In-loop Inv-loop μ-loop) → c .before .loop .v < most-vertices
+few c = omega (arith, there c, within-in _ (c .before .before .before .pre .taken) .vertices)
 
-owned : (c : tie.After-mark Inv-loop μ-loop) → c .mark .given .0 .1 .1 .0 < most-workers
-owned c = row-owner (c .before .before .before .before .loop .inv) (c .before .before .before .before .before .before .pre .taken) (omega (arith, c .before .before .before .loop-test .taken, c .before .before .before .before .before .before .pre .vertices)) (read c)
+read : (c : tie.After-known-number3 Inv-loop μ-loop) → Row (c .before .before .before .before .before .before .args .text .now) (c .before .before .before .before .loop .here) (c .before .before .known-number .result .value ∷ c .before .known-number2 .result .value ∷ c .known-number3 .result .value ∷ []) (c .known-number3 .result .past)
+read c = vertex-read (c .before .before .before .before .loop .inv) (c .before .before .before .before .before .before .pre .taken) (there (c .before .before .before)) (c .before .before .known-number .ensures) (c .before .known-number2 .ensures) (c .known-number3 .ensures)
 
-few : (c : tie.After-mark Inv-loop μ-loop) → c .before .before .before .before .loop .v < most-vertices
-few c = omega (arith, c .before .before .before .loop-test .taken, c .before .before .before .before .before .before .pre .vertices, within-in _ (c .before .before .before .before .before .before .pre .taken) .vertices)
+marked : (c : tie.After-known-number3 Inv-loop μ-loop) → c .before .known-number2 .result .value < 2
+marked c = row-mark (c .before .before .before .before .loop .inv) (c .before .before .before .before .before .before .pre .taken) (there (c .before .before .before)) (read c)
+
+owned : (c : tie.After-known-number3 Inv-loop μ-loop) → c .known-number3 .result .value < most-workers
+owned c = row-owner (c .before .before .before .before .loop .inv) (c .before .before .before .before .before .before .pre .taken) (there (c .before .before .before)) (read c)
 
 loop-holds : tie.Need-loop-holds Inv-loop μ-loop
 loop-holds c = rows-start _ _ _ (c .before .pre .place)
 
-row-of-3-requires : tie.Need-row-of-3-requires Inv-loop μ-loop
-row-of-3-requires c κs = search needs
+known-number-requires : tie.Need-known-number-requires Inv-loop μ-loop
+known-number-requires c κs = vertex-1 (c .before .loop .inv) (c .before .before .before .pre .taken) (there c)
 
-enum-known-mark : tie.Need-enum-known-mark Inv-loop μ-loop
-enum-known-mark c = search needs
+known-number-requires-2 : tie.Need-known-number-requires-2 Inv-loop μ-loop
+known-number-requires-2 c κs = vertex-2 (c .before .before .loop .inv) (c .before .before .before .before .pre .taken) (there (c .before)) (c .known-number .ensures)
 
-enum-told : tie.Need-enum-told Inv-loop μ-loop
-enum-told c = search needs
-
-same-length : tie.Need-same-length Inv-loop μ-loop
-same-length c = c .before .before .before .before .loop .inv .long
-
-returns : tie.Need-returns Inv-loop μ-loop
-returns c = rows-never (c .before .before .before .before .loop .inv) (c .before .before .before .before .before .before .pre .taken) (omega (arith, c .before .before .before .loop-test .taken, c .before .before .before .before .before .before .pre .vertices)) (row3-fault _ _ (c .before .before .row-of-3 .ensures) (c .enum-told .given .1))
+known-number-requires-3 : tie.Need-known-number-requires-3 Inv-loop μ-loop
+known-number-requires-3 c κs = vertex-3 (c .before .before .before .loop .inv) (c .before .before .before .before .before .pre .taken) (there (c .before .before)) (c .before .known-number .ensures) (c .known-number2 .ensures)
 
 add-store-number : tie.Need-add-store-number Inv-loop μ-loop
-add-store-number c = omega (arith, few (c .before .before))
-
-cast-store-number : tie.Need-cast-store-number Inv-loop μ-loop
-cast-store-number c = search needs
+add-store-number c = omega (arith, few (c .before .before .before .before))
 
 store-number-requires : tie.Need-store-number-requires Inv-loop μ-loop
-store-number-requires c κs = (omega (arith, few (c .before .before), c .before .before .before .before .before .before .before .before .pre .long, c .before .before .before .before .before .before .loop .inv .long), omega (arith, marked (c .before .before)))
+store-number-requires c κs = (omega (arith, few (c .before .before .before .before), c .before .before .before .before .before .before .before .pre .long, c .before .before .before .before .before .loop .inv .long), omega (arith, marked (c .before)))
 
 add-store-number-2 : tie.Need-add-store-number-2 Inv-loop μ-loop
-add-store-number-2 c = omega (arith, few (c .before .before .before .before .before))
-
-cast-store-number-2 : tie.Need-cast-store-number-2 Inv-loop μ-loop
-cast-store-number-2 c = search needs
+add-store-number-2 c = omega (arith, few (c .before .before .before .before .before .before .before))
 
 store-number-requires-2 : tie.Need-store-number-requires-2 Inv-loop μ-loop
-store-number-requires-2 c κs = (omega (arith, few (c .before .before .before .before .before), c .before .before .before .before .before .before .before .before .before .before .before .pre .long, c .before .before .before .before .before .before .before .before .before .loop .inv .long, c .before .before .store-number .kept .0), omega (arith, owned (c .before .before .before .before .before)))
-
-cast-count : tie.Need-cast-count Inv-loop μ-loop
-cast-count c = search needs
+store-number-requires-2 c κs = (omega (arith, few (c .before .before .before .before .before .before .before), c .before .before .before .before .before .before .before .before .before .before .pre .long, c .before .before .before .before .before .before .before .before .loop .inv .long, c .before .before .store-number .kept .0), omega (arith, owned (c .before .before .before .before)))
 
 add-count : tie.Need-add-count Inv-loop μ-loop
-add-count c = omega (arith, few (c .before .before .before .before .before .before .before), marked (c .before .before .before .before .before .before .before), c .before .before .before .before .before .before .before .before .before .before .before .loop .inv .few)
+add-count c = omega (arith, few (c .before .before .before .before .before .before .before .before .before .before), marked (c .before .before .before .before .before .before .before), c .before .before .before .before .before .before .before .before .before .before .before .loop .inv .few)
 
 add-v : tie.Need-add-v Inv-loop μ-loop
-add-v c = omega (arith, few (c .before .before .before .before .before .before .before))
+add-v c = omega (arith, few (c .before .before .before .before .before .before .before .before .before .before))
 
 loop-less : tie.Need-loop-less Inv-loop μ-loop
 loop-less c = omega (arith, c .before .before .before .before .before .before .before .before .before .before .loop-test .taken)
 
 loop-again : tie.Need-loop-again Inv-loop μ-loop
-loop-again c =
-    rw (c .before .store-number2 .ensures, c .before .before .before .before .store-number .ensures)
-    (rows-step (c .before .before .before .before .before .before .before .before .before .before .before .loop .inv) (c .before .before .before .before .before .before .before .before .before .before .before .before .before .pre .taken) (omega (arith, c .before .before .before .before .before .before .before .before .before .before .loop-test .taken, c .before .before .before .before .before .before .before .before .before .before .before .before .before .pre .vertices)) (read (c .before .before .before .before .before .before .before)) (c .before .before .before .before .before .before .before .before .before .before .before .before .before .pre .long))
+loop-again c = let s = c .before .before .before .before .before .before .before .before .before .before .before .before .before .pre in
+    rw (c .before .before .store-number2 .ensures, c .before .before .before .before .before .store-number .ensures)
+    (rows-step (c .before .before .before .before .before .before .before .before .before .before .before .loop .inv) (s .taken) (there (c .before .before .before .before .before .before .before .before .before .before)) (read (c .before .before .before .before .before .before .before)) (s .long))
 
-same-length-2 : tie.Need-same-length-2 Inv-loop μ-loop
-same-length-2 c = c .before .loop .inv .long
+same-length : tie.Need-same-length Inv-loop μ-loop
+same-length c = c .before .loop .inv .long
 
-returns-2 : tie.Need-returns-2 Inv-loop μ-loop
-returns-2 c = rows-end (c .before .loop .inv) (c .before .before .before .pre .taken) (omega (arith, c .loop-test .left, c .before .before .before .pre .vertices))
+returns : tie.Need-returns Inv-loop μ-loop
+returns c = rows-end (c .before .loop .inv) (c .before .before .before .pre .taken) (omega (arith, c .loop-test .left, c .before .before .before .pre .vertices))
 
 pub load-vertices-spec : {M : Type 1} → statement M
 load-vertices-spec =
@@ -94,21 +82,16 @@ load-vertices-spec =
     Inv-loop
     μ-loop
     loop-holds
-    row-of-3-requires
-    enum-known-mark
-    enum-told
-    same-length
-    returns
+    known-number-requires
+    known-number-requires-2
+    known-number-requires-3
     add-store-number
-    cast-store-number
     store-number-requires
     add-store-number-2
-    cast-store-number-2
     store-number-requires-2
-    cast-count
     add-count
     add-v
     loop-less
     loop-again
-    same-length-2
-    returns-2)
+    same-length
+    returns)
