@@ -7,6 +7,7 @@ pub mod Steps
 pub mod Ranges
 pub mod Acts
 pub mod Fresh
+pub mod Inserts
 pub mod Sweeps
 pub mod Frames
 pub mod Cycles

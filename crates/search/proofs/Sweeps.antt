@@ -12,17 +12,18 @@ use lib.ListN.{length, getD, set, take}
 use lib.Seq.{getD-set-same, getD-set-other, getD-take, length-take-le}
 use lib.IntN.{ℤ}
 use Rattle.model.specs.Graph.{Graph, edge, edge-depth, accepting-count}
-use Rattle.model.specs.Case.{Case, most-acts, Sound}
+use Rattle.model.specs.Case.{Case, owner, most-acts, Sound}
 use Rattle.model.specs.Run.{State, has-ended, fresh, with-queues, with-cells, scan, no-message, depth-or, delivery, act, acted, range, round-acts, rounds, by-rounds}
 use Rattle.text.proofs.Tests.{clash}
-use Rattle.model.proofs.Tools.{some-not-none, getD-out, getD-replicate-same, no-cell, no-cells}
+use Rattle.model.proofs.Tools.{member-first, some-not-none, getD-out, getD-replicate-same, no-cell, no-cells}
 use Rattle.model.proofs.Steps.{scan-keeps, act-keeps, acted-keeps}
 use Rattle.model.proofs.Few.{Paid, paid-acts, relax-cells}
 use Rattle.model.proofs.Rounds.{act-over, acted-over}
 use Rattle.search.specs.declared.run.Run.{Run}
 use Rattle.search.specs.Rep.{Firsts, Rep, link}
-use Rattle.search.specs.Asks.{Least, Among, Only, Turns-leave}
+use Rattle.search.specs.Asks.{Inserted, Among, Listed, Only, Turns-leave}
 use Rattle.search.proofs.Regions.{same-or, below-or}
+use Rattle.search.proofs.Inserts.{among-new, among-old, listed-more, each-more}
 use Rattle.search.proofs.Acts.{none-full, link-none, link-split, link-two, turn-none, turn-is, delivery-none, delivery-some, act-turn, act-delivery}
 
 -- ACTS BY NUMBER
@@ -215,14 +216,11 @@ turn-over c w y l e = go (has-ended y) refl
     go true o = act-over c w y o
     go false o = act-turn c w y o l ∙ turn-none c y w e
 
-among-more : (H : List ℕ) (k h z : ℕ) → Among H k h → Among (set H k z) (k + 1) h
-among-more H k h z a = record { place = a .place; below = omega (arith, a .below); is = getD-set-other H k (a .place) z 0 (λ i. omega (arith, a .below)) ∙ a .is }
-
 -- the turn of a worker whose queue's head is v
-only-step : (c : Case) (H : List ℕ) (k w v : ℕ) (q : List ℕ) (y : State) → w < c .workers → k < length H → getD (y .queues) w [] ≡ v ∷ q → Only c H k y
-    → Only c (set H k (v + 2)) (k + 1) (act c w y)
+only-step : (c : Case) (H H′ : List ℕ) (k w v : ℕ) (q : List ℕ) (y : State) → w < c .workers → Inserted k (v + 2) H H′ → getD (y .queues) w [] ≡ v ∷ q → Only c H k y
+    → Only c H′ (k + 1) (act c w y)
 unfolding Only
-only-step c H k w v q y l m e g f d h = go (has-ended y) refl (same-or u v)
+only-step c H H′ k w v q y l m e g f d h = go (has-ended y) refl (same-or u v)
   where
     u : ℕ
     u = edge (c .graph) f .from
@@ -230,23 +228,31 @@ only-step c H k w v q y l m e g f d h = go (has-ended y) refl (same-or u v)
     moved : (z : State) → act c w y ≡ z → getD (z .cells) f none ≡ some d
     moved z i = subst (λ (s : State). getD (s .cells) f none ≡ some d) i h
 
-    old : getD (y .cells) f none ≡ some d → Among (set H k (v + 2)) (k + 1) (u + 2)
-    old i = among-more H k (u + 2) (v + 2) (g f d i)
+    old : getD (y .cells) f none ≡ some d → Among H′ (k + 1) (u + 2)
+    old i = among-old m (u + 2) (g f d i)
 
-    go : (b : Bool) → has-ended y ≡ b → (u ≡ v) ⊎ (u ≡ v → ⊥) → Among (set H k (v + 2)) (k + 1) (u + 2)
+    go : (b : Bool) → has-ended y ≡ b → (u ≡ v) ⊎ (u ≡ v → ⊥) → Among H′ (k + 1) (u + 2)
     go true o s = old (moved y (act-over c w y o))
-    go false o (inl i) = record { place = k; below = omega arith; is = rw i (getD-set-same H k (v + 2) 0 m) }
+    go false o (inl i) = rw i (among-new m)
     go false o (inr n) =
         old (sym (scan-leaves c v (depth-or (getD (y .depths) v none)) (with-queues (set (y .queues) w q) y) f n) ∙ moved _ (act-turn c w y o l ∙ turn-is c y w v q e))
 
--- the turns of the workers before w are done
+-- the turns of the workers before w are done, and the list has vertices of these
 pub record Turning (c : Case) (x : State) (p : ℕ) (H : List ℕ) (scanned w : ℕ) (k : Run) (cells : List ℤ) : Type 0 where
   pub along : Along c x 0 p w k cells
+  pub listed : Listed (c .graph .vertices) H scanned
+  pub theirs : (j : ℕ) → j < scanned → owner c (getD H j 0 - 2) < w
   pub only : Only c H scanned (along .at)
 
 module _ (c : Case) (x : State) (p : ℕ) (e : p ≡ c .workers) where
   pub turns-start : (H : List ℕ) (k : Run) (cells : List ℤ) → Rep c x k cells → Paid c x → no-message (x .cells) ≡ true → Turning c x p H 0 0 k cells
-  turns-start H k cells rep paid i = record { along = record { at = x; rep = rep; paid = paid; rest = refl }; only = only-none c H x i }
+  turns-start H k cells rep paid i =
+      record {
+        along = record { at = x; rep = rep; paid = paid; rest = refl };
+        listed = record { rising = λ i j l m. absurd (omega arith); low = λ j m. absurd (omega arith); high = λ j m. absurd (omega arith) };
+        theirs = λ j m. absurd (omega arith);
+        only = only-none c H x i;
+      }
 
   pub turns-idle : (H : List ℕ) (n w : ℕ) (k : Run) (cells : List ℤ) → (u : Turning c x p H n w k cells) → w < p → link (getD (u .along .at .queues) w []) ≡ 1 → Turning c x p H n (w + 1) k cells
   unfolding along-step
@@ -254,18 +260,27 @@ module _ (c : Case) (x : State) (p : ℕ) (e : p ≡ c .workers) where
       let i = turn-over c w (u .along .at) (omega arith) (link-none (getD (u .along .at .queues) w []) h) in
       record {
         along = along-step c x 0 p w k k cells cells (u .along) l (subst (λ (y : State). Rep c y k cells) (sym i) (u .along .rep));
+        listed = u .listed;
+        theirs = λ j m. omega (arith, u .theirs j m);
         only = subst (λ (y : State). Only c H n y) (sym i) (u .only);
       }
 
-  pub turns-step : (H : List ℕ) (n w h : ℕ) (k k′ : Run) (cells cells′ : List ℤ) → (u : Turning c x p H n w k cells) → w < p → n < length H
-      → link (getD (u .along .at .queues) w []) ≡ h → (h ≡ 1 → ⊥) → Rep c (act c w (u .along .at)) k′ cells′ → Turning c x p (set H n h) (n + 1) (w + 1) k′ cells′
+  pub turns-step : (H H′ : List ℕ) (n w h : ℕ) (k k′ : Run) (cells cells′ : List ℤ) → (u : Turning c x p H n w k cells) → w < p → Inserted n h H H′
+      → link (getD (u .along .at .queues) w []) ≡ h → (h ≡ 1 → ⊥) → Rep c (act c w (u .along .at)) k′ cells′ → Turning c x p H′ (n + 1) (w + 1) k′ cells′
   unfolding along-step
-  turns-step H n w h k k′ cells cells′ u l m i o rep =
-      let q = link-split (getD (u .along .at .queues) w []) h i o in
-      let z : h - 2 + 2 ≡ h = omega (arith, link-two (getD (u .along .at .queues) w []) h i o) in
+  turns-step H H′ n w h k k′ cells cells′ u l m i o rep =
+      let y = u .along .at in
+      let q = link-split (getD (y .queues) w []) h i o in
+      let v = h - 2 in
+      let z : v + 2 ≡ h = omega (arith, link-two (getD (y .queues) w []) h i o) in
+      let s : Inserted n (v + 2) H H′ = rw z m in
+      let mine = u .along .rep .lined .mine w v (rw (q .1) (member-first v (q .0))) in
+      let own : owner c (h - 2) < w + 1 = omega (arith, mine .1) in
       record {
         along = along-step c x 0 p w k k′ cells cells′ (u .along) l rep;
-        only = subst (λ (g : ℕ). Only c (set H n g) (n + 1) (act c w (u .along .at))) z (only-step c H n w (h - 2) (q .0) (u .along .at) (omega arith) m (q .1) (u .only));
+        listed = listed-more m (c .graph .vertices) (u .listed) (omega arith) (omega (arith, mine .0)) (λ j b d. absurd (omega (arith, u .theirs j b, mine .1, ap (λ (g : ℕ). owner c (g - 2)) d)));
+        theirs = each-more m (λ (g : ℕ). owner c (g - 2) < w + 1) (λ j b. omega (arith, u .theirs j b)) own;
+        only = only-step c H H′ n w v (q .0) y (omega arith) s (q .1) (u .only);
       }
 
   pub turns-done : (H : List ℕ) (n w : ℕ) (k : Run) (cells : List ℤ) → (u : Turning c x p H n w k cells) → p ≤ w → n ≤ p
@@ -276,15 +291,28 @@ module _ (c : Case) (x : State) (p : ℕ) (e : p ≡ c .workers) where
       record {
         rep = subst (λ (y : State). Rep c y k cells) i (u .along .rep);
         few = omega arith;
+        listed = u .listed;
         only = subst (λ (y : State). Only c H n y) i (u .only);
       }
 
 -- a list's front has its first numbers
-pub only-front : (c : Case) (H : List ℕ) (k : ℕ) (y : State) → k ≤ length H → Only c H k y → Only c (take k H) (length (take k H)) y
-unfolding Only
-only-front c H k y h g e d q =
-    let a = g e d q in
-    record { place = a .place; below = omega (arith, a .below, length-take-le k H h); is = getD-take k H (a .place) 0 (a .below) ∙ a .is }
+module _ (H : List ℕ) (k : ℕ) (h : k ≤ length H) where
+  front : (j : ℕ) → j < length (take k H) → (j < k) × (getD (take k H) j 0 ≡ getD H j 0)
+  front j l = let b : j < k = omega (arith, length-take-le k H h) in (b, getD-take k H j 0 b)
+
+  pub listed-front : (n : ℕ) → Listed n H k → Listed n (take k H) (length (take k H))
+  listed-front n l =
+      record {
+        rising = λ i j b m. let p = front i (omega arith) in let q = front j m in omega (arith, l .rising i j b (q .0), p .1, q .1);
+        low = λ j m. let q = front j m in omega (arith, l .low j (q .0), q .1);
+        high = λ j m. let q = front j m in omega (arith, l .high j (q .0), q .1);
+      }
+
+  pub only-front : (c : Case) (y : State) → Only c H k y → Only c (take k H) (length (take k H)) y
+  unfolding Only
+  only-front c y g e d q =
+      let a = g e d q in
+      record { place = a .place; below = omega (arith, a .below, length-take-le k H h); is = getD-take k H (a .place) 0 (a .below) ∙ a .is }
 
 -- FIRST EDGES: they rise, and there is one table of them
 firsts-le : (g : Graph) (F G : List ℕ) (u v : ℕ) → Firsts g F → Firsts g G → u ≤ v → v ≤ g .vertices → getD F u 0 ≤ getD G v 0
@@ -307,39 +335,20 @@ edges-rep c x k w p a b a′ b′ e q r rep =
     let j : p + a ≡ c .workers + a′ = omega arith in
     rw (i, j) at rep
 
-first-last : (c : Case) (F : List ℕ) → Sound c → Firsts (c .graph) F → getD F (c .graph .vertices) 0 ≡ length (c .graph .edges)
-first-last c F ok f = go (below-or (getD F n 0) (length (c .graph .edges)))
-  where
-    n : ℕ
-    n = c .graph .vertices
-
-    go : (getD F n 0 < length (c .graph .edges)) ⊎ (length (c .graph .edges) ≤ getD F n 0) → getD F n 0 ≡ length (c .graph .edges)
-    go (inl b) = absurd (omega (arith, f .after n (getD F n 0) (omega arith) (omega arith) b, ok .from (getD F n 0) b))
-    go (inr b) = omega (arith, f .below n (omega arith))
-
--- SWEEPS: the edges of vertices below at − 2 are done
-pub record Swept (c : Case) (x : State) (F H : List ℕ) (at : ℕ) (k : Run) (w : List ℤ) : Type 0 where
+-- SWEEPS: the edges of vertices below at − 2 are done, those of the first i in the list among them
+pub record Swept (c : Case) (x : State) (F H : List ℕ) (i : ℕ) (k : Run) (w : List ℤ) : Type 0 where
   pub state : State
   pub rep : Rep c state k w
   pub paid : Paid c state
   pub only : Only c H (length H) state
+  pub at : ℕ
+  pub two : 2 ≤ at
+  pub top : at ≤ c .graph .vertices + 2
+  pub done : (j : ℕ) → j < i → getD H j 0 < at
+  pub left : (j : ℕ) → i ≤ j → j < length H → at ≤ getD H j 0
   pub rest : acted c (range (length (c .graph .edges) - getD F (at - 2) 0) (c .workers + getD F (at - 2) 0)) state ≡ acted c (range (length (c .graph .edges)) (c .workers)) x
 
-module _ (c : Case) (ok : Sound c) (F H : List ℕ) (f : Firsts (c .graph) F) (top : ℕ) (is : top ≡ c .graph .vertices + 2) where
-  -- no message stands between the edges of one vertex and of the next that was scanned
-  gap : (y : State) (at r : ℕ) → Only c H (length H) y → 2 ≤ at → at ≤ top → Least H at top r → (e : ℕ) → getD F (at - 2) 0 ≤ e → e < getD F (r - 2) 0 → getD (y .cells) e none ≡ none
-  unfolding Only
-  gap y at r only two low least e l b = go (getD (y .cells) e none) refl
-    where
-      go : (o : Option ℕ) → getD (y .cells) e none ≡ o → getD (y .cells) e none ≡ none
-      go none q = q
-      go (some d) q =
-          let n : r - 2 ≤ c .graph .vertices = omega (arith, least .low) in
-          let m : e < length (c .graph .edges) = omega (arith, f .below (r - 2) n) in
-          let a = only e d q in
-          let u : at - 2 ≤ edge (c .graph) e .from = f .after (at - 2) e (omega arith) l m in
-          absurd (omega (arith, f .before (r - 2) e n b, least .high low, least .each (a .place) (a .below) (omega (arith, a .is)), a .is))
-
+module _ (c : Case) (ok : Sound c) (F H : List ℕ) (f : Firsts (c .graph) F) (l : Listed (c .graph .vertices) H (length H)) where
   only-left : (k e : ℕ) (y : State) → Paid c y → e + k ≤ length (c .graph .edges) → Only c H (length H) y → Only c H (length H) (acted c (range k (c .workers + e)) y)
   unfolding Only
   only-left k e y p h only i d g = only i d (acts-left c ok k e y p h i d g)
@@ -351,67 +360,112 @@ module _ (c : Case) (ok : Sound c) (F H : List ℕ) (f : Firsts (c .graph) F) (t
       go (inl b) = absurd (omega (arith, f .before 0 0 (omega arith) b))
       go (inr b) = omega arith
 
-  pub sweep-start : (x : State) (k : Run) (w : List ℤ) → Rep c x k w → Paid c x → Only c H (length H) x → Swept c x F H 2 k w
+  pub sweep-start : (x : State) (k : Run) (w : List ℤ) → Rep c x k w → Paid c x → Only c H (length H) x → Swept c x F H 0 k w
   sweep-start x k w rep p only =
       let m = length (c .graph .edges) in
       let i : 2 - 2 ≡ 0 = omega arith in
       let z : m - 0 ≡ m = omega arith in
-      record { state = x; rep = rep; paid = p; only = only; rest = rw (i, first-0, z, add-zero (c .workers)) }
-
-  -- what lies before the next vertex that was scanned is idle
-  pub sweep-on : (x : State) (at r : ℕ) (k : Run) (w : List ℤ) → Swept c x F H at k w → 2 ≤ at → at ≤ top → Least H at top r → Swept c x F H r k w
-  sweep-on x at r k w s two low least =
-      let n : r - 2 ≤ c .graph .vertices = omega (arith, least .low) in
-      let h : at ≤ r = least .high low in
       record {
-        state = s .state;
-        rep = s .rep;
-        paid = s .paid;
-        only = s .only;
-        rest = sym (jump c (getD F (at - 2) 0) (getD F (r - 2) 0) (s .state) (firsts-le (c .graph) F F (at - 2) (r - 2) f f (omega arith) n) (f .below (r - 2) n) (gap (s .state) at r (s .only) two low least)) ∙ s .rest;
-      }
-
-  pub sweep-step : (x : State) (at : ℕ) (k k′ : Run) (w w′ : List ℤ) → (s : Swept c x F H at k w) → 2 ≤ at → at < top
-      → Rep c (acted c (range (getD F (at - 2 + 1) 0 - getD F (at - 2) 0) (c .workers + getD F (at - 2) 0)) (s .state)) k′ w′ → Swept c x F H (at + 1) k′ w′
-  sweep-step x at k k′ w w′ s two l rep =
-      let m = length (c .graph .edges) in
-      let v = at - 2 in
-      let a = getD F v 0 in
-      let b = getD F (v + 1) 0 in
-      let y = acted c (range (b - a) (c .workers + a)) (s .state) in
-      let n : v + 1 ≤ c .graph .vertices = omega arith in
-      let order : a ≤ b = firsts-le (c .graph) F F v (v + 1) f f (omega arith) n in
-      let bm : b ≤ m = f .below (v + 1) n in
-      let p : (b - a) + (m - b) ≡ m - a = omega arith in
-      let q : (c .workers + a) + (b - a) ≡ c .workers + b = omega arith in
-      let z : at + 1 - 2 ≡ v + 1 = omega arith in
-      record {
-        state = y;
+        state = x;
         rep = rep;
-        paid = paid-acted c ok (range (b - a) (c .workers + a)) (s .state) (s .paid);
-        only = only-left (b - a) a (s .state) (s .paid) (omega arith) (s .only);
-        rest = rw z (sym (rw (p, q) at (split-range c (b - a) (m - b) (c .workers + a) (s .state))) ∙ s .rest);
+        paid = p;
+        only = only;
+        at = 2;
+        two = omega arith;
+        top = omega arith;
+        done = λ j b. absurd (omega arith);
+        left = λ j _ b. l .low j b;
+        rest = rw (i, first-0, z, add-zero (c .workers));
       }
 
-  -- what is left is idle
-  sweep-ends : (x : State) (at : ℕ) (k : Run) (w : List ℤ) → (s : Swept c x F H at k w) → at ≤ top → ((e : ℕ) → getD F (at - 2) 0 ≤ e → e < length (c .graph .edges) → getD (s .state .cells) e none ≡ none)
-      → Rep c (acted c (range (length (c .graph .edges)) (c .workers)) x) k w
-  sweep-ends x at k w s low g =
-      let m = length (c .graph .edges) in
-      let a = getD F (at - 2) 0 in
-      let z : m - m ≡ 0 = omega arith in
-      let r : s .state ≡ acted c (range m (c .workers)) x =
-      sym (none-range c (c .workers + m) (s .state)) ∙ (rw z at (sym (jump c a m (s .state) (f .below (at - 2) (omega arith)) (omega arith) g))) ∙ s .rest
-      in
-      subst (λ (y : State). Rep c y k w) r (s .rep)
+  module _ {x : State} {i : ℕ} {k : Run} {w : List ℤ} (s : Swept c x F H i k w) where
+    -- a message that is left stands on an edge of a vertex in the list from i on
+    later : (e d : ℕ) → getD (s .state .cells) e none ≡ some d → getD F (s .at - 2) 0 ≤ e → e < length (c .graph .edges) → (j : ℕ) × (i ≤ j) × (j < length H) × (getD H j 0 ≡ edge (c .graph) e .from + 2)
+    unfolding Only
+    later e d q b m =
+        let a = s .only e d q in
+        let u : s .at - 2 ≤ edge (c .graph) e .from = f .after (s .at - 2) e (omega (arith, s .top)) b m in
+        go a (below-or (a .place) i) u
+      where
+        go : (a : Among H (length H) (edge (c .graph) e .from + 2)) → (a .place < i) ⊎ (i ≤ a .place) → s .at - 2 ≤ edge (c .graph) e .from → (j : ℕ) × (i ≤ j) × (j < length H) × (getD H j 0 ≡ edge (c .graph) e .from + 2)
+        go a (inl h) u = absurd (omega (arith, s .done (a .place) h, a .is, s .two))
+        go a (inr h) u = (a .place, h, a .below, a .is)
 
-  pub sweep-empty : (x : State) (at : ℕ) (k : Run) (w : List ℤ) → Swept c x F H at k w → at ≤ top → k .full ≡ 0 → Rep c (acted c (range (length (c .graph .edges)) (c .workers)) x) k w
-  sweep-empty x at k w s low e = sweep-ends x at k w s low (λ i _ _. no-cell (s .state .cells) (none-full c (s .state) k w (s .rep) e) i)
+    -- so none stands before the edges of the vertex at i
+    gap : i < length H → (e : ℕ) → getD F (s .at - 2) 0 ≤ e → e < getD F (getD H i 0 - 2) 0 → getD (s .state .cells) e none ≡ none
+    gap h e b m = go (getD (s .state .cells) e none) refl
+      where
+        n : getD H i 0 - 2 ≤ c .graph .vertices
+        n = omega (arith, l .high i h)
 
-  pub sweep-done : (x : State) (at : ℕ) (k : Run) (w : List ℤ) → Swept c x F H at k w → at ≡ top → Rep c (acted c (range (length (c .graph .edges)) (c .workers)) x) k w
-  sweep-done x at k w s e =
-      let i : getD F (at - 2) 0 ≡ length (c .graph .edges) = ap (λ (j : ℕ). getD F j 0) (let z : at - 2 ≡ c .graph .vertices = omega arith in z) ∙ first-last c F ok f in
-      sweep-ends x at k w s (omega arith) (λ j l h. absurd (omega arith))
+        go : (o : Option ℕ) → getD (s .state .cells) e none ≡ o → getD (s .state .cells) e none ≡ none
+        go none q = q
+        go (some d) q =
+            let t = later e d q b (omega (arith, f .below (getD H i 0 - 2) n)) in
+            let u = f .before (getD H i 0 - 2) e n m in
+            go-on (t .0) (t .1) (t .2) (t .3) u (same-or i (t .0))
+          where
+            go-on : (j : ℕ) → i ≤ j → j < length H → getD H j 0 ≡ edge (c .graph) e .from + 2 → edge (c .graph) e .from < getD H i 0 - 2 → (i ≡ j) ⊎ (i ≡ j → ⊥) → getD (s .state .cells) e none ≡ none
+            go-on j a r t u (inl v) = absurd (omega (arith, l .low i h, ap (λ (y : ℕ). getD H y 0) v))
+            go-on j a r t u (inr v) = absurd (omega (arith, l .low i h, l .rising i j (omega (arith, v)) r))
+
+    -- the deliveries up to the edges of the vertex at i are idle, and then come these
+    pub sweep-step : i < length H → {k′ : Run} {w′ : List ℤ}
+        → Rep c (acted c (range (getD F (getD H i 0 - 2 + 1) 0 - getD F (getD H i 0 - 2) 0) (c .workers + getD F (getD H i 0 - 2) 0)) (s .state)) k′ w′ → Swept c x F H (i + 1) k′ w′
+    sweep-step h rep =
+        let m = length (c .graph .edges) in
+        let v = getD H i 0 - 2 in
+        let a = getD F v 0 in
+        let b = getD F (v + 1) 0 in
+        let y = acted c (range (b - a) (c .workers + a)) (s .state) in
+        let two : 2 ≤ getD H i 0 = l .low i h in
+        let n : v + 1 ≤ c .graph .vertices = omega (arith, l .high i h) in
+        let start : getD F (s .at - 2) 0 ≤ a = firsts-le (c .graph) F F (s .at - 2) v f f (omega (arith, s .left i (omega arith) h)) (omega arith) in
+        let order : a ≤ b = firsts-le (c .graph) F F v (v + 1) f f (omega arith) n in
+        let bm : b ≤ m = f .below (v + 1) n in
+        let p : (b - a) + (m - b) ≡ m - a = omega arith in
+        let q : (c .workers + a) + (b - a) ≡ c .workers + b = omega arith in
+        let z : getD H i 0 + 1 - 2 ≡ v + 1 = omega arith in
+        record {
+          state = y;
+          rep = rep;
+          paid = paid-acted c ok (range (b - a) (c .workers + a)) (s .state) (s .paid);
+          only = only-left (b - a) a (s .state) (s .paid) (omega arith) (s .only);
+          at = getD H i 0 + 1;
+          two = omega arith;
+          top = omega (arith, l .high i h);
+          done = λ j g. past j g (same-or j i);
+          left = λ j g r. omega (arith, l .rising i j (omega arith) r);
+          rest =
+              rw z
+              (sym (rw (p, q) at (split-range c (b - a) (m - b) (c .workers + a) (s .state)))
+              ∙ sym (jump c (getD F (s .at - 2) 0) a (s .state) start (omega arith) (gap h)) ∙ s .rest);
+        }
+      where
+        past : (j : ℕ) → j < i + 1 → (j ≡ i) ⊎ (j ≡ i → ⊥) → getD H j 0 < getD H i 0 + 1
+        past j g (inl e) = omega (arith, ap (λ (y : ℕ). getD H y 0) e)
+        past j g (inr e) = omega (arith, l .rising j i (omega (arith, e)) h)
+
+    -- what is left is idle
+    sweep-ends : ((e : ℕ) → getD F (s .at - 2) 0 ≤ e → e < length (c .graph .edges) → getD (s .state .cells) e none ≡ none) → Rep c (acted c (range (length (c .graph .edges)) (c .workers)) x) k w
+    sweep-ends g =
+        let m = length (c .graph .edges) in
+        let a = getD F (s .at - 2) 0 in
+        let z : m - m ≡ 0 = omega arith in
+        let r : s .state ≡ acted c (range m (c .workers)) x =
+        sym (none-range c (c .workers + m) (s .state)) ∙ (rw z at (sym (jump c a m (s .state) (f .below (s .at - 2) (omega (arith, s .top))) (omega arith) g))) ∙ s .rest
+        in
+        subst (λ (y : State). Rep c y k w) r (s .rep)
+
+    pub sweep-empty : k .full ≡ 0 → Rep c (acted c (range (length (c .graph .edges)) (c .workers)) x) k w
+    sweep-empty e = sweep-ends (λ j _ _. no-cell (s .state .cells) (none-full c (s .state) k w (s .rep) e) j)
+
+    pub sweep-done : length H ≤ i → Rep c (acted c (range (length (c .graph .edges)) (c .workers)) x) k w
+    sweep-done h = sweep-ends (λ e b m. go e b m (getD (s .state .cells) e none) refl)
+      where
+        go : (e : ℕ) → getD F (s .at - 2) 0 ≤ e → e < length (c .graph .edges) → (o : Option ℕ) → getD (s .state .cells) e none ≡ o → getD (s .state .cells) e none ≡ none
+        go e b m none q = q
+        go e b m (some d) q = let t = later e d q b m in absurd (omega (arith, t .1, t .2))
 
 pub round-rep : (c : Case) (x : State) (k : Run) (w : List ℤ) → Sound c → Rep c (acted c (range (length (c .graph .edges)) (c .workers)) (acted c (range (c .workers) 0) x)) k w → Rep c (acted c (round-acts c) x) k w
 round-rep c x k w ok rep = subst (λ (y : State). Rep c y k w) (sym (round-is c ok x)) rep

@@ -149,16 +149,15 @@ unfoldable pub List-done : (p : ℕ) → (acts : List ℕ) → (k k′ : Run) �
 List-done p acts k k′ w w′ =
     (c : Case) (x : State) → Rep c x k w → Paid c x → p ≡ c .workers → ((i : ℕ) → i < length acts → getD acts i 0 < p + length (c .graph .edges)) → Rep c (acted c acts x) k′ w′
 
--- ROUNDS. The less of two numbers, if the first is not below a limit; the least of a list that is not below it
-pub record Picked (s at best r : ℕ) : Type 0 where
-  pub low : r ≤ best
-  pub taken : at ≤ s → r ≤ s
-  pub high : at ≤ best → at ≤ r
-
-pub record Least (l : List ℕ) (at none r : ℕ) : Type 0 where
-  pub low : r ≤ none
-  pub high : at ≤ none → at ≤ r
-  pub each : (i : ℕ) → i < length l → at ≤ getD l i 0 → r ≤ getD l i 0
+-- ROUNDS. A number goes to its place among the first of a list, and those from there on move up by one
+pub record Inserted (many h : ℕ) (l l′ : List ℕ) : Type 0 where
+  pub place : ℕ
+  pub within : place ≤ many
+  pub before : (j : ℕ) → j < place → getD l′ j 0 ≡ getD l j 0
+  pub here : getD l′ place 0 ≡ h
+  pub behind : (j : ℕ) → place ≤ j → j < many → getD l′ (j + 1) 0 ≡ getD l j 0
+  pub low : 0 < place → getD l (place - 1) 0 < h
+  pub high : (j : ℕ) → place ≤ j → j < many → h ≤ getD l j 0
 
 -- a number is among the first of a list
 pub record Among (l : List ℕ) (many h : ℕ) : Type 0 where
@@ -169,6 +168,12 @@ pub record Among (l : List ℕ) (many h : ℕ) : Type 0 where
 -- each message stands on an edge of a vertex that is among the first of a list, coded as in a head's cell
 unfoldable pub Only : Case → (heads : List ℕ) → (many : ℕ) → State → Type 0
 Only c H k x = (e d : ℕ) → getD (x .cells) e none ≡ some d → Among H k (edge (c .graph) e .from + 2)
+
+-- the first of a list rise and are vertices, coded so
+pub record Listed (n : ℕ) (heads : List ℕ) (many : ℕ) : Type 0 where
+  pub rising : (i j : ℕ) → i < j → j < many → getD heads i 0 < getD heads j 0
+  pub low : (j : ℕ) → j < many → 2 ≤ getD heads j 0
+  pub high : (j : ℕ) → j < many → getD heads j 0 < n + 2
 
 pub record Turns-ask (p : ℕ) (k : Run) (w : List ℤ) (size : ℕ) : Type 0 where
   pub case : Case
@@ -183,6 +188,7 @@ pub record Turns-ask (p : ℕ) (k : Run) (w : List ℤ) (size : ℕ) : Type 0 wh
 pub record Turns-leave (c : Case) (y : State) (t : Turned) (w : List ℤ) (heads : List ℕ) : Type 0 where
   pub rep : Rep c y (t .run) w
   pub few : t .scanned ≤ c .workers
+  pub listed : Listed (c .graph .vertices) heads (t .scanned)
   pub only : Only c heads (t .scanned) y
 
 unfoldable pub Turns-say : (p : ℕ) → (k : Run) → (t : Turned) → (w w′ : List ℤ) → (heads : List ℕ) → Type 0
@@ -203,36 +209,35 @@ Edges-say v p k k′ w w′ =
     (c : Case) (x : State) (F : List ℕ) → Rep c x k w → Paid c x → p ≡ c .workers → v < c .graph .vertices → Firsts (c .graph) F →
     Rep c (acted c (range (getD F (v + 1) 0 - getD F v 0) (c .workers + getD F v 0)) x) k′ w′
 
-pub record Sweep-asks (p n : ℕ) (heads : List ℕ) (k : Run) (w : List ℤ) : Type 0 where
+pub record Sweep-asks (p : ℕ) (heads : List ℕ) (k : Run) (w : List ℤ) : Type 0 where
   pub case : Case
   pub state : State
   pub rep : Rep case state k w
   pub paid : Paid case state
   pub workers : p ≡ case .workers
-  pub vertices : n ≡ case .graph .vertices
+  pub listed : Listed (case .graph .vertices) heads (length heads)
   pub only : Only case heads (length heads) state
 
-unfoldable pub Sweep-says : (p n : ℕ) → (heads : List ℕ) → (k k′ : Run) → (w w′ : List ℤ) → Type 0
-Sweep-says p n H k k′ w w′ =
-    (c : Case) (x : State) → Rep c x k w → Paid c x → p ≡ c .workers → n ≡ c .graph .vertices → Only c H (length H) x →
+unfoldable pub Sweep-says : (p : ℕ) → (heads : List ℕ) → (k k′ : Run) → (w w′ : List ℤ) → Type 0
+Sweep-says p H k k′ w w′ =
+    (c : Case) (x : State) → Rep c x k w → Paid c x → p ≡ c .workers → Listed (c .graph .vertices) H (length H) → Only c H (length H) x →
     Rep c (acted c (range (length (c .graph .edges)) (c .workers)) x) k′ w′
 
-pub record Round-asks (p n : ℕ) (k : Run) (w : List ℤ) : Type 0 where
+pub record Round-asks (p : ℕ) (k : Run) (w : List ℤ) : Type 0 where
   pub case : Case
   pub state : State
   pub rep : Rep case state k w
   pub paid : Paid case state
   pub workers : p ≡ case .workers
-  pub vertices : n ≡ case .graph .vertices
   pub empty : no-message (state .cells) ≡ true
 
-unfoldable pub Round-says : (p n : ℕ) → (k k′ : Run) → (w w′ : List ℤ) → Type 0
-Round-says p n k k′ w w′ =
-    (c : Case) (x : State) → Rep c x k w → Paid c x → p ≡ c .workers → n ≡ c .graph .vertices → no-message (x .cells) ≡ true → Rep c (acted c (round-acts c) x) k′ w′
+unfoldable pub Round-says : (p : ℕ) → (k k′ : Run) → (w w′ : List ℤ) → Type 0
+Round-says p k k′ w w′ =
+    (c : Case) (x : State) → Rep c x k w → Paid c x → p ≡ c .workers → no-message (x .cells) ≡ true → Rep c (acted c (round-acts c) x) k′ w′
 
-unfoldable pub Rounds-done : (many p n : ℕ) → (k k′ : Run) → (w w′ : List ℤ) → Type 0
-Rounds-done many p n k k′ w w′ =
-    (c : Case) (x : State) → Rep c x k w → Paid c x → p ≡ c .workers → n ≡ c .graph .vertices → no-message (x .cells) ≡ true → Rep c (rounds many c x) k′ w′
+unfoldable pub Rounds-done : (many p : ℕ) → (k k′ : Run) → (w w′ : List ℤ) → Type 0
+Rounds-done many p k k′ w w′ =
+    (c : Case) (x : State) → Rep c x k w → Paid c x → p ≡ c .workers → no-message (x .cells) ≡ true → Rep c (rounds many c x) k′ w′
 
 pub record By-rounds-asks (p n m : ℕ) (k : Run) (w : List ℤ) : Type 0 where
   pub case : Case

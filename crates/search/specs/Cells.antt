@@ -42,11 +42,8 @@ head-at = message-at + most-edges
 abbrev pub tail-at : ℕ
 tail-at = head-at + most-workers
 
-abbrev pub scanned-at : ℕ
-scanned-at = tail-at + most-workers
-
 abbrev pub found-at : ℕ
-found-at = scanned-at + most-workers
+found-at = tail-at + most-workers
 
 abbrev pub queue-at : ℕ
 queue-at = found-at + most-vertices

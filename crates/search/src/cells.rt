@@ -33,10 +33,8 @@ impl Cells {
     pub const HEAD: usize = Cells::MESSAGE + Case::MOST_EDGES;
 
     pub const TAIL: usize = Cells::HEAD + Case::MOST_WORKERS;
-    // Scratch: the vertices scanned in a round; the breadth-first search's first edges and its queue; stem and cycle.
-    pub const SCANNED: usize = Cells::TAIL + Case::MOST_WORKERS;
-
-    pub const FOUND: usize = Cells::SCANNED + Case::MOST_WORKERS;
+    // Scratch: the breadth-first search's first edges and its queue; stem and cycle.
+    pub const FOUND: usize = Cells::TAIL + Case::MOST_WORKERS;
 
     pub const QUEUE: usize = Cells::FOUND + Case::MOST_VERTICES;
 

@@ -1,7 +1,8 @@
 // Runs by rounds. When a round begins no cell has a message, so only the edges of the vertices scanned in it can get one:
 // a round does every turn, then the deliveries on the edges of these vertices, in number order.
+ghost use Prim.Native.Nat.{_<_};
 ghost use lib.ListN.{length};
-ghost use Rattle.search.specs.Asks.{Picked, Least, Turns-ask, Turns-say, Edges-ask, Edges-say, Sweep-asks, Sweep-says, Round-asks, Round-says, Rounds-done, By-rounds-asks, By-rounds-says};
+ghost use Rattle.search.specs.Asks.{Inserted, Turns-ask, Turns-say, Edges-ask, Edges-say, Sweep-asks, Sweep-says, Round-asks, Round-says, Rounds-done, By-rounds-asks, By-rounds-says};
 use super::cells::Cells;
 use super::cells::load_below;
 use super::run::Run;
@@ -10,31 +11,21 @@ use super::run::deliver;
 use super::run::is_over;
 use casefile::Case;
 
-// The less of two numbers, if the first is not below `at`.
-pub(crate) fn pick(s: usize, at: usize, best: usize) -> usize
-    ensures { λ r. ⌜ Picked s at best r ⌝ }
+// Puts h into its place among the first `many` numbers of a list, which rise; those behind it move up by one.
+pub(crate) fn insert(list: &mut [usize], many: usize, h: usize)
+    requires { ⌜ many < length (now list) ⌝ }
+    ensures { λ r. ⌜ Inserted many h (now (list .entry)) (now (list .exit)) ⌝ }
 {
-    if s < at {
-        return best;
+    let mut i = many;
+    while 0 < i {
+        if list[i - 1] < h {
+            list[i] = h;
+            return;
+        }
+        list[i] = list[i - 1];
+        i -= 1;
     }
-    if s < best {
-        return s;
-    }
-    best
-}
-
-// The least number of a list that is not below `at`; `none` if there is no such number below it.
-pub(crate) fn least(list: &[usize], at: usize, none: usize) -> usize
-    ensures { λ r. ⌜ Least (now (list .entry)) at none r ⌝ }
-{
-    let mut best = none;
-    let mut i: usize = 0;
-    while i < list.len() {
-        let s = list[i];
-        best = pick(s, at, best);
-        i += 1;
-    }
-    best
+    list[0] = h;
 }
 
 // What the turns of a round leave: the run, and how many vertices were scanned.
@@ -43,7 +34,8 @@ pub(crate) struct Turned {
     pub scanned: usize,
 }
 
-// Every turn by worker number. The vertices that are scanned, coded as a queue's head, go to the front of `heads`.
+// Every turn by worker number. The vertices that are scanned, coded as a queue's head, stand in rising order at the
+// front of `heads`.
 pub(crate) fn turns(work: &mut [i32], run: Run, p: usize, heads: &mut [usize]) -> Turned
     requires { ⌜ Turns-ask p run (now work) (length (now heads)) ⌝ }
     ensures { λ r. ⌜ Turns-say p run r (now (work .entry)) (now (work .exit)) (now (heads .exit)) ⌝ }
@@ -55,7 +47,7 @@ pub(crate) fn turns(work: &mut [i32], run: Run, p: usize, heads: &mut [usize]) -
         if head == 1 {
             continue;
         }
-        heads[scanned] = head;
+        insert(heads, scanned, head);
         scanned += 1;
         r = act(work, r, w, p);
     }
@@ -83,41 +75,39 @@ pub(crate) fn deliver_edges(work: &mut [i32], run: Run, v: usize, p: usize) -> R
     r
 }
 
-// Every delivery by edge number, where only edges of the vertices in `heads` have messages. Those of vertices below
-// at − 2 are done; the rest is idle once no cell has a message.
-pub(crate) fn sweep(work: &mut [i32], run: Run, p: usize, n: usize, heads: &[usize]) -> Run
-    requires { ⌜ Sweep-asks p n (now heads) run (now work) ⌝ }
-    ensures { λ r. ⌜ Sweep-says p n (now (heads .entry)) run r (now (work .entry)) (now (work .exit)) ⌝ }
+// Every delivery by edge number, where only edges of the vertices in `heads` have messages: those vertices in rising
+// order, until no cell has a message.
+pub(crate) fn sweep(work: &mut [i32], run: Run, p: usize, heads: &[usize]) -> Run
+    requires { ⌜ Sweep-asks p (now heads) run (now work) ⌝ }
+    ensures { λ r. ⌜ Sweep-says p (now (heads .entry)) run r (now (work .entry)) (now (work .exit)) ⌝ }
 {
-    let none = n + 2;
     let mut r = run;
-    let mut at: usize = 2;
-    while r.full != 0 {
-        let head = least(heads, at, none);
-        if none <= head {
+    let mut i: usize = 0;
+    while i < heads.len() {
+        if r.full == 0 {
             return r;
         }
-        r = deliver_edges(work, r, head - 2, p);
-        at = head + 1;
+        r = deliver_edges(work, r, heads[i] - 2, p);
+        i += 1;
     }
     r
 }
 
 // A round.
-pub(crate) fn round(work: &mut [i32], run: Run, p: usize, n: usize) -> Run
-    requires { ⌜ Round-asks p n run (now work) ⌝ }
-    ensures { λ r. ⌜ Round-says p n run r (now (work .entry)) (now (work .exit)) ⌝ }
+pub(crate) fn round(work: &mut [i32], run: Run, p: usize) -> Run
+    requires { ⌜ Round-asks p run (now work) ⌝ }
+    ensures { λ r. ⌜ Round-says p run r (now (work .entry)) (now (work .exit)) ⌝ }
 {
     let mut heads = [0usize; Case::MOST_WORKERS];
     let turned = turns(work, run, p, &mut heads);
     let scanned = turned.scanned;
-    sweep(work, turned.run, p, n, &heads[..scanned])
+    sweep(work, turned.run, p, &heads[..scanned])
 }
 
 // Rounds, at most so many, to the end of the run.
-pub(crate) fn rounds(work: &mut [i32], run: Run, many: usize, p: usize, n: usize) -> Run
-    requires { ⌜ Round-asks p n run (now work) ⌝ }
-    ensures { λ r. ⌜ Rounds-done many p n run r (now (work .entry)) (now (work .exit)) ⌝ }
+pub(crate) fn rounds(work: &mut [i32], run: Run, many: usize, p: usize) -> Run
+    requires { ⌜ Round-asks p run (now work) ⌝ }
+    ensures { λ r. ⌜ Rounds-done many p run r (now (work .entry)) (now (work .exit)) ⌝ }
 {
     let mut r = run;
     let mut left = many;
@@ -125,7 +115,7 @@ pub(crate) fn rounds(work: &mut [i32], run: Run, many: usize, p: usize, n: usize
         if is_over(r) {
             return r;
         }
-        r = round(work, r, p, n);
+        r = round(work, r, p);
         left -= 1;
     }
     r
@@ -137,5 +127,5 @@ pub(crate) fn run_by_rounds(work: &mut [i32], run: Run, p: usize, n: usize, m: u
     ensures { λ r. ⌜ By-rounds-says p n m run r (now (work .entry)) (now (work .exit)) ⌝ }
 {
     let many = (n + m) * (run.marks + 1);
-    rounds(work, run, many, p, n)
+    rounds(work, run, many, p)
 }

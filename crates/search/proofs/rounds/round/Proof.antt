@@ -10,7 +10,7 @@ use Rattle.model.specs.Run.{State, no-message, acted, range}
 use Rattle.model.proofs.Few.{Paid}
 use Rattle.search.specs.Asks.{Turns-leave, Turns-say, Sweep-says, Round-says}
 use Rattle.search.specs.Rep.{Rep}
-use Rattle.search.proofs.Sweeps.{paid-acted, only-front, round-rep}
+use Rattle.search.proofs.Sweeps.{paid-acted, listed-front, only-front, round-rep}
 use borrow.Author.Needs.{needs}
 use Rattle.search.proofs.rounds.round.Statement.{statement}
 use Rattle.search.proofs.rounds.round.Tie as tie
@@ -52,8 +52,8 @@ sweep-requires c κs = let s = c .before .before .before .before .before .before
       rep = t .rep;
       paid = paid-acted (s .case) (s .rep .held .laid .sound) (range (s .case .workers) 0) (s .state) (s .paid);
       workers = s .workers;
-      vertices = s .vertices;
-      only = only-front (s .case) _ _ _ (room (c .before .before .before .before)) (t .only);
+      listed = listed-front _ _ (room (c .before .before .before .before)) _ (t .listed);
+      only = only-front _ _ (room (c .before .before .before .before)) (s .case) _ (t .only);
     }
 
 same-length : tie.Need-same-length
@@ -61,11 +61,11 @@ same-length c = search needs
 
 returns : tie.Need-returns
 unfolding Round-says Sweep-says
-returns c = λ q x rep paid w v e.
+returns c = λ q x rep paid w e.
     let a = c .before .before .before .before .before .before in
     let t = turned a q x rep paid w e in
     round-rep q x _ _ (rep .held .laid .sound)
-    (c .before .sweep .ensures q (acted q (range (q .workers) 0) x) (t .rep) (paid-acted q (rep .held .laid .sound) (range (q .workers) 0) x paid) w v (only-front q _ _ _ (room a) (t .only)))
+    (c .before .sweep .ensures q (acted q (range (q .workers) 0) x) (t .rep) (paid-acted q (rep .held .laid .sound) (range (q .workers) 0) x paid) w (listed-front _ _ (room a) _ (t .listed)) (only-front _ _ (room a) q _ (t .only)))
 
 pub round-spec : {M : Type 1} → statement M
 round-spec =

@@ -34,7 +34,6 @@ rounds-requires c κs = let s = c .before .before .pre in
       rep = s .rep;
       paid = fresh-paid (s .case) (s .rep .held .laid .sound);
       workers = s .workers;
-      vertices = s .vertices;
       empty = fresh-empty (s .case);
     }
 
@@ -45,7 +44,7 @@ returns : tie.Need-returns
 unfolding By-rounds-says Rounds-done
 returns c = λ q rep w v e.
     by-rounds-rep q _ _ _ (many-is q (c .before .before .before .before .args .n) (c .before .before .before .before .args .m) (c .before .before .before .before .args .run .marks) v e (rep .counted .marks))
-    (c .before .rounds .ensures q (fresh q) rep (fresh-paid q (rep .held .laid .sound)) w v (fresh-empty q))
+    (c .before .rounds .ensures q (fresh q) rep (fresh-paid q (rep .held .laid .sound)) w (fresh-empty q))
 
 pub run-by-rounds-spec : {M : Type 1} → statement M
 run-by-rounds-spec =

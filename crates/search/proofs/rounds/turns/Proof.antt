@@ -3,7 +3,7 @@ use mathlib.Core.Path.{_≡_, refl}
 use mathlib.Core.Bool.{true}
 use Prim.Native.Nat.{_-_, _≤_}
 use native.Mathlib.Omega.{arith}
-use lib.ListN.{length, length-set}
+use lib.ListN.{length}
 use Rattle.model.specs.Case.{Case}
 use Rattle.model.specs.Run.{State, no-message}
 use Rattle.model.proofs.Few.{Paid}
@@ -65,38 +65,35 @@ loop-again c = let i = c .before .before .before .before .loop .inv in
           turns-idle q x _ e _ _ _ _ _ u t (head-is q (u .along .at) _ _ _ (u .along .rep) (omega arith) _ (rw (c .if1 .taken) at (c .before .load-below .ensures .0))),
     )
 
-mul-heads : tie.Need-mul-heads Inv-loop μ-loop
-mul-heads c = search needs
-
-slice-write-heads : tie.Need-slice-write-heads Inv-loop μ-loop
-slice-write-heads c = let i = c .before .before .before .before .loop .inv in
-    omega (arith, c .before .before .before .before .before .before .pre .room, i .1, i .3, c .before .before .before .loop-test .taken)
+insert-requires : tie.Need-insert-requires Inv-loop μ-loop
+insert-requires c κs = let i = c .before .before .before .before .before .loop .inv in
+    omega (arith, c .before .before .before .before .before .before .before .pre .room, i .1, i .3, c .before .before .before .before .loop-test .taken)
 
 add-scanned : tie.Need-add-scanned Inv-loop μ-loop
-add-scanned c = omega (arith, c .before .before .before .before .loop .inv .1, c .before .before .before .loop-test .taken)
+add-scanned c = omega (arith, c .before .before .before .before .before .before .before .before .loop .inv .1, c .before .before .before .before .before .before .before .loop-test .taken)
 
 act-requires : tie.Need-act-requires Inv-loop μ-loop
-act-requires c κs = let s = c .before .before .before .before .before .before .before .pre in
-    let u = asked (c .before .before .before .before .before) in
-    record { case = s .case; state = u .along .at; rep = u .along .rep; paid = u .along .paid; workers = s .workers; below = omega (arith, c .before .before .before .before .loop-test .taken) }
+act-requires c κs = let s = c .before .before .before .before .before .before .before .before .before .before .before .pre in
+    let u = asked (c .before .before .before .before .before .before .before .before .before) in
+    record { case = s .case; state = u .along .at; rep = u .along .rep; paid = u .along .paid; workers = s .workers; below = omega (arith, c .before .before .before .before .before .before .before .before .loop-test .taken) }
 
 add-w-2 : tie.Need-add-w-2 Inv-loop μ-loop
-add-w-2 c = omega (arith, c .before .before .before .before .before .before .loop-test .taken)
+add-w-2 c = omega (arith, c .before .before .before .before .before .before .before .before .before .before .loop-test .taken)
 
 loop-less-2 : tie.Need-loop-less-2 Inv-loop μ-loop
-loop-less-2 c = omega (arith, c .before .before .before .before .before .before .loop-test .taken)
+loop-less-2 c = omega (arith, c .before .before .before .before .before .before .before .before .before .before .loop-test .taken)
 
 loop-again-2 : tie.Need-loop-again-2 Inv-loop μ-loop
 unfolding Act-says
-loop-again-2 c = let i = c .before .before .before .before .before .before .before .loop .inv in
-    let t = c .before .before .before .before .before .before .loop-test .taken in (
+loop-again-2 c = let i = c .before .before .before .before .before .before .before .before .before .before .before .loop .inv in
+    let t = c .before .before .before .before .before .before .before .before .before .before .loop-test .taken in (
       omega arith,
       omega (arith, i .1),
       omega (arith, c .before .act .kept .0, i .2),
-      simp length-set (i .3),
+      omega (arith, c .before .before .before .before .before .insert .kept .0, i .3),
       λ q x rep paid e empty room.
           let u = i .4 q x rep paid e empty room in
-          turns-step q x _ e _ _ _ _ _ _ _ _ u t (omega (arith, i .1, i .3)) (head-is q (u .along .at) _ _ _ (u .along .rep) (omega arith) _ (c .before .before .before .before .load-below .ensures .0)) (c .before .before .before .if1 .left)
+          turns-step q x _ e _ _ _ _ _ _ _ _ _ u t (c .before .before .before .before .before .insert .ensures) (head-is q (u .along .at) _ _ _ (u .along .rep) (omega arith) _ (c .before .before .before .before .before .before .before .before .load-below .ensures .0)) (c .before .before .before .before .before .before .before .if1 .left)
           (c .before .act .ensures q (u .along .at) (u .along .rep) (u .along .paid) e (omega arith)),
     )
 
@@ -124,8 +121,7 @@ turns-spec =
     add-w
     loop-less
     loop-again
-    mul-heads
-    slice-write-heads
+    insert-requires
     add-scanned
     act-requires
     add-w-2
