@@ -1,0 +1,3 @@
+-- Laws of the desk programs' texts.
+pub mod Writing
+pub mod Buffers

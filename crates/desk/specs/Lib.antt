@@ -1,0 +1,3 @@
+-- What the desk programs share.
+pub mod Filling
+pub mod Lines

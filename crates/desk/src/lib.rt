@@ -1,0 +1,11 @@
+// What the desk programs share: files read whole into lent buffers, printing, and the line of a refusal. What is read or
+// written no contract can say; that the bytes of a line are right, write_refusal's does.
+mod input;
+mod output;
+
+pub use input::Filled;
+pub use input::fill;
+pub use input::read_argument;
+pub use output::complain;
+pub use output::print;
+pub use output::write_refusal;

@@ -1,0 +1,28 @@
+// Lines on standard output and standard error.
+ghost use Rattle.desk.specs.Lines.{refused-line, Puts};
+use libc::STDERR_FILENO;
+use libc::STDOUT_FILENO;
+use text::write::write_byte;
+use text::write::write_bytes;
+use text::write::write_number;
+
+// Prints the bytes; where standard output takes them not, standard error says why.
+pub fn print(bytes: &[u8]) {
+    if !io::write_all(STDOUT_FILENO, bytes) {
+        os::fail(b"standard output");
+    }
+}
+
+// Writes the bytes to standard error.
+pub fn complain(bytes: &[u8]) {
+    io::write_all(STDERR_FILENO, bytes);
+}
+
+// The line of a refusal at the buffer's front; its length.
+pub fn write_refusal(buffer: &mut [u8], refusal: u32) -> usize
+    ensures { λ r. ⌜ Puts 0 (refused-line refusal) r (now (buffer .entry)) (now (buffer .exit)) ⌝ }
+{
+    let a = write_bytes(buffer, 0, b"refused ");
+    let b = write_number(buffer, a, refusal);
+    write_byte(buffer, b, b'\n')
+}

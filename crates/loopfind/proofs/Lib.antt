@@ -1,0 +1,2 @@
+-- From what the run says to what is printed.
+pub mod Printing

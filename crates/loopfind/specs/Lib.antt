@@ -1,0 +1,2 @@
+-- What `loopfind` prints.
+pub mod Printing
