@@ -1,0 +1,2 @@
+-- From what the check says to what is printed.
+pub mod Printing

@@ -1,0 +1,54 @@
+-- `write_checked`: the line of a refusal, or of either verdict.
+use Rattle.loopcheck.proofs.Printing.{writes-turned, writes-lasso, writes-empty}
+use borrow.Author.Needs.{needs}
+use Rattle.loopcheck.proofs.write_checked.Statement.{statement}
+use Rattle.loopcheck.proofs.write_checked.Tie as tie
+
+write-refusal-requires : tie.Need-write-refusal-requires
+write-refusal-requires c κs = search needs
+
+same-length : tie.Need-same-length
+same-length c = search needs
+
+returns : tie.Need-returns
+returns c = writes-turned _ _ (c .before .before .before .before .if1 .taken) (c .before .before .write-refusal .ensures)
+
+slice-aggregate-write-bytes : tie.Need-slice-aggregate-write-bytes
+slice-aggregate-write-bytes c = search needs
+
+write-bytes-requires : tie.Need-write-bytes-requires
+write-bytes-requires c κs = search needs
+
+same-length-2 : tie.Need-same-length-2
+same-length-2 c = search needs
+
+returns-2 : tie.Need-returns-2
+returns-2 c = writes-lasso _ _ (c .before .before .before .before .before .before .before .if1 .left) (c .before .before .before .before .before .if2 .taken) (c .before .before .write-bytes .ensures)
+
+slice-aggregate-write-bytes-2 : tie.Need-slice-aggregate-write-bytes-2
+slice-aggregate-write-bytes-2 c = search needs
+
+write-bytes-requires-2 : tie.Need-write-bytes-requires-2
+write-bytes-requires-2 c κs = search needs
+
+same-length-3 : tie.Need-same-length-3
+same-length-3 c = search needs
+
+returns-3 : tie.Need-returns-3
+returns-3 c = writes-empty _ _ (c .before .before .before .before .before .before .before .if1 .left) (c .before .before .before .before .before .if2 .left) (c .before .before .write-bytes2 .ensures)
+
+pub write-checked-spec : {M : Type 1} → statement M
+write-checked-spec =
+    tie.close
+    (tie.spec
+    write-refusal-requires
+    same-length
+    returns
+    slice-aggregate-write-bytes
+    write-bytes-requires
+    same-length-2
+    returns-2
+    slice-aggregate-write-bytes-2
+    write-bytes-requires-2
+    same-length-3
+    returns-3)

@@ -1,0 +1,2 @@
+-- What `loopcheck` prints.
+pub mod Printing
