@@ -7,5 +7,7 @@ pub use input::Filled;
 pub use input::fill;
 pub use input::read_argument;
 pub use output::complain;
+pub use output::complain_argument;
+pub use output::complain_number;
 pub use output::print;
 pub use output::write_refusal;

@@ -18,6 +18,17 @@ pub fn complain(bytes: &[u8]) {
     io::write_all(STDERR_FILENO, bytes);
 }
 
+pub fn complain_number(n: usize) {
+    io::print_decimal(STDERR_FILENO, n as u64);
+}
+
+// Writes an argument to standard error.
+pub fn complain_argument(i: usize) {
+    let mut argument = io::buffer();
+    let n = os::arg(i, &mut argument);
+    io::write_all(STDERR_FILENO, &argument[..n]);
+}
+
 // The line of a refusal at the buffer's front; its length.
 pub fn write_refusal(buffer: &mut [u8], refusal: u32) -> usize
     ensures { λ r. ⌜ Puts 0 (refused-line refusal) r (now (buffer .entry)) (now (buffer .exit)) ⌝ }

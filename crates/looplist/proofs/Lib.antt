@@ -1,0 +1,3 @@
+-- Laws of lists of acts and of what is printed.
+pub mod Listing
+pub mod Printing

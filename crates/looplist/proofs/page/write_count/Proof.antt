@@ -1,0 +1,25 @@
+-- `page::write_count`: three writers, one after the other.
+use Rattle.desk.proofs.Writing.{puts, puts-then}
+use borrow.Author.Needs.{needs}
+use Rattle.looplist.proofs.page.write_count.Statement.{statement}
+use Rattle.looplist.proofs.page.write_count.Tie as tie
+
+write-bytes-requires : tie.Need-write-bytes-requires
+write-bytes-requires c κs = search needs
+
+write-number-requires : tie.Need-write-number-requires
+write-number-requires c κs = search needs
+
+write-byte-requires : tie.Need-write-byte-requires
+write-byte-requires c κs = search needs
+
+same-length : tie.Need-same-length
+same-length c = search needs
+
+returns : tie.Need-returns
+returns c = puts-then (puts-then (puts (c .before .before .before .before .before .before .before .before .before .before .write-bytes .ensures)) (puts (c .before .before .before .before .before .before .write-number .ensures))) (puts (c .before .before .write-byte .ensures))
+
+pub write-count-spec : {M : Type 1} → statement M
+write-count-spec =
+    tie.close
+    (tie.spec write-bytes-requires write-number-requires write-byte-requires same-length returns)

@@ -1,0 +1,63 @@
+-- `replay_text`: the acts read are within the buffer.
+use mathlib.Core.Path.{sym}
+use lib.Seq.{length-take-le}
+use borrow.Author.Needs.{needs}
+use Rattle.looplist.proofs.replay_text.Statement.{statement}
+use Rattle.looplist.proofs.replay_text.Tie as tie
+
+slice-aggregate-list-acts : tie.Need-slice-aggregate-list-acts
+slice-aggregate-list-acts c = search needs
+
+list-acts-requires : tie.Need-list-acts-requires
+list-acts-requires c κs = search needs
+
+enum-known-n : tie.Need-enum-known-n
+enum-known-n c = search needs
+
+array-share-prefix-acts : tie.Need-array-share-prefix-acts
+array-share-prefix-acts c = c .before .before .before .before .list-acts .ensures .within _ (c .before .n .given .1)
+
+slice-aggregate-print-replay : tie.Need-slice-aggregate-print-replay
+slice-aggregate-print-replay c = sym (length-take-le _ _ (c .before .before .before .before .before .list-acts .ensures .within _ (c .before .before .n .given .1)))
+
+print-replay-requires : tie.Need-print-replay-requires
+print-replay-requires c κs = search needs
+
+enum-known-line : tie.Need-enum-known-line
+enum-known-line c = search needs
+
+complain-of-line-requires : tie.Need-complain-of-line-requires
+complain-of-line-requires c κs = search needs
+
+enum-told : tie.Need-enum-told
+enum-told c = search needs
+
+complain-of-length-requires : tie.Need-complain-of-length-requires
+complain-of-length-requires c κs = search needs
+
+returns : tie.Need-returns
+returns c = search needs
+
+returns-2 : tie.Need-returns-2
+returns-2 c = search needs
+
+returns-3 : tie.Need-returns-3
+returns-3 c = search needs
+
+pub replay-text-spec : {M : Type 1} → statement M
+replay-text-spec =
+    tie.close
+    (tie.spec
+    slice-aggregate-list-acts
+    list-acts-requires
+    enum-known-n
+    array-share-prefix-acts
+    slice-aggregate-print-replay
+    print-replay-requires
+    enum-known-line
+    complain-of-line-requires
+    enum-told
+    complain-of-length-requires
+    returns
+    returns-2
+    returns-3)

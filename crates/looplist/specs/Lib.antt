@@ -1,0 +1,3 @@
+-- What `looplist` reads and prints.
+pub mod Listing
+pub mod Printing
