@@ -39,6 +39,10 @@ fn found(text: &[u8]) -> ExitCode {
         println!("check refused {}", checked.refusal);
         return ExitCode::from(1);
     }
-    println!("check passed {}", if checked.verdict == 1 { "lasso" } else { "empty" });
+    println!("check passed {}", word(checked.verdict));
     ExitCode::SUCCESS
+}
+
+fn word(verdict: u32) -> &'static str {
+    if verdict == 1 { "lasso" } else { "empty" }
 }
