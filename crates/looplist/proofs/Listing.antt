@@ -19,7 +19,7 @@ use Rattle.looplist.specs.Listing.{listed, numbers-of, Lists}
 use Rattle.looplist.specs.declared.acts.Listed.the-variants.{Acts, NoAct, TooMany}
 
 -- THE LINE at a place before the text's end, and those after it
-lines-cons : (ls : List Line) → 0 < length ls → ls ≡ line-at ls 0 ∷ drop 1 ls
+pub lines-cons : (ls : List Line) → 0 < length ls → ls ≡ line-at ls 0 ∷ drop 1 ls
 unfolding line-at
 lines-cons [] h = absurd (omega arith)
 lines-cons (l ∷ ls) h = refl
@@ -36,7 +36,7 @@ row-rises {s} {at} {vs} {z} r =
     let k : _≡_ {A = ℕ} (cond (l .closed) 1 0) 1 = ap (λ (t : Bool). cond t 1 0) (g .0) in
     omega (arith, r .past)
 
-listed-step : (room k : ℕ) (l : Line) (ls : List Line) → listed (suc room) k (l ∷ ls) ≡ cond (numbers-line 1 l) (listed room (suc k) ls) (NoAct (suc k))
+pub listed-step : (room k : ℕ) (l : Line) (ls : List Line) → listed (suc room) k (l ∷ ls) ≡ cond (numbers-line 1 l) (listed room (suc k) ls) (NoAct (suc k))
 unfolding listed
 listed-step room k l ls = refl
 

@@ -2,7 +2,7 @@
 use mathlib.Core.Path.{_≡_}
 use mathlib.Core.Bool.{cond}
 use mathlib.Core.List.{List, [], _∷_}
-use Prim.Native.Nat.{ℕ, zero, suc, _≤_}
+use Prim.Native.Nat.{ℕ, zero, suc, _*_, _≤_, _<_}
 use lib.ListN.{length, take}
 use Rattle.text.specs.Lines.{Line, lines}
 use Rattle.text.specs.Numbers.{numbers-line, number-at}
@@ -26,3 +26,8 @@ pub record Lists (text : List ℕ) (r : Listed) (xs ys : List ℕ) : Type 0 wher
   pub says : r ≡ listed (length xs) 0 (lines text)
   pub within : (n : ℕ) → r ≡ Acts n → n ≤ length ys
   pub holds : (n : ℕ) → r ≡ Acts n → take n ys ≡ numbers-of (lines text)
+
+-- a longer file is not taken for its front: more than 10 bytes for each act that there is room for, and the bytes read
+-- decide as the whole would
+unfoldable pub Front-decides : Type 0
+Front-decides = (room n : ℕ) (text : List ℕ) → 10 * room < n → listed room 0 (lines (take n text)) ≡ listed room 0 (lines text)

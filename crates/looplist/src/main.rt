@@ -21,7 +21,8 @@ const ENOUGH: usize = 65537;
 // The most acts of a list: with its text, which has at most 10 bytes a line, what 8 MB of stack hold.
 const MOST_ACTS: usize = 400000;
 
-// One byte more than the most acts need, so that a longer list has either an act too many or a line too long in it.
+// One byte more than the most acts need: what is read of a longer list is then what all of it says (Front-decides in
+// specs/Listing.antt).
 const TEXT: usize = 4000001;
 
 const CASE: usize = 1;
