@@ -6,7 +6,7 @@ use text::write::write_byte;
 use text::write::write_bytes;
 use text::write::write_number;
 
-// Prints the bytes; where standard output takes them not, standard error says why.
+// Prints the bytes; if standard output does not take them, standard error says why.
 pub fn print(bytes: &[u8]) {
     if !io::write_all(STDOUT_FILENO, bytes) {
         os::fail(b"standard output");
@@ -18,6 +18,7 @@ pub fn complain(bytes: &[u8]) {
     io::write_all(STDERR_FILENO, bytes);
 }
 
+// Writes a number to standard error.
 pub fn complain_number(n: usize) {
     io::print_decimal(STDERR_FILENO, n as u64);
 }

@@ -15,6 +15,10 @@ const ENOUGH: usize = 65537;
 // More than the longest line.
 const LINE: usize = 32;
 
+// The verdict of a lasso that passes.
+const LASSO: u32 = 1;
+
+// Which argument names which file.
 const CASE: usize = 1;
 
 const ANSWER: usize = 2;
@@ -26,7 +30,7 @@ fn write_checked(line: &mut [u8], checked: Checked) -> usize
     if checked.refusal != 0 {
         return desk::write_refusal(line, checked.refusal);
     }
-    if checked.verdict == 1 {
+    if checked.verdict == LASSO {
         return write_bytes(line, 0, b"pass lasso\n");
     }
     write_bytes(line, 0, b"pass empty\n")

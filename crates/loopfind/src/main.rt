@@ -11,6 +11,11 @@ use search::run_rounds;
 // One byte more than a case may have, so that a longer one is seen to be too long.
 const ENOUGH: usize = 65537;
 
+// What a run asks for.
+const OUTPUT: usize = 8192;
+
+const WORK: usize = 16384;
+
 // What is to be printed of a case, at the output's front; its length.
 fn find(case: &[u8], output: &mut [u8], work: &mut [i32]) -> usize
     requires { ⌜ (least-output ≤ length (now output)) × (least-work ≤ length (now work)) ⌝ }
@@ -24,8 +29,8 @@ fn find(case: &[u8], output: &mut [u8], work: &mut [i32]) -> usize
 }
 
 fn print_found(case: &[u8]) {
-    let mut output = [0u8; 8192];
-    let mut work = [0i32; 16384];
+    let mut output = [0u8; OUTPUT];
+    let mut work = [0i32; WORK];
     let n = find(case, &mut output, &mut work);
     desk::print(&output[..n]);
 }

@@ -25,6 +25,14 @@ const MOST_ACTS: usize = 400000;
 // specs/Listing.antt).
 const TEXT: usize = 4000001;
 
+// What a run asks for, and room for its answer behind the lines in front.
+const OUTPUT: usize = 8192;
+
+const WORK: usize = 16384;
+
+const PAGE: usize = 8256;
+
+// Which argument names which file.
 const CASE: usize = 1;
 
 const ACTS: usize = 2;
@@ -41,9 +49,9 @@ fn replay(case: &[u8], acts: &[u32], output: &mut [u8], work: &mut [i32], page: 
 }
 
 fn print_replay(case: &[u8], acts: &[u32]) {
-    let mut output = [0u8; 8192];
-    let mut work = [0i32; 16384];
-    let mut page = [0u8; 8256];
+    let mut output = [0u8; OUTPUT];
+    let mut work = [0i32; WORK];
+    let mut page = [0u8; PAGE];
     let n = replay(case, acts, &mut output, &mut work, &mut page);
     desk::print(&page[..n]);
 }
