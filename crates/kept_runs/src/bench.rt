@@ -1,0 +1,400 @@
+// One bench run: an entry is called on marked buffers, and a line says what came back and whether it is what must come.
+ghost use mathlib.Core.Path.{_≡_};
+ghost use mathlib.Core.Bool.{true};
+ghost use Prim.Native.Nat.{ℕ, _<_, _≤_};
+ghost use lib.ListN.{length, getD};
+use checker::check_answer;
+use model::Checked;
+use model::Outcome;
+use search::run_list;
+use search::run_rounds;
+use text::write::write_bytes;
+
+const STDOUT: i32 = 1;
+
+// What the buffers hold before a run.
+const MARK: u8 = b'#';
+
+const CELL: i32 = 7;
+
+// The longest answer that is printed.
+const SHORT: usize = 100;
+
+// Verdicts.
+pub const NONE: u32 = 0;
+
+pub const LASSO: u32 = 1;
+
+pub const EMPTY: u32 = 2;
+
+// What a run left in the work buffer.
+enum Work {
+    Zeros,
+    Untouched,
+    Mixed,
+}
+
+pub fn print(bytes: &[u8]) {
+    io::write_all(STDOUT, bytes);
+}
+
+pub fn print_number(n: u32) {
+    io::print_decimal(STDOUT, n as u64);
+}
+
+fn print_verdict(verdict: u32) {
+    match verdict {
+        0 => print(b"none"),
+        1 => print(b"lasso"),
+        2 => print(b"empty"),
+        _ => print(b"unknown"),
+    }
+}
+
+// A line's end; the count of wrong runs, which never comes near its limit.
+fn counted(wrong: u32, right: bool) -> u32 {
+    if right {
+        print(b": right\n");
+        return wrong;
+    }
+    print(b": wrong\n");
+    if wrong < 1000 { wrong + 1 } else { wrong }
+}
+
+// The first bytes of a text, all of them where it has fewer.
+pub fn front(bytes: &[u8], size: usize) -> &[u8] {
+    if size <= bytes.len() {
+        &bytes[..size]
+    } else {
+        bytes
+    }
+}
+
+// The same of a list of acts.
+pub fn front_acts(acts: &[u32], size: usize) -> &[u32] {
+    if size <= acts.len() {
+        &acts[..size]
+    } else {
+        acts
+    }
+}
+
+// Whether the bytes from a place on are as they were lent.
+fn untouched(output: &[u8], from: usize) -> bool
+    ensures { λ r. ⌜ (r ≡ true → (k : ℕ) → k < length (now (output .entry)) → from ≤ k → getD (now (output .entry)) k 0 ≡ 35) ⌝ }
+{
+    let mut i = from;
+    while i < output.len() {
+        if output[i] != MARK {
+            return false;
+        }
+        i += 1;
+    }
+    true
+}
+
+// Whether every cell has this value.
+fn all_are(work: &[i32], value: i32) -> bool {
+    let mut i: usize = 0;
+    while i < work.len() {
+        if work[i] != value {
+            return false;
+        }
+        i += 1;
+    }
+    true
+}
+
+fn left_in(work: &[i32]) -> Work {
+    if all_are(work, 0) {
+        return Work::Zeros;
+    }
+    if all_are(work, CELL) {
+        return Work::Untouched;
+    }
+    Work::Mixed
+}
+
+// Zeros after a result and after 10; as lent after any other refusal.
+fn work_right(left: Work, refusal: u32) -> bool {
+    let zeros = refusal == 0 || refusal == 10;
+    match left {
+        Work::Zeros => zeros,
+        Work::Untouched => !zeros,
+        Work::Mixed => false,
+    }
+}
+
+fn print_work(left: Work) {
+    match left {
+        Work::Zeros => print(b", work zeros"),
+        Work::Untouched => print(b", work untouched"),
+        Work::Mixed => print(b", work mixed"),
+    }
+}
+
+fn print_rest(rest: bool) {
+    if rest {
+        print(b", rest untouched");
+    } else {
+        print(b", rest touched");
+    }
+}
+
+fn print_outcome(name: &[u8], o: Outcome) {
+    print(name);
+    print(b": refusal ");
+    print_number(o.refusal);
+    print(b", ");
+    print_verdict(o.verdict);
+    print(b", acts ");
+    print_number(o.acts);
+    print(b", written ");
+    print_number(o.written);
+}
+
+// Whether the counts are the wanted ones.
+fn same_outcome(o: Outcome, refusal: u32, verdict: u32, acts: u32) -> bool {
+    o.refusal == refusal && o.verdict == verdict && o.acts == acts
+}
+
+// What the checker says of the answer in front of the output: its verdict, 0 where none was written.
+fn checked_verdict(case: &[u8], answer: &[u8]) -> u32 {
+    if answer.len() == 0 {
+        return 0;
+    }
+    let c = check_answer(case, answer);
+    print(b", checker ");
+    print_verdict(c.verdict);
+    c.verdict
+}
+
+fn print_short(answer: &[u8]) {
+    if answer.len() <= SHORT {
+        print(answer);
+    }
+}
+
+// Ends a run's line: what the buffers hold, what the checker says, and whether all of it is what must come.
+fn judged(
+    wrong: u32,
+    case: &[u8],
+    same: bool,
+    refusal: u32,
+    verdict: u32,
+    shown: &[u8],
+    answer: &[u8],
+    rest: bool,
+    left: Work,
+) -> u32 {
+    print_work(left);
+    print_rest(rest);
+    let passed = checked_verdict(case, shown) == verdict;
+    let buffers = rest && work_right(left, refusal);
+    let after = counted(
+        wrong,
+        same && passed && buffers && check::same(shown, answer),
+    );
+    print_short(shown);
+    after
+}
+
+// A run by rounds in these buffers, which hold the marks.
+pub fn rounds_in(
+    wrong: u32,
+    name: &[u8],
+    case: &[u8],
+    refusal: u32,
+    verdict: u32,
+    acts: u32,
+    answer: &[u8],
+    output: &mut [u8],
+    work: &mut [i32],
+) -> u32 {
+    let o = run_rounds(case, output, work);
+    print_outcome(name, o);
+    let written = o.written as usize;
+    let same = same_outcome(o, refusal, verdict, acts);
+    let rest = untouched(output, written);
+    let left = left_in(work);
+    judged(
+        wrong,
+        case,
+        same,
+        refusal,
+        verdict,
+        front(output, written),
+        answer,
+        rest,
+        left,
+    )
+}
+
+// A run by a list in these buffers, which hold the marks.
+pub fn list_in(
+    wrong: u32,
+    name: &[u8],
+    case: &[u8],
+    list: &[u32],
+    refusal: u32,
+    verdict: u32,
+    acts: u32,
+    answer: &[u8],
+    output: &mut [u8],
+    work: &mut [i32],
+) -> u32 {
+    let o = run_list(case, list, output, work);
+    print_outcome(name, o);
+    let written = o.written as usize;
+    let same = same_outcome(o, refusal, verdict, acts);
+    let rest = untouched(output, written);
+    let left = left_in(work);
+    judged(
+        wrong,
+        case,
+        same,
+        refusal,
+        verdict,
+        front(output, written),
+        answer,
+        rest,
+        left,
+    )
+}
+
+// A run by rounds in buffers a little longer than they must be.
+pub fn rounds_of(
+    wrong: u32,
+    name: &[u8],
+    case: &[u8],
+    refusal: u32,
+    verdict: u32,
+    acts: u32,
+    answer: &[u8],
+) -> u32 {
+    let mut output = [MARK; 8200];
+    let mut work = [CELL; 16400];
+    rounds_in(
+        wrong,
+        name,
+        case,
+        refusal,
+        verdict,
+        acts,
+        answer,
+        &mut output,
+        &mut work,
+    )
+}
+
+// The same by a list.
+pub fn list_of(
+    wrong: u32,
+    name: &[u8],
+    case: &[u8],
+    list: &[u32],
+    refusal: u32,
+    verdict: u32,
+    acts: u32,
+    answer: &[u8],
+) -> u32 {
+    let mut output = [MARK; 8200];
+    let mut work = [CELL; 16400];
+    list_in(
+        wrong,
+        name,
+        case,
+        list,
+        refusal,
+        verdict,
+        acts,
+        answer,
+        &mut output,
+        &mut work,
+    )
+}
+
+// A case's line 1, and the lines after it; its length.
+fn write_case(out: &mut [u8], lines: &[u8]) -> usize {
+    let at = write_bytes(out, 0, b"version vertices edges source workers\n");
+    write_bytes(out, at, lines)
+}
+
+// The same of an answer; none where no line follows.
+fn write_answer(out: &mut [u8], lines: &[u8]) -> usize {
+    if lines.len() == 0 {
+        return 0;
+    }
+    let at = write_bytes(out, 0, b"version verdict stem cycle reached\n");
+    write_bytes(out, at, lines)
+}
+
+// A run by rounds of a case and with an answer that are given from line 2 on.
+pub fn by_rounds(
+    wrong: u32,
+    name: &[u8],
+    case: &[u8],
+    refusal: u32,
+    verdict: u32,
+    acts: u32,
+    answer: &[u8],
+) -> u32 {
+    let mut text = [0u8; 256];
+    let mut expected = [0u8; 256];
+    let n = write_case(&mut text, case);
+    let k = write_answer(&mut expected, answer);
+    rounds_of(
+        wrong,
+        name,
+        front(&text, n),
+        refusal,
+        verdict,
+        acts,
+        front(&expected, k),
+    )
+}
+
+// The same by a list.
+pub fn by_list(
+    wrong: u32,
+    name: &[u8],
+    case: &[u8],
+    list: &[u32],
+    refusal: u32,
+    verdict: u32,
+    acts: u32,
+    answer: &[u8],
+) -> u32 {
+    let mut text = [0u8; 256];
+    let mut expected = [0u8; 256];
+    let n = write_case(&mut text, case);
+    let k = write_answer(&mut expected, answer);
+    list_of(
+        wrong,
+        name,
+        front(&text, n),
+        list,
+        refusal,
+        verdict,
+        acts,
+        front(&expected, k),
+    )
+}
+
+// An answer put to the checker.
+pub fn by_checker(
+    wrong: u32,
+    name: &[u8],
+    case: &[u8],
+    answer: &[u8],
+    refusal: u32,
+    verdict: u32,
+) -> u32 {
+    let c = check_answer(case, answer);
+    print(name);
+    print(b": refusal ");
+    print_number(c.refusal);
+    print(b", ");
+    print_verdict(c.verdict);
+    counted(wrong, c.refusal == refusal && c.verdict == verdict)
+}
