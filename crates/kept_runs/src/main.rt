@@ -11,23 +11,22 @@
 //   "an empty file (2)"                            empty file, of both entries and the checker
 //   "Who can cause which number"                   1 to 8 above; lists (9, 10), buffers (11), answers (12, 13, 1, 3)
 //   "Shortcuts that spoil a finding"               shortcuts; K2; K1 cut short while a message waits
-mod bench;
 mod sizes;
 
-use bench::EMPTY;
-use bench::LASSO;
-use bench::NONE;
-use bench::by_checker;
-use bench::by_list;
-use bench::by_rounds;
-use bench::front;
-use bench::front_acts;
-use bench::list_in;
-use bench::list_of;
-use bench::print;
-use bench::print_number;
-use bench::rounds_in;
-use bench::rounds_of;
+use bench_kit::buffers::front;
+use bench_kit::buffers::front_acts;
+use bench_kit::line::EMPTY;
+use bench_kit::line::LASSO;
+use bench_kit::line::NONE;
+use bench_kit::line::by_checker;
+use bench_kit::line::by_list;
+use bench_kit::line::by_rounds;
+use bench_kit::line::list_in;
+use bench_kit::line::list_of;
+use bench_kit::line::print;
+use bench_kit::line::print_number;
+use bench_kit::line::rounds_in;
+use bench_kit::line::rounds_of;
 
 // K1 to K3. Cases and answers stand here from line 2 on.
 fn kept_small(wrong: u32) -> u32 {
@@ -146,6 +145,28 @@ fn kept_refused(wrong: u32) -> u32 {
         b"K11",
         b"1 3 4 0 2\nvertex accepting owner\n0 0 0\n1 1 1\n2 0 0\nfrom to\n0 1\n1 2\n1 2\n2 1\n",
         8,
+        NONE,
+        0,
+        b"",
+    )
+}
+
+// K1 with an owner that is no worker, and with an edge to no vertex.
+fn refused_lines(wrong: u32) -> u32 {
+    let a = by_rounds(
+        wrong,
+        b"K1, owner 2",
+        b"1 3 3 0 2\nvertex accepting owner\n0 0 0\n1 1 2\n2 0 0\nfrom to\n0 1\n1 2\n2 1\n",
+        6,
+        NONE,
+        0,
+        b"",
+    );
+    by_rounds(
+        a,
+        b"K1, edge to 3",
+        b"1 3 3 0 2\nvertex accepting owner\n0 0 0\n1 1 1\n2 0 0\nfrom to\n0 1\n1 3\n2 1\n",
+        7,
         NONE,
         0,
         b"",
@@ -601,7 +622,7 @@ fn checker_answers(wrong: u32) -> u32 {
 
 fn main() {
     let a = kept_refused(kept_lists(kept_empty(kept_small(0))));
-    let b = shortcuts(meeting_offers(lists(whole_rounds(a))));
+    let b = shortcuts(meeting_offers(lists(whole_rounds(refused_lines(a)))));
     let c = short_before_all(short_work(short_output(least_buffers(b))));
     let d = empty_files(long_files(counts(c)));
     let e = checker_answers(checker_lengths(checker_cases(d)));

@@ -1,34 +1,9 @@
 // Cases at the limits of size, the answers that must come of them, and lists of acts, written into lent buffers.
-use text::write::write_byte;
+use bench_kit::rows::write_head;
+use bench_kit::rows::write_row1;
+use bench_kit::rows::write_row2;
+use bench_kit::rows::write_row3;
 use text::write::write_bytes;
-use text::write::write_number;
-
-// A row of one, two or three numbers.
-fn write_row1(out: &mut [u8], at: usize, a: u32) -> usize {
-    let p = write_number(out, at, a);
-    write_byte(out, p, b'\n')
-}
-
-fn write_row2(out: &mut [u8], at: usize, a: u32, b: u32) -> usize {
-    let p = write_number(out, at, a);
-    let q = write_byte(out, p, b' ');
-    write_row1(out, q, b)
-}
-
-fn write_row3(out: &mut [u8], at: usize, a: u32, b: u32, c: u32) -> usize {
-    let p = write_number(out, at, a);
-    let q = write_byte(out, p, b' ');
-    write_row2(out, q, b, c)
-}
-
-// Lines 1 to 3, with source 0.
-fn write_head(out: &mut [u8], n: u32, m: u32, workers: u32) -> usize {
-    let a = write_bytes(out, 0, b"version vertices edges source workers\n1 ");
-    let b = write_number(out, a, n);
-    let c = write_byte(out, b, b' ');
-    let d = write_row3(out, c, m, 0, workers);
-    write_bytes(out, d, b"vertex accepting owner\n")
-}
 
 // What is left of a division, 0 by 0.
 fn rest(a: u32, b: u32) -> u32 {
@@ -79,7 +54,7 @@ fn write_first_edges(out: &mut [u8], at: usize, n: u32, m: u32) -> usize {
 // A ring whose last vertex is accepting; its length.
 pub fn write_ring(out: &mut [u8], n: u32, workers: u32) -> usize {
     let last = if n == 0 { 0 } else { n - 1 };
-    let a = write_head(out, n, n, workers);
+    let a = write_head(out, n, n, 0, workers);
     let b = write_vertices(out, a, n, workers, last);
     let c = write_bytes(out, b, b"from to\n");
     write_ring_edges(out, c, n)
@@ -87,7 +62,7 @@ pub fn write_ring(out: &mut [u8], n: u32, workers: u32) -> usize {
 
 // n vertices and the first m edges of the complete graph; its length.
 pub fn write_full(out: &mut [u8], n: u32, m: u32, workers: u32, accepting: u32) -> usize {
-    let a = write_head(out, n, m, workers);
+    let a = write_head(out, n, m, 0, workers);
     let b = write_vertices(out, a, n, workers, accepting);
     let c = write_bytes(out, b, b"from to\n");
     write_first_edges(out, c, n, m)

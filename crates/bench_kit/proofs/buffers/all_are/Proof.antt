@@ -1,9 +1,9 @@
--- `bench::all_are`: what is left of the cells falls.
+-- `buffers::all_are`: what is left of the cells falls.
 use Prim.Native.Nat.{_-_}
 use lib.ListN.{length}
 use borrow.Author.Needs.{needs}
-use Rattle.kept_runs.proofs.bench.all_are.Statement.{statement}
-use Rattle.kept_runs.proofs.bench.all_are.Tie as tie
+use Rattle.bench_kit.proofs.buffers.all_are.Statement.{statement}
+use Rattle.bench_kit.proofs.buffers.all_are.Tie as tie
 
 abbrev Inv-loop : tie.InvT-loop
 Inv-loop work value i₀ i = Unit

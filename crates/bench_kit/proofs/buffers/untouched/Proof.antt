@@ -1,12 +1,12 @@
--- `bench::untouched`: the bytes passed from the place on are marks.
+-- `buffers::untouched`: the bytes passed from the place on are marks.
 use mathlib.Core.Path.{_≡_}
 use Prim.Native.Nat.{ℕ, _-_, _≤_, _<_}
 use native.Mathlib.Omega.{arith}
 use lib.ListN.{length, getD}
 use borrow.Author.Needs.{needs}
 use borrow.Author.Count.{below-more}
-use Rattle.kept_runs.proofs.bench.untouched.Statement.{statement}
-use Rattle.kept_runs.proofs.bench.untouched.Tie as tie
+use Rattle.bench_kit.proofs.buffers.untouched.Statement.{statement}
+use Rattle.bench_kit.proofs.buffers.untouched.Tie as tie
 
 abbrev Inv-loop : tie.InvT-loop
 Inv-loop output from i₀ i = (k : ℕ) → k < i → from ≤ k → getD output k 0 ≡ 35

@@ -1,8 +1,9 @@
-// One bench run: an entry is called on marked buffers, and a line says what came back and whether it is what must come.
-ghost use mathlib.Core.Path.{_≡_};
-ghost use mathlib.Core.Bool.{true};
-ghost use Prim.Native.Nat.{ℕ, _<_, _≤_};
-ghost use lib.ListN.{length, getD};
+// One run, one line: an entry is called on marked buffers, and a line says what came back and whether it is what must come.
+use crate::buffers::CELL;
+use crate::buffers::MARK;
+use crate::buffers::all_are;
+use crate::buffers::front;
+use crate::buffers::untouched;
 use checker::check_answer;
 use model::Checked;
 use model::Outcome;
@@ -11,11 +12,6 @@ use search::run_rounds;
 use text::write::write_bytes;
 
 const STDOUT: i32 = 1;
-
-// What the buffers hold before a run.
-const MARK: u8 = b'#';
-
-const CELL: i32 = 7;
 
 // The longest answer that is printed.
 const SHORT: usize = 100;
@@ -59,50 +55,6 @@ fn counted(wrong: u32, right: bool) -> u32 {
     }
     print(b": wrong\n");
     if wrong < 1000 { wrong + 1 } else { wrong }
-}
-
-// The first bytes of a text, all of them where it has fewer.
-pub fn front(bytes: &[u8], size: usize) -> &[u8] {
-    if size <= bytes.len() {
-        &bytes[..size]
-    } else {
-        bytes
-    }
-}
-
-// The same of a list of acts.
-pub fn front_acts(acts: &[u32], size: usize) -> &[u32] {
-    if size <= acts.len() {
-        &acts[..size]
-    } else {
-        acts
-    }
-}
-
-// Whether the bytes from a place on are as they were lent.
-fn untouched(output: &[u8], from: usize) -> bool
-    ensures { λ r. ⌜ (r ≡ true → (k : ℕ) → k < length (now (output .entry)) → from ≤ k → getD (now (output .entry)) k 0 ≡ 35) ⌝ }
-{
-    let mut i = from;
-    while i < output.len() {
-        if output[i] != MARK {
-            return false;
-        }
-        i += 1;
-    }
-    true
-}
-
-// Whether every cell has this value.
-fn all_are(work: &[i32], value: i32) -> bool {
-    let mut i: usize = 0;
-    while i < work.len() {
-        if work[i] != value {
-            return false;
-        }
-        i += 1;
-    }
-    true
 }
 
 fn left_in(work: &[i32]) -> Work {

@@ -1,10 +1,10 @@
--- `bench::front`: the part lent has as many bytes as asked for.
+-- `buffers::front_acts`: the part lent has as many acts as asked for.
 use mathlib.Core.Path.{sym}
 use native.Mathlib.Omega.{arith}
 use borrow.Author.Needs.{needs}
 use lib.Seq.{length-take-le}
-use Rattle.kept_runs.proofs.bench.front.Statement.{statement}
-use Rattle.kept_runs.proofs.bench.front.Tie as tie
+use Rattle.bench_kit.proofs.buffers.front_acts.Statement.{statement}
+use Rattle.bench_kit.proofs.buffers.front_acts.Tie as tie
 
 slice-aggregate-result : tie.Need-slice-aggregate-result
 slice-aggregate-result c = sym (length-take-le _ _ (omega arith))
@@ -15,5 +15,5 @@ returns c = search needs
 returns-2 : tie.Need-returns-2
 returns-2 c = search needs
 
-pub front-spec : {M : Type 1} → statement M
-front-spec = tie.close (tie.spec slice-aggregate-result returns returns-2)
+pub front-acts-spec : {M : Type 1} → statement M
+front-acts-spec = tie.close (tie.spec slice-aggregate-result returns returns-2)

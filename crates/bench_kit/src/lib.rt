@@ -1,0 +1,4 @@
+// What the programs that run the search share.
+pub mod buffers;
+pub mod line;
+pub mod rows;

@@ -1,0 +1,214 @@
+// Random graphs against a plain nested search: each by rounds and by random lists of acts, with several numbers of
+// workers, every answer put to the checker. It prints totals; the file stdout has what must come.
+mod graph;
+mod nested;
+mod runs;
+
+use bench_kit::buffers::MARK;
+use bench_kit::buffers::front;
+use bench_kit::buffers::front_acts;
+use graph::below;
+use graph::next;
+use runs::count;
+
+const STDOUT: i32 = 1;
+
+// The first number of the sequence.
+const SEED: u32 = 2463534242;
+
+const GRAPHS: usize = 4000;
+
+// Where the totals of each kind start.
+const BY_ROUNDS: usize = 0;
+
+const BY_LISTS: usize = 4;
+
+const MANGLED: usize = 8;
+
+const FOUND: usize = 11;
+
+const TOTALS: usize = 14;
+
+fn verdict(lasso: bool) -> u32 {
+    if lasso { 1 } else { 2 }
+}
+
+// How many vertices: few, or one time in sixteen many.
+fn vertices(x: u32) -> usize {
+    if x % 16 == 0 {
+        80 + below(x / 16, 48)
+    } else {
+        1 + below(x / 16, 32)
+    }
+}
+
+// How many edges are drawn: up to three for each vertex.
+fn draws(x: u32, n: usize) -> usize {
+    if n < 128 { below(x, 3 * n + 1) } else { 0 }
+}
+
+// How many vertices in a hundred are accepting.
+fn share(x: u32) -> usize {
+    match x % 4 {
+        0 => 3,
+        1 => 10,
+        2 => 30,
+        _ => 60,
+    }
+}
+
+// The long list, where the short one ran out.
+fn try_again(case: &[u8], acts: &[u32], short: usize, want: u32, one: &[u8]) -> usize {
+    if short != runs::CUT_SHORT {
+        return runs::NOT_RUN;
+    }
+    runs::by_list(case, acts, want, one)
+}
+
+// A short list, and one of 20,000 acts that begins with it.
+fn try_lists(
+    totals: &mut [u32],
+    case: &[u8],
+    limit: usize,
+    want: u32,
+    one: &[u8],
+    seed: u32,
+) -> u32 {
+    let mut acts = [0u32; 20000];
+    let x = graph::draw_acts(&mut acts, limit, seed);
+    let short = runs::by_list(case, front_acts(&acts, below(x, 2000)), want, one);
+    let long = try_again(case, &acts, short, want, one);
+    count(totals, BY_LISTS, short);
+    count(totals, BY_LISTS, long);
+    next(x)
+}
+
+// The case by rounds, and by lists of acts below the limit.
+fn try_case(
+    totals: &mut [u32],
+    case: &[u8],
+    limit: usize,
+    want: u32,
+    one: &[u8],
+    seed: u32,
+) -> u32 {
+    count(totals, BY_ROUNDS, runs::by_rounds(case, want, one));
+    count(totals, MANGLED, runs::mangled(case, one, want, seed));
+    try_lists(totals, case, limit, want, one, next(seed))
+}
+
+// The graph owned by 1 to 16 workers.
+fn try_owners(
+    totals: &mut [u32],
+    edges: &[u8],
+    marks: &[u8],
+    n: usize,
+    source: usize,
+    want: u32,
+    one: &[u8],
+    seed: u32,
+) -> u32 {
+    let mut text = [0u8; 24576];
+    let mut owners = [0u8; 128];
+    let workers = 1 + below(seed, 16);
+    let x = graph::draw_owners(&mut owners, n, workers, seed);
+    let size = graph::write_case(&mut text, n, source, workers, edges, marks, &owners);
+    let limit = workers + graph::count_edges(edges);
+    try_case(totals, front(&text, size), limit, want, one, x)
+}
+
+// The answer by rounds with one worker; its length.
+fn first_answer(edges: &[u8], marks: &[u8], n: usize, source: usize, output: &mut [u8]) -> usize {
+    let mut text = [0u8; 24576];
+    let owners = [0u8; 128];
+    let size = graph::write_case(&mut text, n, source, 1, edges, marks, &owners);
+    runs::first_run(front(&text, size), output)
+}
+
+// The graph with several owners of its vertices.
+fn try_graph(
+    totals: &mut [u32],
+    edges: &[u8],
+    marks: &[u8],
+    n: usize,
+    source: usize,
+    seed: u32,
+) -> u32 {
+    let want = verdict(nested::has_lasso(edges, marks, n, source));
+    let mut output = [MARK; 8192];
+    let size = first_answer(edges, marks, n, source, &mut output);
+    let one = front(&output, size);
+    count(totals, FOUND, want as usize);
+    let x = try_owners(totals, edges, marks, n, source, want, one, seed);
+    let y = try_owners(totals, edges, marks, n, source, want, one, next(x));
+    try_owners(totals, edges, marks, n, source, want, one, next(y))
+}
+
+// A graph drawn, and tried.
+fn try_random(totals: &mut [u32], seed: u32) -> u32 {
+    let mut edges = [0u8; 16384];
+    let mut marks = [0u8; 128];
+    let a = next(seed);
+    let b = next(a);
+    let n = vertices(a);
+    let x = graph::draw_edges(&mut edges, n, draws(b, n), b);
+    let y = graph::draw_marks(&mut marks, n, share(x / 8), x);
+    try_graph(totals, &edges, &marks, n, below(y, n), next(y))
+}
+
+fn try_all(totals: &mut [u32]) {
+    let mut x = SEED;
+    let mut i: usize = 0;
+    while i < GRAPHS {
+        x = try_random(totals, x);
+        i += 1;
+    }
+}
+
+fn print_number(n: u32) {
+    io::print_decimal(STDOUT, n as u64);
+}
+
+// A line: what was counted, and how often.
+fn print_total(totals: &[u32], i: usize, name: &[u8]) {
+    io::write_all(STDOUT, name);
+    io::write_all(STDOUT, b": ");
+    if i < totals.len() {
+        print_number(totals[i]);
+    }
+    io::write_all(STDOUT, b"\n");
+}
+
+fn print_runs(totals: &[u32]) {
+    print_total(totals, 12, b"graphs with a lasso");
+    print_total(totals, 13, b"graphs without");
+    print_total(totals, 1, b"by rounds, lasso");
+    print_total(totals, 2, b"by rounds, empty");
+    print_total(totals, 3, b"by rounds, cut short");
+    print_total(totals, 0, b"by rounds, mismatches");
+}
+
+fn print_lists(totals: &[u32]) {
+    print_total(totals, 5, b"by a list, lasso");
+    print_total(totals, 6, b"by a list, empty");
+    print_total(totals, 7, b"by a list, cut short");
+    print_total(totals, 4, b"by a list, mismatches");
+    print_total(totals, 9, b"mutilated answers refused");
+    print_total(
+        totals,
+        10,
+        b"mutilated answers passed with the same verdict",
+    );
+    print_total(
+        totals,
+        8,
+        b"mutilated answers passed with the other verdict",
+    );
+}
+
+fn main() {
+    let mut totals = [0u32; TOTALS];
+    try_all(&mut totals);
+    print_runs(&totals);
+    print_lists(&totals);
+}
