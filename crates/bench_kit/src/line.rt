@@ -5,7 +5,6 @@ use crate::buffers::all_are;
 use crate::buffers::front;
 use crate::buffers::untouched;
 use checker::check_answer;
-use model::Checked;
 use model::Outcome;
 use search::run_list;
 use search::run_rounds;

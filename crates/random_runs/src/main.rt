@@ -23,7 +23,7 @@ const BY_ROUNDS: usize = 0;
 
 const BY_LISTS: usize = 4;
 
-const MANGLED: usize = 8;
+const DAMAGED: usize = 8;
 
 const FOUND: usize = 11;
 
@@ -93,7 +93,7 @@ fn try_case(
     seed: u32,
 ) -> u32 {
     count(totals, BY_ROUNDS, runs::by_rounds(case, want, one));
-    count(totals, MANGLED, runs::mangled(case, one, want, seed));
+    count(totals, DAMAGED, runs::damaged(case, one, want, seed));
     try_lists(totals, case, limit, want, one, next(seed))
 }
 
@@ -170,45 +170,42 @@ fn print_number(n: u32) {
 }
 
 // A line: what was counted, and how often.
-fn print_total(totals: &[u32], i: usize, name: &[u8]) {
+fn print_total(totals: &[u32], start: usize, kind: usize, name: &[u8]) {
+    let i = runs::total(start, kind);
     io::write_all(STDOUT, name);
-    io::write_all(STDOUT, b": ");
     if i < totals.len() {
         print_number(totals[i]);
     }
     io::write_all(STDOUT, b"\n");
 }
 
-fn print_runs(totals: &[u32]) {
-    print_total(totals, 12, b"graphs with a lasso");
-    print_total(totals, 13, b"graphs without");
-    print_total(totals, 1, b"by rounds, lasso");
-    print_total(totals, 2, b"by rounds, empty");
-    print_total(totals, 3, b"by rounds, cut short");
-    print_total(totals, 0, b"by rounds, mismatches");
+fn print_runs(totals: &[u32], start: usize) {
+    print_total(totals, start, runs::RIGHT_LASSO, b"  lasso: ");
+    print_total(totals, start, runs::RIGHT_EMPTY, b"  empty: ");
+    print_total(totals, start, runs::CUT_SHORT, b"  refusal 10: ");
+    print_total(totals, start, runs::MISMATCH, b"  mismatches: ");
 }
 
-fn print_lists(totals: &[u32]) {
-    print_total(totals, 5, b"by a list, lasso");
-    print_total(totals, 6, b"by a list, empty");
-    print_total(totals, 7, b"by a list, cut short");
-    print_total(totals, 4, b"by a list, mismatches");
-    print_total(totals, 9, b"mutilated answers refused");
+fn print_damaged(totals: &[u32]) {
+    io::write_all(STDOUT, b"damaged answers\n");
+    print_total(totals, DAMAGED, runs::DAMAGED_REFUSED, b"  refused: ");
     print_total(
         totals,
-        10,
-        b"mutilated answers passed with the same verdict",
+        DAMAGED,
+        runs::DAMAGED_PASSED,
+        b"  passed with the same verdict: ",
     );
-    print_total(
-        totals,
-        8,
-        b"mutilated answers passed with the other verdict",
-    );
+    print_total(totals, DAMAGED, runs::MISMATCH, b"  mismatches: ");
 }
 
 fn main() {
     let mut totals = [0u32; TOTALS];
     try_all(&mut totals);
-    print_runs(&totals);
-    print_lists(&totals);
+    print_total(&totals, FOUND, 1, b"graphs with a lasso: ");
+    print_total(&totals, FOUND, 2, b"graphs without: ");
+    io::write_all(STDOUT, b"runs by rounds\n");
+    print_runs(&totals, BY_ROUNDS);
+    io::write_all(STDOUT, b"runs by a list\n");
+    print_runs(&totals, BY_LISTS);
+    print_damaged(&totals);
 }

@@ -1,7 +1,6 @@
 // One run, held to the nested search's verdict, to the checker and, where it is empty, to the graph's one answer.
 use crate::graph::below;
 use crate::graph::byte;
-use crate::graph::get;
 use crate::graph::next;
 use crate::graph::put;
 use bench_kit::buffers::CELL;
@@ -10,7 +9,6 @@ use bench_kit::buffers::all_are;
 use bench_kit::buffers::front;
 use bench_kit::buffers::untouched;
 use checker::check_answer;
-use model::Checked;
 use model::Outcome;
 use search::run_list;
 use search::run_rounds;
@@ -20,7 +18,7 @@ const LASSO: u32 = 1;
 
 const EMPTY: u32 = 2;
 
-// What came of a run or of a mutilated answer: a place among the totals of its kind.
+// What came of a run or of a damaged answer: a place among the totals of its kind.
 pub const MISMATCH: usize = 0;
 
 pub const RIGHT_LASSO: usize = 1;
@@ -32,9 +30,20 @@ pub const CUT_SHORT: usize = 3;
 // No kind at all: it is not counted.
 pub const NOT_RUN: usize = 64;
 
-pub const MANGLED_REFUSED: usize = 1;
+pub const DAMAGED_REFUSED: usize = 1;
 
-pub const MANGLED_PASSED: usize = 2;
+pub const DAMAGED_PASSED: usize = 2;
+
+// Where the total of this kind stands, among those that start at a place; past all of them where it is no kind.
+pub fn total(start: usize, kind: usize) -> usize {
+    if 64 <= start {
+        return NOT_RUN;
+    }
+    if 64 <= kind {
+        return NOT_RUN;
+    }
+    start + kind
+}
 
 fn more(t: u32) -> u32 {
     if t < 1000000 { t + 1 } else { t }
@@ -42,13 +51,7 @@ fn more(t: u32) -> u32 {
 
 // One more in the total of this kind, among those that start at a place.
 pub fn count(totals: &mut [u32], start: usize, kind: usize) {
-    if 64 <= start {
-        return;
-    }
-    if 64 <= kind {
-        return;
-    }
-    let i = start + kind;
+    let i = total(start, kind);
     if i < totals.len() {
         totals[i] = more(totals[i]);
     }
@@ -116,17 +119,17 @@ fn other_byte(x: u32) -> u8 {
 }
 
 // What the checker says of the answer with one byte drawn anew: never the other verdict.
-pub fn mangled(case: &[u8], answer: &[u8], want: u32, seed: u32) -> usize {
+pub fn damaged(case: &[u8], answer: &[u8], want: u32, seed: u32) -> usize {
     let mut copy = [0u8; 8192];
     let size = answer.len();
     write_bytes(&mut copy, 0, answer);
     put(&mut copy, below(seed, size), other_byte(next(seed)));
     let c = check_answer(case, front(&copy, size));
     if c.verdict == 0 {
-        return MANGLED_REFUSED;
+        return DAMAGED_REFUSED;
     }
     if c.verdict == want {
-        MANGLED_PASSED
+        DAMAGED_PASSED
     } else {
         MISMATCH
     }

@@ -1,0 +1,153 @@
+// The table of kept runs, K1 to K11. Cases and answers stand here from line 2 on.
+use bench_kit::line::EMPTY;
+use bench_kit::line::LASSO;
+use bench_kit::line::NONE;
+use bench_kit::line::by_list;
+use bench_kit::line::by_rounds;
+
+// K1 by a list of acts.
+pub fn list_of_k1(
+    wrong: u32,
+    name: &[u8],
+    list: &[u32],
+    refusal: u32,
+    verdict: u32,
+    acts: u32,
+    answer: &[u8],
+) -> u32 {
+    by_list(
+        wrong,
+        name,
+        b"1 3 3 0 2\nvertex accepting owner\n0 0 0\n1 1 1\n2 0 0\nfrom to\n0 1\n1 2\n2 1\n",
+        list,
+        refusal,
+        verdict,
+        acts,
+        answer,
+    )
+}
+
+fn k1(wrong: u32) -> u32 {
+    by_rounds(
+        wrong,
+        b"K1",
+        b"1 3 3 0 2\nvertex accepting owner\n0 0 0\n1 1 1\n2 0 0\nfrom to\n0 1\n1 2\n2 1\n",
+        0,
+        LASSO,
+        8,
+        b"1 lasso 1 2 0\nedge\n0\n1\n2\n",
+    )
+}
+
+fn k2(wrong: u32) -> u32 {
+    by_rounds(
+        wrong,
+        b"K2",
+        b"1 3 3 0 2\nvertex accepting owner\n0 1 0\n1 0 1\n2 0 0\nfrom to\n0 1\n1 2\n2 1\n",
+        0,
+        EMPTY,
+        6,
+        b"1 empty 0 0 3\nvertex distance\n0 0\n1 -1\n2 -1\n",
+    )
+}
+
+fn k3(wrong: u32) -> u32 {
+    by_rounds(
+        wrong,
+        b"K3",
+        b"1 1 1 0 1\nvertex accepting owner\n0 1 0\nfrom to\n0 0\n",
+        0,
+        LASSO,
+        2,
+        b"1 lasso 0 1 0\nedge\n0\n",
+    )
+}
+
+fn k4(wrong: u32) -> u32 {
+    by_rounds(
+        wrong,
+        b"K4",
+        b"1 1 0 0 1\nvertex accepting owner\n0 1 0\nfrom to\n",
+        0,
+        EMPTY,
+        1,
+        b"1 empty 0 0 1\nvertex distance\n0 0\n",
+    )
+}
+
+fn k5(wrong: u32) -> u32 {
+    by_rounds(
+        wrong,
+        b"K5",
+        b"1 1 1 0 1\nvertex accepting owner\n0 0 0\nfrom to\n0 0\n",
+        0,
+        EMPTY,
+        1,
+        b"1 empty 0 0 1\nvertex distance\n0 0\n",
+    )
+}
+
+fn k6(wrong: u32) -> u32 {
+    by_rounds(
+        wrong,
+        b"K6",
+        b"1 2 1 0 1\nvertex accepting owner\n0 0 0\n1 1 0\nfrom to\n1 1\n",
+        0,
+        EMPTY,
+        1,
+        b"1 empty 0 0 1\nvertex distance\n0 0\n",
+    )
+}
+
+fn k7(wrong: u32) -> u32 {
+    let none: [u32; 0] = [0; 0];
+    list_of_k1(wrong, b"K7", &none, 10, NONE, 0, b"")
+}
+
+fn k8(wrong: u32) -> u32 {
+    by_rounds(
+        wrong,
+        b"K8",
+        b"1 3 3 0 1\nvertex accepting owner\n0 0 0\n1 1 0\n2 0 0\nfrom to\n0 1\n1 2\n2 1\n",
+        0,
+        LASSO,
+        4,
+        b"1 lasso 1 2 0\nedge\n0\n1\n2\n",
+    )
+}
+
+fn k9(wrong: u32) -> u32 {
+    let two = [2u32; 1];
+    list_of_k1(wrong, b"K9", &two, 10, NONE, 0, b"")
+}
+
+fn k10(wrong: u32) -> u32 {
+    by_rounds(
+        wrong,
+        b"K10",
+        b"2 3 3 0 2\nvertex accepting owner\n0 0 0\n1 1 1\n2 0 0\nfrom to\n0 1\n1 2\n2 1\n",
+        3,
+        NONE,
+        0,
+        b"",
+    )
+}
+
+fn k11(wrong: u32) -> u32 {
+    by_rounds(
+        wrong,
+        b"K11",
+        b"1 3 4 0 2\nvertex accepting owner\n0 0 0\n1 1 1\n2 0 0\nfrom to\n0 1\n1 2\n1 2\n2 1\n",
+        8,
+        NONE,
+        0,
+        b"",
+    )
+}
+
+// The whole table.
+pub fn table(wrong: u32) -> u32 {
+    let a = k5(k4(k3(k2(k1(wrong)))));
+    let b = k9(k8(k7(k6(a))));
+    k11(k10(b))
+}

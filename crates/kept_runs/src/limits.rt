@@ -1,0 +1,259 @@
+// Runs at the limits, and one past them: vertices, edges, workers, bytes, and the lent buffers.
+use crate::sizes;
+use bench_kit::buffers::front;
+use bench_kit::buffers::front_acts;
+use bench_kit::line::EMPTY;
+use bench_kit::line::LASSO;
+use bench_kit::line::NONE;
+use bench_kit::line::list_in;
+use bench_kit::line::list_of;
+use bench_kit::line::rounds_in;
+use bench_kit::line::rounds_of;
+
+// K4 by rounds in these buffers.
+fn buffers_of_k4(
+    wrong: u32,
+    name: &[u8],
+    refusal: u32,
+    verdict: u32,
+    acts: u32,
+    answer: &[u8],
+    output: &mut [u8],
+    work: &mut [i32],
+) -> u32 {
+    rounds_in(
+        wrong,
+        name,
+        b"version vertices edges source workers\n1 1 0 0 1\nvertex accepting owner\n0 1 0\nfrom to\n",
+        refusal,
+        verdict,
+        acts,
+        answer,
+        output,
+        work,
+    )
+}
+
+// Both buffers at their least.
+fn least_buffers(wrong: u32) -> u32 {
+    let mut output = [b'#'; 8192];
+    let mut work = [7i32; 16384];
+    buffers_of_k4(
+        wrong,
+        b"8,192 bytes and 16,384 cells",
+        0,
+        EMPTY,
+        1,
+        b"version verdict stem cycle reached\n1 empty 0 0 1\nvertex distance\n0 0\n",
+        &mut output,
+        &mut work,
+    )
+}
+
+// One byte or one cell too few.
+fn short_output(wrong: u32) -> u32 {
+    let mut output = [b'#'; 8191];
+    let mut work = [7i32; 16384];
+    buffers_of_k4(
+        wrong,
+        b"8,191 bytes",
+        11,
+        NONE,
+        0,
+        b"",
+        &mut output,
+        &mut work,
+    )
+}
+
+fn short_work(wrong: u32) -> u32 {
+    let mut output = [b'#'; 8192];
+    let mut work = [7i32; 16383];
+    buffers_of_k4(
+        wrong,
+        b"16,383 cells",
+        11,
+        NONE,
+        0,
+        b"",
+        &mut output,
+        &mut work,
+    )
+}
+
+// 11 goes before every other refusal, by both entries.
+fn short_before_all(wrong: u32) -> u32 {
+    let mut output = [b'#'; 8191];
+    let mut work = [7i32; 16384];
+    rounds_in(
+        wrong,
+        b"8,191 bytes, empty file",
+        b"",
+        11,
+        NONE,
+        0,
+        b"",
+        &mut output,
+        &mut work,
+    )
+}
+
+fn short_before_acts(wrong: u32) -> u32 {
+    let mut output = [b'#'; 8191];
+    let mut work = [7i32; 16384];
+    let past = [5u32; 1];
+    list_in(
+        wrong,
+        b"8,191 bytes, empty file, by a list",
+        b"",
+        &past,
+        11,
+        NONE,
+        0,
+        b"",
+        &mut output,
+        &mut work,
+    )
+}
+
+pub fn buffers(wrong: u32) -> u32 {
+    let a = short_work(short_output(least_buffers(wrong)));
+    short_before_acts(short_before_all(a))
+}
+
+// A ring of 500: twice round it to the end.
+fn ring_500(wrong: u32) -> u32 {
+    let mut buffer = [0u8; 65536];
+    let mut expected = [0u8; 8192];
+    let n = sizes::write_ring_answer(&mut expected);
+    let answer = front(&expected, n);
+    let size = sizes::write_ring(&mut buffer, 500, 1);
+    rounds_of(
+        wrong,
+        b"500 vertices",
+        front(&buffer, size),
+        0,
+        LASSO,
+        1000,
+        answer,
+    )
+}
+
+// The same owned by 16, where each step takes a turn and a delivery.
+fn ring_16(wrong: u32) -> u32 {
+    let mut buffer = [0u8; 65536];
+    let mut expected = [0u8; 8192];
+    let n = sizes::write_ring_answer(&mut expected);
+    let answer = front(&expected, n);
+    let size = sizes::write_ring(&mut buffer, 500, 16);
+    rounds_of(
+        wrong,
+        b"16 workers, 500 vertices",
+        front(&buffer, size),
+        0,
+        LASSO,
+        2000,
+        answer,
+    )
+}
+
+// By the first acts of a list that goes twice round it.
+fn ring_list(wrong: u32, name: &[u8], refusal: u32, verdict: u32, acts: u32, answer: &[u8]) -> u32 {
+    let mut buffer = [0u8; 65536];
+    let mut list = [0u32; 2000];
+    sizes::put_ring_acts(&mut list);
+    let size = sizes::write_ring(&mut buffer, 500, 16);
+    list_of(
+        wrong,
+        name,
+        front(&buffer, size),
+        front_acts(&list, acts as usize),
+        refusal,
+        verdict,
+        acts,
+        answer,
+    )
+}
+
+// The list just long enough, and one act too short.
+fn ring_lists(wrong: u32) -> u32 {
+    let mut expected = [0u8; 8192];
+    let n = sizes::write_ring_answer(&mut expected);
+    let a = ring_list(
+        wrong,
+        b"the same, 2,000 acts",
+        0,
+        LASSO,
+        2000,
+        front(&expected, n),
+    );
+    ring_list(a, b"the same, 1,999 acts", 10, NONE, 1999, b"")
+}
+
+// The first 2,000 edges of the complete graph on 500, none accepting: every vertex takes a turn. Owned by 16, each of
+// the vertices 0 to 3 shares its owner with 32 vertices and sends to the other 468.
+fn full(wrong: u32, name: &[u8], workers: u32, acts: u32) -> u32 {
+    let mut buffer = [0u8; 65536];
+    let mut expected = [0u8; 8192];
+    let n = sizes::write_full_answer(&mut expected);
+    let answer = front(&expected, n);
+    let size = sizes::write_full(&mut buffer, 500, 2000, workers, 500);
+    rounds_of(wrong, name, front(&buffer, size), 0, EMPTY, acts, answer)
+}
+
+// The same with an accepting source, which the first edge leads back to: a turn, 468 deliveries, and the next turn.
+fn full_lasso(wrong: u32) -> u32 {
+    let mut buffer = [0u8; 65536];
+    let size = sizes::write_full(&mut buffer, 500, 2000, 16, 0);
+    rounds_of(
+        wrong,
+        b"2,000 edges, accepting source",
+        front(&buffer, size),
+        0,
+        LASSO,
+        470,
+        b"version verdict stem cycle reached\n1 lasso 0 1 0\nedge\n0\n",
+    )
+}
+
+// One past a limit.
+fn too_many(wrong: u32, name: &[u8], n: u32, m: u32, workers: u32) -> u32 {
+    let mut buffer = [0u8; 65536];
+    let size = sizes::write_full(&mut buffer, n, m, workers, 500);
+    rounds_of(wrong, name, front(&buffer, size), 5, NONE, 0, b"")
+}
+
+pub fn counts(wrong: u32) -> u32 {
+    let a = ring_lists(ring_16(ring_500(wrong)));
+    let b = full(a, b"2,000 edges", 1, 500);
+    let c = full(b, b"16 workers, 2,000 edges", 16, 2372);
+    let d = too_many(full_lasso(c), b"501 vertices", 501, 0, 1);
+    let e = too_many(d, b"2,001 edges", 500, 2001, 1);
+    too_many(e, b"17 workers", 500, 2000, 17)
+}
+
+// No right case is longer than some 21,000 bytes, so at 65,536 it is the bytes after K4's last line that are refused.
+fn long_file(wrong: u32, name: &[u8], size: usize, refusal: u32) -> u32 {
+    let mut buffer = [b'x'; 65537];
+    sizes::write_full(&mut buffer, 1, 0, 1, 0);
+    rounds_of(wrong, name, front(&buffer, size), refusal, NONE, 0, b"")
+}
+
+// A refusal of the file goes before 9.
+fn by_act_5(wrong: u32, name: &[u8], case: &[u8], refusal: u32) -> u32 {
+    let past = [5u32; 1];
+    list_of(wrong, name, case, &past, refusal, NONE, 0, b"")
+}
+
+fn long_by_list(wrong: u32) -> u32 {
+    let buffer = [b'x'; 65537];
+    let a = by_act_5(wrong, b"65,536 bytes, by a list", front(&buffer, 65536), 2);
+    by_act_5(a, b"65,537 bytes, by a list", &buffer, 1)
+}
+
+pub fn lengths(wrong: u32) -> u32 {
+    let a = long_file(wrong, b"65,536 bytes", 65536, 4);
+    let b = long_file(a, b"65,537 bytes", 65537, 1);
+    let c = rounds_of(long_by_list(b), b"empty file", b"", 2, NONE, 0, b"");
+    by_act_5(c, b"empty file, by a list", b"", 2)
+}
