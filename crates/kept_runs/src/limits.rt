@@ -121,7 +121,7 @@ pub fn buffers(wrong: u32) -> u32 {
     short_before_acts(short_before_all(a))
 }
 
-// A ring of 500: twice round it to the end.
+// A ring of 500: twice round it to the end, a turn for each vertex.
 fn ring_500(wrong: u32) -> u32 {
     let mut buffer = [0u8; 65536];
     let mut expected = [0u8; 8192];
@@ -190,8 +190,8 @@ fn ring_lists(wrong: u32) -> u32 {
     ring_list(a, b"the same, 1,999 acts", 10, NONE, 1999, b"")
 }
 
-// The first 2,000 edges of the complete graph on 500, none accepting: every vertex takes a turn. Owned by 16, each of
-// the vertices 0 to 3 shares its owner with 32 vertices and sends to the other 468.
+// The first 2,000 edges of the complete graph on 500, none accepting: every vertex takes a turn. With 16 workers the owner
+// of each of the vertices 0 to 3 owns 32, so that each sends to 468, and each message takes a delivery.
 fn full(wrong: u32, name: &[u8], workers: u32, acts: u32) -> u32 {
     let mut buffer = [0u8; 65536];
     let mut expected = [0u8; 8192];
