@@ -117,12 +117,27 @@ fn try_owners(
     try_case(totals, front(&text, size), limit, want, one, x)
 }
 
-// The answer by rounds with one worker; its length.
-fn first_answer(edges: &[u8], marks: &[u8], n: usize, source: usize, output: &mut [u8]) -> usize {
+// The answer by rounds with one worker, which is tried too; its length.
+fn first_answer(
+    totals: &mut [u32],
+    edges: &[u8],
+    marks: &[u8],
+    n: usize,
+    source: usize,
+    want: u32,
+    output: &mut [u8],
+) -> usize {
     let mut text = [0u8; 24576];
     let owners = [0u8; 128];
     let size = graph::write_case(&mut text, n, source, 1, edges, marks, &owners);
-    runs::first_run(front(&text, size), output)
+    let case = front(&text, size);
+    let written = runs::first_run(case, output);
+    count(
+        totals,
+        BY_ROUNDS,
+        runs::by_rounds(case, want, front(output, written)),
+    );
+    written
 }
 
 // The graph with several owners of its vertices.
@@ -136,7 +151,7 @@ fn try_graph(
 ) -> u32 {
     let want = verdict(nested::has_lasso(edges, marks, n, source));
     let mut output = [MARK; 8192];
-    let size = first_answer(edges, marks, n, source, &mut output);
+    let size = first_answer(totals, edges, marks, n, source, want, &mut output);
     let one = front(&output, size);
     count(totals, FOUND, want as usize);
     let x = try_owners(totals, edges, marks, n, source, want, one, seed);
