@@ -87,6 +87,14 @@ pub(crate) fn fill(work: &mut [i32], at: usize, count: usize, z: i32)
     }
 }
 
+// The same of a number that fits a cell.
+pub(crate) fn fill_number(work: &mut [i32], at: usize, count: usize, v: usize)
+    requires { ⌜ (at + count ≤ length (now work)) × (v < 2 ^ 31) ⌝ }
+    ensures { λ r. ⌜ Filled at count (pos v) (now (work .entry)) (now (work .exit)) ⌝ }
+{
+    fill(work, at, count, v as i32);
+}
+
 // Makes every cell 0.
 pub(crate) fn clear(work: &mut [i32])
     ensures { λ r. ⌜ now (work .exit) ≡ zeros (now (work .entry)) ⌝ }

@@ -2,7 +2,7 @@
 ghost use Rattle.text.specs.Reading.{Number-there};
 ghost use Rattle.search.specs.Loading.{Known-is, Load-asks, Load-says, Rows-ask, Rows-say, Pair-asks, Pair-says, Pairs-ask, Pairs-say};
 use super::cells::Cells;
-use super::cells::fill;
+use super::cells::fill_number;
 use super::cells::store_number;
 
 const DIGIT_0: u8 = 48;
@@ -63,7 +63,7 @@ fn load_edge(work: &mut [i32], e: usize, from: usize, to: usize, next: usize) ->
     if from < next {
         return next;
     }
-    fill(work, Cells::FIRST + next, from + 1 - next, e as i32);
+    fill_number(work, Cells::FIRST + next, from + 1 - next, e);
     from + 1
 }
 
@@ -82,7 +82,7 @@ fn load_edges(work: &mut [i32], text: &[u8], at: usize, n: usize, m: usize)
         here = to.past;
         e += 1;
     }
-    fill(work, Cells::FIRST + next, n + 1 - next, m as i32);
+    fill_number(work, Cells::FIRST + next, n + 1 - next, m);
 }
 
 // Loads the case of n vertices and m edges whose lines start at `rows` and `pairs`, and counts its accepting vertices.

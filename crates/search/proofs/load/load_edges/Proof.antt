@@ -3,8 +3,6 @@ use native.Mathlib.Omega.{arith}
 use mathlib.Core.List.{[], _∷_}
 use borrow.Author.Needs.{needs}
 use Prim.Native.Nat.{_-_, _<_, _^_}
-use mir.Syntax.{w32}
-use mir.Facts.{toZ-pos}
 use Rattle.model.specs.Case.{most-edges}
 use Rattle.model.specs.CaseFile.{case-in}
 use lib.ListN.{length}
@@ -52,29 +50,25 @@ loop-again : tie.Need-loop-again Inv-loop μ-loop
 loop-again c = let s = c .before .before .before .before .before .before .before .before .pre in
     pairs-step (c .before .before .before .before .before .before .loop .inv) (s .taken) (there (c .before .before .before .before .before)) (read (c .before .before .before)) (c .before .load-edge .ensures) (s .long)
 
-add-fill : tie.Need-add-fill Inv-loop μ-loop
-add-fill c = omega (arith, c .before .before .loop .inv .within, within-in _ (c .before .before .before .before .pre .taken) .vertices)
+add-fill-number : tie.Need-add-fill-number Inv-loop μ-loop
+add-fill-number c = omega (arith, c .before .before .loop .inv .within, within-in _ (c .before .before .before .before .pre .taken) .vertices)
 
-add-fill-2 : tie.Need-add-fill-2 Inv-loop μ-loop
-add-fill-2 c = omega (arith, c .before .before .before .before .pre .vertices, within-in _ (c .before .before .before .before .pre .taken) .vertices)
+add-fill-number-2 : tie.Need-add-fill-number-2 Inv-loop μ-loop
+add-fill-number-2 c = omega (arith, c .before .before .before .before .pre .vertices, within-in _ (c .before .before .before .before .pre .taken) .vertices)
 
-sub-fill : tie.Need-sub-fill Inv-loop μ-loop
-sub-fill c = omega (arith, c .before .before .loop .inv .within, c .before .before .before .before .pre .vertices)
+sub-fill-number : tie.Need-sub-fill-number Inv-loop μ-loop
+sub-fill-number c = omega (arith, c .before .before .loop .inv .within, c .before .before .before .before .pre .vertices)
 
-cast-fill : tie.Need-cast-fill Inv-loop μ-loop
-cast-fill c = let h : c .before .before .before .before .args .m < 2 ^ 31 = omega (arith, c .before .before .before .before .pre .edges, within-in _ (c .before .before .before .before .pre .taken) .edges) in search needs
-
-fill-requires : tie.Need-fill-requires Inv-loop μ-loop
-fill-requires c κs = omega (arith, c .before .before .loop .inv .within, c .before .before .loop .inv .long, c .before .before .before .before .pre .vertices, c .before .before .before .before .pre .long, within-in _ (c .before .before .before .before .pre .taken) .vertices)
+fill-number-requires : tie.Need-fill-number-requires Inv-loop μ-loop
+fill-number-requires c κs = (omega (arith, c .before .before .loop .inv .within, c .before .before .loop .inv .long, c .before .before .before .before .pre .vertices, c .before .before .before .before .pre .long, within-in _ (c .before .before .before .before .pre .taken) .vertices), omega (arith, c .before .before .before .before .pre .edges, within-in _ (c .before .before .before .before .pre .taken) .edges))
 
 same-length : tie.Need-same-length Inv-loop μ-loop
-same-length c = omega (arith, c .before .fill .kept .0, c .before .before .before .before .loop .inv .long)
+same-length c = omega (arith, c .before .fill-number .kept .0, c .before .before .before .before .loop .inv .long)
 
 returns : tie.Need-returns Inv-loop μ-loop
 returns c =
     let p = c .before .before .before .before .before .before .pre in
-    let h : c .before .before .before .before .before .before .args .m < 2 ^ 31 = omega (arith, p .edges, within-in _ (p .taken) .edges) in
-    pairs-end (c .before .before .before .before .loop .inv) (p .taken) (p .vertices) (p .edges) (c .before .before .before .loop-test .left) (rw (toZ-pos w32 h) at (c .before .fill .ensures))
+    pairs-end (c .before .before .before .before .loop .inv) (p .taken) (p .vertices) (p .edges) (c .before .before .before .loop-test .left) (c .before .fill-number .ensures)
 
 pub load-edges-spec : {M : Type 1} → statement M
 load-edges-spec =
@@ -89,10 +83,9 @@ load-edges-spec =
     add-e
     loop-less
     loop-again
-    add-fill
-    add-fill-2
-    sub-fill
-    cast-fill
-    fill-requires
+    add-fill-number
+    add-fill-number-2
+    sub-fill-number
+    fill-number-requires
     same-length
     returns)
