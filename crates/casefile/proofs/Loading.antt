@@ -13,7 +13,7 @@ use lib.Seq.{getD-drop}
 use borrow.Author.Tests.{eqb-true}
 use Rattle.text.specs.Lines.{Line, open-line, lines, line-at}
 use Rattle.text.specs.Numbers.{numbers-line, number-at}
-use Rattle.text.proofs.Tests.{and-true, clash}
+use Rattle.text.proofs.Tests.{and-both, clash}
 use Rattle.text.proofs.Reading.{Row}
 use Rattle.model.specs.Graph.{Edge, edge, mark}
 use Rattle.model.specs.Case.{owner}
@@ -40,7 +40,7 @@ vertex-line (suc k) v p ls e zero h = (refuse-not _ 3 (first-zero _ _ e .0), num
     parts g = unfold vertex-good in g
 
     number : vertex-good v p (line-at ls 0) ≡ true → number-at (line-at ls 0) 0 ≡ v + 0
-    number g = eqb-true _ v (and-true (eqb (number-at (line-at ls 0) 0) v) _ (parts g) .0) ∙ sym (add-zero v)
+    number g = eqb-true _ v (and-both (eqb (number-at (line-at ls 0) 0) v) _ (parts g) .0) ∙ sym (add-zero v)
 vertex-line (suc k) v p [] e (suc j) h = no-line 3 (refuse-not _ 3 (first-zero _ _ e .0))
 vertex-line (suc k) v p (l ∷ ls) e (suc j) h =
     let r = vertex-line k (suc v) p ls (first-zero _ _ (first-zero _ _ (first-zero _ _ e .1) .1) .0) j (omega arith) in

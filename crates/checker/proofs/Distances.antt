@@ -15,9 +15,8 @@ use Rattle.text.specs.Ascii.{ascii, minus, digit-0}
 use Rattle.text.specs.Lines.{fields, field, equal}
 use Rattle.text.specs.Numbers.{most-digits, is-digit, all-digits, no-leading-zero, is-number, value-from, value, has-minus, without-minus, is-signed, signed-value}
 use Rattle.text.specs.Reading.{line-here, signed-line}
-use Rattle.text.proofs.Lines.{and-both}
 use Rattle.text.proofs.Digits.{digit-low}
-use Rattle.text.proofs.Tests.{Same, same, other, same?, clash}
+use Rattle.text.proofs.Tests.{and-both, Same, same, other, same?, clash}
 use Rattle.text.proofs.ReadingSigned.{Signed-at, signed-worth}
 use Rattle.model.specs.Case.{farthest}
 use Rattle.model.specs.Passing.{distance-good}

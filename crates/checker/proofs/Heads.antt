@@ -14,12 +14,11 @@ use Rattle.text.specs.Numbers.{is-number, value, all-numbers, numbers-line, num
 use Rattle.text.specs.Reading.{line-here, past-line, field-here, is-separator, leading-here}
 use Rattle.text.specs.declared.read.Row1.{Row1}
 use Rattle.text.specs.declared.read.Row1.the-variants.{Fault as Fault1}
-use Rattle.text.proofs.Tests.{and-true as and-parts, clash}
-use Rattle.text.proofs.Lines.{size, field-in, field-nil, field-stop, field-byte, no-space, after-field, space-pieces, space-closed, space-long}
+use Rattle.text.proofs.Tests.{and-assoc, and-both, clash}
+use Rattle.text.proofs.Lines.{size, field-in, field-nil, field-stop, field-byte, no-space, after-field, space-pieces, space-closed, space-long, equal-true}
 use Rattle.text.proofs.ReadingSteps.{past-size, named-end}
 use Rattle.text.proofs.ReadingRows.{Parted, fields-more}
 use Rattle.text.proofs.Reading.{Row, No-row, leading-fault}
-use Rattle.text.proofs.Rows.{equal-true}
 use Rattle.model.specs.Answer.{lasso-word, empty-word}
 use Rattle.model.specs.Passing.{says-lasso, says-empty, head-layout}
 use Rattle.checker.specs.Checking.{counts-here, head-here}
@@ -44,10 +43,6 @@ not-flip : (b : Bool) → not b ≡ true → b ≡ false
 not-flip true h = cc
 not-flip false h = refl
 
-and-shift : (x y z : Bool) → (x && (y && z)) ≡ ((x && y) && z)
-and-shift true y z = refl
-and-shift false y z = refl
-
 word-none : (b : ℕ) (bs : List ℕ) (t : Bool) → is-separator b ≡ t → (eqb b space && true) ≡ (equal (field-in (b ∷ bs)) [] && eqb (getD (after-field (b ∷ bs)) 0 0) space)
 unfolding equal
 word-none b bs true e = rw (field-stop b bs e) (and-true (eqb b space))
@@ -58,7 +53,7 @@ word-more : (y : ℕ) (ys : List ℕ) (b : ℕ) (bs : List ℕ) (t : Bool) → i
     → (eqb b y && begins (ys ++ space ∷ []) bs) ≡ (equal (field-in (b ∷ bs)) (y ∷ ys) && eqb (getD (after-field (b ∷ bs)) 0 0) space)
 unfolding equal
 word-more y ys b bs true e n h = rw (field-stop b bs e, ne-eqb b y (λ q. clash (is-separator b) e (ap is-separator q ∙ n))) refl
-word-more y ys b bs false e n h = rw (field-byte b bs e, h) (and-shift (eqb b y) (equal (field-in bs) ys) (eqb (getD (after-field bs) 0 0) space))
+word-more y ys b bs false e n h = rw (field-byte b bs e, h) (and-assoc (eqb b y) (equal (field-in bs) ys) (eqb (getD (after-field bs) 0 0) space))
 
 word-begins : (w bs : List ℕ) → plain w ≡ true → begins (w ++ space ∷ []) bs ≡ (equal (field-in bs) w && eqb (getD (after-field bs) 0 0) space)
 unfolding begins equal
@@ -66,7 +61,7 @@ word-begins [] [] h = rw field-nil refl
 word-begins [] (b ∷ bs) h = word-none b bs (is-separator b) refl
 word-begins (y ∷ ys) [] h = rw field-nil refl
 word-begins (y ∷ ys) (b ∷ bs) h =
-    let n = and-parts (not (is-separator y)) (plain ys) h in
+    let n = and-both (not (is-separator y)) (plain ys) h in
     word-more y ys b bs (is-separator b) refl (not-flip (is-separator y) (n .0)) (word-begins ys bs (n .1))
 
 -- at a place, where the line has another field
@@ -92,7 +87,7 @@ space-first (x ∷ xs) h = ap (λ (y : ℕ). y ∷ xs) h
 
 worded : (w s : List ℕ) (p : ℕ) → plain w ≡ true → begins (w ++ space ∷ []) (drop p s) ≡ true → Worded s p w (p + suc (length w))
 worded w s p h b =
-    let g = and-parts (equal (field-here s p) w) (eqb (getD (after-field (drop p s)) 0 0) space) (sym (word-begins w (drop p s) h) ∙ b) in
+    let g = and-both (equal (field-here s p) w) (eqb (getD (after-field (drop p s)) 0 0) space) (sym (word-begins w (drop p s) h) ∙ b) in
     let f : field-here s p ≡ w = equal-true (field-here s p) w (g .0) in
     let q = p + suc (length w) in
     let n : p + length w + 1 ≡ q = omega arith in

@@ -16,7 +16,7 @@ use borrow.Author.Tests.{leb-true, eq-eqb, ne-eqb, le-leb, ltb-true}
 use Rattle.text.specs.Lines.{Line, lines, line-at, field}
 use Rattle.text.specs.Numbers.{number-at}
 use Rattle.text.specs.Reading.{line-here, signed-line}
-use Rattle.text.proofs.Tests.{Same, same, other, same?, and-true}
+use Rattle.text.proofs.Tests.{Same, same, other, same?, and-both}
 use Rattle.text.proofs.ReadingSigned.{Signed-at}
 use Rattle.model.specs.Graph.{Graph, edge, mark, edge-depth, edge-length}
 use Rattle.model.specs.Case.{most-vertices, farthest}
@@ -120,13 +120,13 @@ module _ {s : List ℕ} {at k n : ℕ} {t₀ : List ℤ} {here i least : ℕ} {t
 
       module _ (x : (ltb a n && leb least a) ≡ true) (y : (leb d farthest && not (b && eqb d 0)) ≡ true) where
         pub in-table : a < length t
-        in-table = omega (arith, ltb-true a n (and-true (ltb a n) (leb least a) x .0), w .room, w .long)
+        in-table = omega (arith, ltb-true a n (and-both (ltb a n) (leb least a) x .0), w .room, w .long)
 
         pub far-most : d ≤ farthest
-        far-most = leb-true d farthest (and-true (leb d farthest) (not (b && eqb d 0)) y .0)
+        far-most = leb-true d farthest (and-both (leb d farthest) (not (b && eqb d 0)) y .0)
 
         low : least ≤ a
-        low = leb-true least a (and-true (ltb a n) (leb least a) x .1)
+        low = leb-true least a (and-both (ltb a n) (leb least a) x .1)
 
         listed : listed-in (take (k - i) (lines (drop here s))) ≡ record { vertex = a; number = signed-by b d } ∷ listed-in (take (k - (i + 1)) (lines (drop z s)))
         unfolding listed-of

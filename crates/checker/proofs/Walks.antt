@@ -10,6 +10,7 @@ use lib.Dec.{ltb, leb, eqb}
 use lib.ListN.{length, getD, take, drop}
 use lib.Seq.{drop-drop}
 use borrow.Author.Tests.{lt-ltb, le-ltb, le-leb}
+use Rattle.text.proofs.Tests.{and-assoc}
 use Rattle.text.specs.Lines.{Line, lines, line-at}
 use Rattle.text.specs.Numbers.{numbers-line, number-at}
 use Rattle.text.specs.Reading.{line-here}
@@ -72,10 +73,6 @@ walking-start s at k m start marks froms tos =
     let e : k - 0 ≡ k = omega arith in
     record { within = omega arith; left = rw e refl; place = rw e refl; going = λ g t. record { walk = rw e refl; end = rw e refl; leaves = rw e refl } }
 
-and-shift : (x y z : Bool) → (x && (y && z)) ≡ ((x && y) && z)
-and-shift true y z = refl
-and-shift false y z = refl
-
 or-shift : (x y z : Bool) → (x || (y || z)) ≡ ((x || y) || z)
 or-shift true y z = refl
 or-shift false y z = refl
@@ -90,7 +87,7 @@ going-on {g} {m} {marks} {froms} {tos} {start} {es} {rest} {v} {joined} {marked}
     let o = t .to-at e h in
     let k : getD marks (getD froms e 0) 0 ≡ mark g (edge g e .from) = ap (λ (u : ℕ). getD marks u 0) f ∙ t .mark-at e h in
     record {
-      walk = w .walk ∙ rw (l, ← f, ← o) (and-shift joined (eqb (getD froms e 0) v) (is-walk g (getD tos e 0) rest));
+      walk = w .walk ∙ rw (l, ← f, ← o) (and-assoc joined (eqb (getD froms e 0) v) (is-walk g (getD tos e 0) rest));
       end = w .end ∙ rw (← o) refl;
       leaves = w .leaves ∙ rw (← k) (or-shift marked (leb 1 (getD marks (getD froms e 0) 0)) (leaves-accepting g rest));
     }

@@ -11,7 +11,8 @@ use borrow.Author.Tests.{eqb-true, leb-true, leb-false}
 use Rattle.text.specs.Ascii.{line-feed, space}
 use Rattle.text.specs.Lines.{Line, lines, put-first, fields}
 use Rattle.text.specs.Numbers.{most-digits, all-digits, no-leading-zero, is-number, all-numbers, numbers-line}
-use Rattle.text.proofs.Lines.{and-both, first, size, first-nil, first-feed, first-byte, rest-lines, glue, fields-some}
+use Rattle.text.proofs.Tests.{and-both}
+use Rattle.text.proofs.Lines.{first, size, first-nil, first-feed, first-byte, rest-lines, glue, fields-some}
 use Rattle.text.proofs.Reading.{some-lines}
 use Rattle.looplist.specs.Listing.{listed, Front-decides}
 use Rattle.looplist.specs.declared.acts.Listed.the-variants.{NoAct, TooMany}

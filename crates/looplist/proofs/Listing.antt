@@ -1,4 +1,5 @@
 -- Reading a list of acts line by line. Assumes nothing.
+use Rattle.text.proofs.Tests.{and-both}
 use mathlib.Core.Path.{_≡_, refl, sym, ap, _∙_}
 use mathlib.Core.Bool.{Bool, true, false, _&&_, cond}
 use mathlib.Core.List.{List, [], _∷_, _++_, append-assoc, append-nil}
@@ -13,7 +14,6 @@ use Rattle.text.specs.Numbers.{numbers-line, all-numbers, number-at}
 use Rattle.text.specs.Reading.{line-here, past-line, row1-here}
 use Rattle.text.specs.declared.read.Row1.{Row1}
 use Rattle.text.specs.declared.read.Row1.the-variants.{Read, Fault}
-use Rattle.text.proofs.Lines.{and-both}
 use Rattle.text.proofs.Reading.{some-lines, no-lines, Row, row-rest, row1-read, row1-fault}
 use Rattle.looplist.specs.Listing.{listed, numbers-of, Lists}
 use Rattle.looplist.specs.declared.acts.Listed.the-variants.{Acts, NoAct, TooMany}

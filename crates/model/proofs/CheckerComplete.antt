@@ -20,7 +20,7 @@ use Rattle.model.specs.Run.{distance}
 use Rattle.model.specs.Answer.{cycle, stem, answer-names, lasso-names, empty-names, head-row, edge-rows, lasso-text, vertex-rows, empty-text}
 use Rattle.model.specs.Passing.{says-lasso, says-empty, head-layout, counts-suit, counts-fit, listed-edges-refusal, vertex-layout, above, distance-good, listed-vertices-refusal, Listed, number-of, is-listed, leads, all-lead, passes-empty, stem-in, cycle-in, listed-of, listed-in, lasso-refusal, empty-refusal, answer-refusal, answer-verdict}
 use Rattle.model.specs.Entry.{verdict}
-use Rattle.text.proofs.Tests.{and-true, both-true, clash}
+use Rattle.text.proofs.Tests.{and-both, both-true, clash}
 use Rattle.model.proofs.Tools.{some-not-none, some-inj}
 use Rattle.model.proofs.Pigeon.{row}
 use Rattle.model.proofs.Walks.{Relaxed}
@@ -40,7 +40,7 @@ free-of z (b ∷ bs) = not (eqb b z) && free-of z bs
 free-without : (z : ℕ) (w : List ℕ) → free-of z w ≡ true → Without z w
 unfolding free-of
 free-without z [] e = tt
-free-without z (b ∷ w) e = let p = and-true (not (eqb b z)) (free-of z w) e in (not-true (eqb b z) (p .0), free-without z w (p .1))
+free-without z (b ∷ w) e = let p = and-both (not (eqb b z)) (free-of z w) e in (not-true (eqb b z) (p .0), free-without z w (p .1))
 
 unfoldable pub is-plain : List (List ℕ) → Bool
 is-plain [] = false
@@ -50,10 +50,10 @@ is-plain (f ∷ g ∷ fs) = (free-of 32 f && free-of 10 f) && is-plain (g ∷ fs
 plain-by : (r : List (List ℕ)) → is-plain r ≡ true → Plain r
 unfolding is-plain
 plain-by [] e = clash false e refl
-plain-by (f ∷ []) e = let p = and-true (free-of 32 f) (free-of 10 f) e in (free-without 32 f (p .0), free-without 10 f (p .1))
+plain-by (f ∷ []) e = let p = and-both (free-of 32 f) (free-of 10 f) e in (free-without 32 f (p .0), free-without 10 f (p .1))
 plain-by (f ∷ g ∷ fs) e =
-    let q = and-true (free-of 32 f && free-of 10 f) (is-plain (g ∷ fs)) e in
-    let p = and-true (free-of 32 f) (free-of 10 f) (q .0) in
+    let q = and-both (free-of 32 f && free-of 10 f) (is-plain (g ∷ fs)) e in
+    let p = and-both (free-of 32 f) (free-of 10 f) (q .0) in
     (free-without 32 f (p .0), free-without 10 f (p .1), plain-by (g ∷ fs) (q .1))
 
 names-plain : Plain (fields answer-names)

@@ -15,7 +15,7 @@ use Rattle.model.specs.Graph.{Graph, edge, edge-depth, edge-length, is-w
 use Rattle.model.specs.Answer.{cycle, stem}
 use Rattle.model.specs.Passing.{says-lasso, Listed, number-of, is-listed, leads, all-lead, passes-empty, stem-in, cycle-in, listed-in, lasso-refusal, empty-refusal, answer-refusal, answer-verdict}
 use Rattle.model.specs.Promise.{Checker-sound}
-use Rattle.text.proofs.Tests.{Test, test, Same, same?, and-true, clash, holds, fails, same, other}
+use Rattle.text.proofs.Tests.{Test, test, Same, same?, and-both, clash, holds, fails, same, other}
 use Rattle.model.proofs.Walks.{steps, Lasso, lasso-parts}
 use Rattle.model.proofs.Signs.{high, low, le-parts, parts-le, add-parts, low-neg, high-neg}
 use Rattle.model.proofs.Accepting.{first-zero, refuse-not}
@@ -75,7 +75,7 @@ all-lead-at : (l e : ℕ) (g : Graph) (vs : List Listed) → all-lead l e g vs �
 unfolding all-lead
 all-lead-at zero e g vs h f a b = absurd (omega arith)
 all-lead-at (suc l) e g vs h f a b =
-    let p = and-true (leads (number-of vs (edge g e .from)) (number-of vs (edge g e .to)) (edge-length g e)) (all-lead l (suc e) g vs) h in
+    let p = and-both (leads (number-of vs (edge g e .from)) (number-of vs (edge g e .to)) (edge-length g e)) (all-lead l (suc e) g vs) h in
     go (same? e f) (p .0) (λ i. all-lead-at l (suc e) g vs (p .1) f i (omega arith))
   where
     go : Same e f → leads (number-of vs (edge g e .from)) (number-of vs (edge g e .to)) (edge-length g e) ≡ true →
@@ -91,7 +91,7 @@ listed-some (some h) e = (h, refl)
 pub empty-true : (g : Graph) (vs : List Listed) → passes-empty g vs ≡ true → No-lasso g
 unfolding passes-empty
 empty-true g vs p =
-    let a = and-true (is-listed (number-of vs (g .source))) (all-lead (length (g .edges)) 0 g vs) p in
+    let a = and-both (is-listed (number-of vs (g .source))) (all-lead (length (g .edges)) 0 g vs) p in
     let s = listed-some (number-of vs (g .source)) (a .0) in
     numbers-no-lasso g (number-of vs) (λ e l. all-lead-at (length (g .edges)) 0 g vs (a .1) e (omega arith) (omega arith)) (s .0) (s .1)
 

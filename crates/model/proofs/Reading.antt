@@ -7,11 +7,12 @@ use native.Mathlib.Omega.{arith}
 use lib.Dec.{eqb}
 use lib.ListN.{drop}
 use lib.IntN.{natAbs}
+use Rattle.text.proofs.Lines.{equal-true}
 use Rattle.text.specs.Ascii.{ascii}
 use Rattle.text.specs.Lines.{equal}
 use Rattle.text.specs.Numbers.{value-from, value, is-signed, signed-value, digits, decimal, signed-decimal}
 use Rattle.text.proofs.Decimals.{decimal-value, signed-number, signed-back}
-use Rattle.text.proofs.Rows.{Without, decimal-without, equal-true}
+use Rattle.text.proofs.Rows.{Without, decimal-without}
 use Rattle.model.specs.Run.{distance}
 use Rattle.model.proofs.Signs.{abs-neg}
 

@@ -45,7 +45,7 @@ rounds-listed (suc k) c x = go (has-ended x) refl (rounds-listed k c (acted c (r
     go false o ih = ih ∙ sym (acted-append c (round-acts c) (whole-rounds k c) x)
 
 -- counts
-scan-count : (c : Case) (v d : ℕ) (x : State) → scan c v d x .count ≡ x .count
+pub scan-count : (c : Case) (v d : ℕ) (x : State) → scan c v d x .count ≡ x .count
 scan-count c v d x = scan-keeps c v d (λ _ y. y .count ≡ x .count) (record {
   halt = λ _ _ _ _ p. p;
   pass = λ _ _ _ p. p;

@@ -12,7 +12,7 @@ use lib.Seq.{getD-set-same, getD-set-other}
 use Rattle.model.specs.Graph.{edge, edge-depth}
 use Rattle.model.specs.Case.{Case, owner, Sound}
 use Rattle.model.specs.Run.{State, is-some, fresh, with-queues, with-cells, takes, member, taken, relax, lower, send, scan, no-vertex, no-message, counted, depth-or, turn, delivery, by-list}
-use Rattle.text.proofs.Tests.{Same, same?, and-true, clash, same, other}
+use Rattle.text.proofs.Tests.{Same, same?, and-both, clash, same, other}
 use Rattle.model.proofs.Tools.{some-not-none, member-first, no-queue, no-cell, member-end, member-before, some-inj, member-rest}
 use Rattle.model.proofs.Walks.{Relaxed}
 use Rattle.model.proofs.Steps.{relax-cases, scan-keeps, Acts, acted-keeps}
@@ -201,7 +201,7 @@ module _ (c : Case) (ok : Sound c) where
   relaxed x p t n e f du i h = go (t .settled n f du i h)
     where
       all : (no-vertex (x .queues) ≡ true) × (no-message (x .cells) ≡ true)
-      all = and-true (no-vertex (x .queues)) (no-message (x .cells)) (and-true (not (is-some (x .broken))) (no-vertex (x .queues) && no-message (x .cells)) (sym (p .told) ∙ e) .1)
+      all = and-both (no-vertex (x .queues)) (no-message (x .cells)) (and-both (not (is-some (x .broken))) (no-vertex (x .queues) && no-message (x .cells)) (sym (p .told) ∙ e) .1)
 
       go : Settled c x f du ⊎ ⊥ → (dv : ℕ) × (getD (x .depths) (edge (c .graph) f .to) none ≡ some dv) × (du + edge-depth (c .graph) f ≤ dv)
       go (inl (later w)) = clash (waiting c x (edge (c .graph) f .from)) w (unfold waiting member in (rw (no-queue (x .queues) (all .0) (owner c (edge (c .graph) f .from))) refl))

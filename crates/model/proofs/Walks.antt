@@ -11,7 +11,7 @@ use borrow.Author.Tests.{ltb-true, leb-true, leb-false, eqb-true, lt-ltb, le-leb
 use lib.ListN.{length, getD}
 use Rattle.model.specs.Graph.{Graph, edge, mark, edge-depth, is-walk, walk-end, walk-depth, Reaches, leaves-accepting, is-lasso}
 use Rattle.model.specs.Answer.{cycle, stem}
-use Rattle.text.proofs.Tests.{Test, test, holds, fails, clash, or-left, or-right, or-cases, and-true, both-true}
+use Rattle.text.proofs.Tests.{Test, test, holds, fails, clash, or-left, or-right, or-cases, and-both, both-true}
 use Rattle.model.proofs.Tools.{some-inj}
 
 -- a walk's first edge
@@ -23,15 +23,15 @@ pub record Steps (g : Graph) (v e : ℕ) (es : List ℕ) : Type 0 where
 pub steps : (g : Graph) (v e : ℕ) (es : List ℕ) → is-walk g v (e ∷ es) ≡ true → Steps g v e es
 unfolding is-walk
 steps g v e es w =
-    let p = and-true (ltb e (length (g .edges)) && eqb (edge g e .from) v) (is-walk g (edge g e .to) es) w in
-    let q = and-true (ltb e (length (g .edges))) (eqb (edge g e .from) v) (p .0) in
+    let p = and-both (ltb e (length (g .edges)) && eqb (edge g e .from) v) (is-walk g (edge g e .to) es) w in
+    let q = and-both (ltb e (length (g .edges))) (eqb (edge g e .from) v) (p .0) in
     record { below = ltb-true e (length (g .edges)) (q .0); from = eqb-true (edge g e .from) v (q .1); rest = p .1 }
 
 pub walk-snoc : (g : Graph) (v : ℕ) (es : List ℕ) (e : ℕ) → is-walk g v es ≡ true → e < length (g .edges) → edge g e .from ≡ walk-end g v es → is-walk g v (es ++ (e ∷ [])) ≡ true
 unfolding is-walk walk-end
 walk-snoc g v [] e w l q = both-true _ true (both-true _ _ (lt-ltb e (length (g .edges)) l) (eq-eqb _ _ q)) refl
 walk-snoc g v (f ∷ es) e w l q =
-    let p = and-true (ltb f (length (g .edges)) && eqb (edge g f .from) v) (is-walk g (edge g f .to) es) w in
+    let p = and-both (ltb f (length (g .edges)) && eqb (edge g f .from) v) (is-walk g (edge g f .to) es) w in
     both-true _ _ (p .0) (walk-snoc g (edge g f .to) es e (p .1) l q)
 
 pub walk-end-snoc : (g : Graph) (v : ℕ) (es : List ℕ) (e : ℕ) → walk-end g v (es ++ (e ∷ [])) ≡ edge g e .to
@@ -95,10 +95,10 @@ pub lasso-parts : (g : Graph) (ss es : List ℕ) → is-lasso g ss es ≡ true �
 unfolding is-lasso
 lasso-parts g ss es h =
     let u = walk-end g (g .source) ss in
-    let p = and-true (is-walk g (g .source) ss && is-walk g u es) (leb 1 (length es) && (eqb (walk-end g u es) u && leaves-accepting g es)) h in
-    let a = and-true (is-walk g (g .source) ss) (is-walk g u es) (p .0) in
-    let b = and-true (leb 1 (length es)) (eqb (walk-end g u es) u && leaves-accepting g es) (p .1) in
-    let d = and-true (eqb (walk-end g u es) u) (leaves-accepting g es) (b .1) in
+    let p = and-both (is-walk g (g .source) ss && is-walk g u es) (leb 1 (length es) && (eqb (walk-end g u es) u && leaves-accepting g es)) h in
+    let a = and-both (is-walk g (g .source) ss) (is-walk g u es) (p .0) in
+    let b = and-both (leb 1 (length es)) (eqb (walk-end g u es) u && leaves-accepting g es) (p .1) in
+    let d = and-both (eqb (walk-end g u es) u) (leaves-accepting g es) (b .1) in
     record { stem = a .0; cycle = a .1; some-edge = leb-true 1 (length es) (b .0); closes = eqb-true (walk-end g u es) u (d .0); accepts = leaves-down g es (d .1) }
 
 pub lasso-whole : (g : Graph) (ss es : List ℕ) → Lasso g ss es → is-lasso g ss es ≡ true

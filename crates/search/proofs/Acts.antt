@@ -13,13 +13,12 @@ use lib.ListN.{length, getD, set, drop, drop-of-length-le}
 use lib.Seq.{drop-cons}
 use lib.IntN.{ℤ, pos}
 use lib.Signed.{ltZ}
-use Rattle.model.specs.Graph.{edge-depth}
 use Rattle.model.specs.Case.{Case, most-vertices, most-edges, Sound, Within}
 use Rattle.model.specs.Run.{State, is-some, ended-lasso, has-ended, with-queues, with-cells, relax, scan, no-vertex, no-message, counted, depth-or, turn-of, turn, delivery-of, delivery, act, acted}
-use Rattle.model.proofs.Steps.{scan-keeps, act-keeps}
+use Rattle.model.proofs.Steps.{act-keeps}
 use Rattle.model.proofs.Shapes.{head-depth}
 use Rattle.model.proofs.Fits.{accepting-few}
-use Rattle.model.proofs.Few.{Paid, few, paid-acts, relax-count}
+use Rattle.model.proofs.Few.{Paid, few, paid-acts}
 use Rattle.model.proofs.Bounds.{most-acts-within}
 use Rattle.search.specs.declared.run.Run.{Run}
 use Rattle.search.specs.Cells.{far, more, message-at}
@@ -31,17 +30,6 @@ use Rattle.search.proofs.Numbers.{tally-set}
 -- COUNTS fit 32 bits
 pub count-small : (c : Case) (x : State) → Sound c → Within c → Paid c x → x .count < 2 ^ 32 - 1
 count-small c x ok l p = omega (arith, few c ok x p .0, most-acts-within c most-vertices most-edges ok (l .vertices) (l .edges))
-
-pub scan-count : (c : Case) (v d : ℕ) (x : State) → scan c v d x .count ≡ x .count
-scan-count c v d x =
-    scan-keeps c v d (λ _ y. y .count ≡ x .count)
-    (record {
-      halt = λ _ _ _ _ p. p;
-      pass = λ _ _ _ p. p;
-      own = λ e y _ _ _ p. relax-count c e (d + edge-depth (c .graph) e) y ∙ p;
-      other = λ _ _ _ _ _ p. p;
-    })
-    x refl
 
 -- NOTHING WAITS where the counters are 0
 no-vertex-is : (qs : List (List ℕ)) → eqb (tally busy qs) 0 ≡ no-vertex qs

@@ -15,7 +15,7 @@ use lib.Seq.{drop-cons, getD-set-other}
 use lib.IntN.{ℤ, pos}
 use Rattle.text.specs.Lines.{lines, line-at}
 use Rattle.text.specs.Numbers.{number-at}
-use Rattle.text.proofs.Tests.{or-cases, and-true}
+use Rattle.text.proofs.Tests.{or-cases, and-both}
 use Rattle.text.specs.Reading.{Number-there}
 use Rattle.text.proofs.Reading.{Row, row-first, row-last}
 use Rattle.model.specs.Graph.{Edge, edge, mark, total, accepting-count}
@@ -271,7 +271,7 @@ rises-from a b e = go (or-cases (ltb (a .from) (b .from)) (eqb (a .from) (b .fro
   where
     go : (ltb (a .from) (b .from) ≡ true) ⊎ ((eqb (a .from) (b .from) && ltb (a .to) (b .to)) ≡ true) → a .from ≤ b .from
     go (inl l) = omega (arith, ltb-true (a .from) (b .from) l)
-    go (inr l) = omega (arith, eqb-true (a .from) (b .from) (and-true (eqb (a .from) (b .from)) (ltb (a .to) (b .to)) l .0))
+    go (inr l) = omega (arith, eqb-true (a .from) (b .from) (and-both (eqb (a .from) (b .from)) (ltb (a .to) (b .to)) l .0))
 
 abbrev pub from-in : (s : List ℕ) → (e : ℕ) → ℕ
 from-in s e = edge (case-in s .graph) e .from

@@ -18,7 +18,7 @@ use mir.Facts.{fits-natAbs, toZ-ofZ}
 use borrow.Author.Tests.{ltb-true, ltb-false, le-ltb, leb-true, leb-false, le-leb, eq-eqb, ne-eqb}
 use Rattle.text.specs.Numbers.{is-digit, all-digits, no-leading-zero, is-number, value-from, value, has-minus, without-minus, is-signed, signed-value, digits, decimal, signed-decimal}
 use Rattle.text.specs.Writing.{put, Writes}
-use Rattle.text.proofs.Tests.{or-left, or-right, and-true, both-true}
+use Rattle.text.proofs.Tests.{or-left, or-right, and-both, both-true}
 use Rattle.text.proofs.Writing.{put-before, put-none, writes-fits}
 
 -- the digits of a number below 10 and of one from 10 on
@@ -216,7 +216,7 @@ all-append : (a b : List ℕ) → all-digits a ≡ true → all-digits b ≡ tru
 unfolding all-digits
 all-append [] b p q = q
 all-append (x ∷ a) b p q =
-    let r = and-true (is-digit x) (all-digits a) p in
+    let r = and-both (is-digit x) (all-digits a) p in
     both-true (is-digit x) (all-digits (a ++ b)) (r .0) (all-append a b (r .1) q)
 
 all-one : (d : ℕ) → d < 10 → all-digits ((48 + d) ∷ []) ≡ true
@@ -240,13 +240,13 @@ decimal-digits v = digits-all 10 v
 -- and no digit is a byte below `0`, as the space, the line feed and the minus sign are
 pub digit-not : (b z : ℕ) → is-digit b ≡ true → z < 48 → eqb b z ≡ false
 unfolding is-digit
-digit-not b z d l = ne-eqb b z (λ e. omega (arith, leb-true 48 b (and-true (leb 48 b) (leb b 57) d .0)))
+digit-not b z d l = ne-eqb b z (λ e. omega (arith, leb-true 48 b (and-both (leb 48 b) (leb b 57) d .0)))
 
 pub all-digits-at : (w : List ℕ) (i : ℕ) → all-digits w ≡ true → i < length w → is-digit (getD w i 0) ≡ true
 unfolding all-digits
 all-digits-at [] i d h = absurd (omega arith)
-all-digits-at (b ∷ w) zero d h = and-true (is-digit b) (all-digits w) d .0
-all-digits-at (b ∷ w) (suc i) d h = all-digits-at w i (and-true (is-digit b) (all-digits w) d .1) (omega arith)
+all-digits-at (b ∷ w) zero d h = and-both (is-digit b) (all-digits w) d .0
+all-digits-at (b ∷ w) (suc i) d h = all-digits-at w i (and-both (is-digit b) (all-digits w) d .1) (omega arith)
 
 -- the value
 value-append : (a : ℕ) (xs ys : List ℕ) → value-from a (xs ++ ys) ≡ value-from (value-from a xs) ys
@@ -307,7 +307,7 @@ decimal-number v h = number-parts (decimal v) (decimal-some v) (decimal-short v 
 no-minus : (w : List ℕ) → all-digits w ≡ true → (has-minus w ≡ false) × (without-minus w ≡ w)
 unfolding has-minus without-minus all-digits
 no-minus [] d = (refl, refl)
-no-minus (b ∷ w) d = let n = digit-not b 45 (and-true (is-digit b) (all-digits w) d .0) (omega arith) in (n, rw n refl)
+no-minus (b ∷ w) d = let n = digit-not b 45 (and-both (is-digit b) (all-digits w) d .0) (omega arith) in (n, rw n refl)
 
 pub signed-some : (z : ℤ) → 1 ≤ length (signed-decimal z)
 unfolding signed-decimal

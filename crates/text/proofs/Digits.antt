@@ -16,8 +16,8 @@ use Rattle.text.specs.Reading.{field-here, run, run-here, Digits-read, d
 use Rattle.text.specs.declared.read.Number.the-variants.{Is, Not}
 use Rattle.text.specs.declared.read.Row1.{Row1}
 use Rattle.text.specs.declared.read.Row1.the-variants.{Read as Read1, Fault as Fault1}
-use Rattle.text.proofs.Tests.{clash}
-use Rattle.text.proofs.Lines.{and-both, field-in, field-nil, field-stop, field-byte, ended}
+use Rattle.text.proofs.Tests.{and-both, clash}
+use Rattle.text.proofs.Lines.{field-in, field-nil, field-stop, field-byte, ended}
 
 -- THE RUN of digits, k at most
 pub digit-low : (b : ℕ) → is-digit b ≡ true → digit-0 ≤ b

@@ -1,20 +1,17 @@
 -- Laws of the first line and the first field of a text, over plain lists. Assumes nothing.
 use mathlib.Core.Path.{_≡_, refl, sym, ap, _∙_}
-use mathlib.Core.Bool.{Bool, true, false, _&&_, _||_, cond}
+use mathlib.Core.Bool.{Bool, true, false, _||_, cond}
 use mathlib.Core.List.{List, [], _∷_, _++_, append-nil}
 use Prim.Native.Nat.{ℕ, suc, _+_, _≤_}
 use native.Mathlib.Omega.{arith}
 use native.Mathlib.Nat.{suc-add, zero-add}
 use lib.Dec.{eqb}
 use lib.ListN.{length, getD, take, drop}
+use borrow.Author.Tests.{eqb-true}
 use Rattle.text.specs.Ascii.{line-feed, space}
-use Rattle.text.specs.Lines.{Line, lines, line-at, put-byte, put-first, fields, field, open-line, closed-line}
+use Rattle.text.specs.Lines.{Line, lines, line-at, put-byte, put-first, fields, field, open-line, closed-line, equal}
 use Rattle.text.specs.Reading.{is-separator}
-
--- both parts of a test that holds
-pub and-both : (x y : Bool) → (x && y) ≡ true → (x ≡ true) × (y ≡ true)
-and-both true y e = (refl, e)
-and-both false y e = (e, cc)
+use Rattle.text.proofs.Tests.{and-both, clash}
 
 -- LINES: the first line of a text, and how many bytes it has with its line feed
 abbrev pub first : List ℕ → Line
@@ -216,3 +213,11 @@ module _ (bs : List ℕ) where
 
   pub end-closed : after-field bs ≡ [] → first bs .closed ≡ false
   end-closed h = field-first bs .closed ∙ rw (h, first-nil)
+
+-- EQUAL BYTES are the same
+pub equal-true : (a b : List ℕ) → equal a b ≡ true → a ≡ b
+unfolding equal
+equal-true [] [] e = refl
+equal-true [] (y ∷ b) e = clash false e refl
+equal-true (x ∷ a) [] e = clash false e refl
+equal-true (x ∷ a) (y ∷ b) e = let p = and-both (eqb x y) (equal a b) e in cc (eqb-true x y (p .0), equal-true a b (p .1))

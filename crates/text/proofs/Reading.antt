@@ -25,7 +25,8 @@ use Rattle.text.specs.declared.read.Row3.{Row3}
 use Rattle.text.specs.declared.read.Row3.the-variants.{Read as Read3, Fault as Fault3}
 use Rattle.text.specs.declared.read.Row5.{Row5}
 use Rattle.text.specs.declared.read.Row5.the-variants.{Read as Read5, Fault as Fault5}
-use Rattle.text.proofs.Lines.{and-both, size, first, first-nil, first-feed, first-byte, rest-lines, size-within}
+use Rattle.text.proofs.Tests.{and-both}
+use Rattle.text.proofs.Lines.{size, first, first-nil, first-feed, first-byte, rest-lines, size-within, equal-true}
 use Rattle.text.proofs.Digits.{digit-high, read-go, fault-go}
 use Rattle.text.proofs.ReadingSteps.{past-size}
 use Rattle.text.proofs.ReadingRows.{Parted, Not-parted, numbers-more, row1-number, leading-number, parted}
@@ -110,21 +111,12 @@ line-is-begins (y ∷ ys) (b ∷ bs) h =
 pub named-line : (names : List ℕ) (s : List ℕ) (at : ℕ) → without-feed names ≡ true → begins (names ++ line-feed ∷ []) (drop at s) ≡ line-is names (line-here s at)
 named-line names s at h = line-is-begins names (drop at s) h
 
-equal-is : (a b : List ℕ) → equal a b ≡ true → a ≡ b
-unfolding equal
-equal-is [] [] h = refl
-equal-is [] (y ∷ ys) h = cc
-equal-is (x ∷ xs) [] h = cc
-equal-is (x ∷ xs) (y ∷ ys) h =
-    let g = and-both (eqb x y) (equal xs ys) h in
-    ap (λ (z : ℕ). z ∷ xs) (eqb-true x y (g .0)) ∙ ap (λ (zs : List ℕ). y ∷ zs) (equal-is xs ys (g .1))
-
 pub named-past : (names : List ℕ) (s : List ℕ) (at : ℕ) → line-is names (line-here s at) ≡ true → at + suc (length names) ≡ past-line s at
 unfolding line-is past-line
 named-past names s at h =
     let l = line-here s at in
     let g = and-both (l .closed) (equal (l .text) names) h in
-    let n : length (l .text) ≡ length names = ap length (equal-is (l .text) names (g .1)) in
+    let n : length (l .text) ≡ length names = ap length (equal-true (l .text) names (g .1)) in
     let k : _≡_ {A = ℕ} (cond (l .closed) 1 0) 1 = ap (λ (t : Bool). cond t 1 0) (g .0) in
     omega arith
 

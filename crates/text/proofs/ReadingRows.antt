@@ -14,7 +14,8 @@ use Rattle.text.specs.Numbers.{is-number, value, all-numbers, numbers-li
 use Rattle.text.specs.Reading.{line-here, past-line, field-here, number-before, leading-here, row1-here}
 use Rattle.text.specs.declared.read.Row1.{Row1}
 use Rattle.text.specs.declared.read.Row1.the-variants.{Read as Read1, Fault as Fault1}
-use Rattle.text.proofs.Lines.{and-both, size, first, field-in, after-field, ended, glue, field-first, fields-some, space-pieces, space-closed, space-long, feed-pieces, feed-closed, feed-long, end-pieces, end-closed}
+use Rattle.text.proofs.Tests.{and-both}
+use Rattle.text.proofs.Lines.{size, first, field-in, after-field, ended, glue, field-first, fields-some, space-pieces, space-closed, space-long, feed-pieces, feed-closed, feed-long, end-pieces, end-closed}
 use Rattle.text.proofs.Digits.{read-go, fault-go}
 use Rattle.text.proofs.ReadingSteps.{past-size}
 

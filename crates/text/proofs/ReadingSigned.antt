@@ -18,7 +18,8 @@ use Rattle.text.specs.declared.read.Signed.{Signed}
 use Rattle.text.specs.declared.read.Signed.the-variants.{Read as Read-signed, Fault as Fault-signed}
 use Rattle.text.specs.declared.read.SignedRow.{SignedRow}
 use Rattle.text.specs.declared.read.SignedRow.the-variants.{Read as Read-row, Fault as Fault-row}
-use Rattle.text.proofs.Lines.{and-both, first, first-byte, field-nil, field-stop, field-byte, fields-byte, fields-some, glue}
+use Rattle.text.proofs.Tests.{and-both}
+use Rattle.text.proofs.Lines.{first, first-byte, field-nil, field-stop, field-byte, fields-byte, fields-some, glue}
 use Rattle.text.proofs.ReadingSteps.{past-byte}
 use Rattle.text.proofs.ReadingRows.{Parted, Not-parted, fields-more}
 use Rattle.text.proofs.Reading.{Row, No-row, past-lines, closed-within, value-small}

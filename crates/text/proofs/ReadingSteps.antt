@@ -14,6 +14,7 @@ use Rattle.text.specs.Ascii.{line-feed}
 use Rattle.text.specs.Lines.{equal, begins}
 use Rattle.text.specs.Reading.{past-line, line-here, field-here, is-separator, named-here}
 use Rattle.text.specs.declared.read.Named.the-variants.{Past, Other}
+use Rattle.text.proofs.Tests.{and-assoc}
 use Rattle.text.proofs.Lines.{size, first-nil, first-feed, first-byte, size-within, field-nil, field-stop, field-byte, field-first}
 
 -- THE PLACE PAST A LINE
@@ -79,10 +80,6 @@ module _ {f s : List ℕ} {at i e : ℕ} (g : Matching f s at i e) where
       record { left = rw (add-one i, add-one e) (sym (rw (drop-cons f i 0 h, drop-cons s e 0 l, eq-eqb (getD s e 0) (getD f i 0) q)) ∙ g .left) }
 
 -- A NAMED LINE: a front and then one line feed
-and-assoc : (x y z : Bool) → (x && (y && z)) ≡ ((x && y) && z)
-and-assoc true y z = refl
-and-assoc false y z = refl
-
 begins-feed : (f t : List ℕ) → begins (f ++ line-feed ∷ []) t ≡ (begins f t && eqb (getD t (length f) 0) line-feed)
 unfolding begins equal
 begins-feed [] [] = refl

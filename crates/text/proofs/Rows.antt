@@ -5,11 +5,10 @@ use mathlib.Core.Bool.{true, false}
 use mathlib.Core.List.{List, [], _∷_, _++_}
 use Prim.Native.Nat.{ℕ, _<_}
 use lib.Dec.{eqb}
-use borrow.Author.Tests.{eqb-true}
 use lib.ListN.{getD}
-use Rattle.text.specs.Lines.{Line, closed-line, put-byte, lines, put-first, fields, field, equal, joined, text}
+use Rattle.text.specs.Lines.{Line, closed-line, put-byte, lines, put-first, fields, field, joined, text}
 use Rattle.text.specs.Numbers.{is-digit, all-digits, decimal}
-use Rattle.text.proofs.Tests.{and-true, clash}
+use Rattle.text.proofs.Tests.{and-both}
 use Rattle.text.proofs.Decimals.{decimal-digits, digit-not}
 
 -- no byte is z
@@ -77,14 +76,7 @@ field-row r p i = ap (λ (l : List (List ℕ)). getD l i []) (fields-joined r p)
 digits-without : (z : ℕ) (w : List ℕ) → z < 48 → all-digits w ≡ true → Without z w
 unfolding all-digits
 digits-without z [] l d = tt
-digits-without z (b ∷ w) l d = let p = and-true (is-digit b) (all-digits w) d in (digit-not b z (p .0) l, digits-without z w l (p .1))
+digits-without z (b ∷ w) l d = let p = and-both (is-digit b) (all-digits w) d in (digit-not b z (p .0) l, digits-without z w l (p .1))
 
 pub decimal-without : (z v : ℕ) → z < 48 → Without z (decimal v)
 decimal-without z v l = digits-without z (decimal v) l (decimal-digits v)
-
-pub equal-true : (a b : List ℕ) → equal a b ≡ true → a ≡ b
-unfolding equal
-equal-true [] [] e = refl
-equal-true [] (y ∷ b) e = clash false e refl
-equal-true (x ∷ a) [] e = clash false e refl
-equal-true (x ∷ a) (y ∷ b) e = let p = and-true (eqb x y) (equal a b) e in cc (eqb-true x y (p .0), equal-true a b (p .1))

@@ -12,10 +12,11 @@ use mir.Facts.{toZ-ofZ}
 use Rattle.model.specs.Case.{Case}
 use Rattle.model.specs.Run.{State, with-queues, scan, depth-or}
 use Rattle.model.proofs.Few.{Paid}
+use Rattle.model.proofs.Rounds.{scan-count}
 use Rattle.search.specs.Asks.{Pop-says, Scan-says, Turn-says}
 use Rattle.search.specs.Cells.{far}
 use Rattle.search.specs.Rep.{Rep}
-use Rattle.search.proofs.Acts.{depth-low, count-small, scan-count, counted-rep, link-split, link-two, turn-idle, turn-is}
+use Rattle.search.proofs.Acts.{depth-low, count-small, counted-rep, link-split, link-two, turn-idle, turn-is}
 use Rattle.search.proofs.Stores.{there}
 use Rattle.search.proofs.Steps.{head-there, head-is, head-below}
 use borrow.Author.Needs.{needs}
