@@ -4,13 +4,14 @@ ghost use Prim.Native.Nat.{_≤_};
 ghost use lib.ListN.{length};
 ghost use Rattle.desk.specs.Lines.{Puts, Shows};
 ghost use Rattle.loopcheck.specs.Printing.{checked-line, printed};
+use casefile::Case;
 use checker::check_answer;
 use desk::Filled;
 use model::Checked;
 use text::write::write_bytes;
 
 // One byte more than a file may have, so that a longer one is seen to be too long.
-const ENOUGH: usize = 65537;
+const ENOUGH: usize = Case::LONGEST_FILE + 1;
 
 // More than the longest line.
 const LINE: usize = 32;

@@ -4,17 +4,13 @@ ghost use lib.ListN.{length};
 ghost use Rattle.model.specs.Case.{least-output, least-work};
 ghost use Rattle.desk.specs.Lines.{Shows};
 ghost use Rattle.loopfind.specs.Printing.{printed};
+use casefile::Case;
 use desk::Filled;
 use libc::STDIN_FILENO;
 use search::run_rounds;
 
 // One byte more than a case may have, so that a longer one is seen to be too long.
-const ENOUGH: usize = 65537;
-
-// What a run asks for.
-const OUTPUT: usize = 8192;
-
-const WORK: usize = 16384;
+const ENOUGH: usize = Case::LONGEST_FILE + 1;
 
 // What is to be printed of a case, at the output's front; its length.
 fn find(case: &[u8], output: &mut [u8], work: &mut [i32]) -> usize
@@ -29,8 +25,8 @@ fn find(case: &[u8], output: &mut [u8], work: &mut [i32]) -> usize
 }
 
 fn print_found(case: &[u8]) {
-    let mut output = [0u8; OUTPUT];
-    let mut work = [0i32; WORK];
+    let mut output = [0u8; Case::LEAST_OUTPUT];
+    let mut work = [0i32; Case::LEAST_WORK];
     let n = find(case, &mut output, &mut work);
     desk::print(&output[..n]);
 }

@@ -10,13 +10,14 @@ ghost use Rattle.desk.specs.Lines.{Shows};
 ghost use Rattle.looplist.specs.Printing.{head-room, printed};
 use acts::Listed;
 use acts::list_acts;
+use casefile::Case;
 use desk::Filled;
 use page::write_head;
 use search::run_list;
 use text::write::write_bytes;
 
 // One byte more than a case may have, so that a longer one is seen to be too long.
-const ENOUGH: usize = 65537;
+const ENOUGH: usize = Case::LONGEST_FILE + 1;
 
 // The most acts of a list: with its text, which has at most 10 bytes a line, what 8 MB of stack hold.
 const MOST_ACTS: usize = 400000;
@@ -25,12 +26,8 @@ const MOST_ACTS: usize = 400000;
 // specs/Listing.antt).
 const TEXT: usize = 4000001;
 
-// What a run asks for, and room for its answer behind the lines in front.
-const OUTPUT: usize = 8192;
-
-const WORK: usize = 16384;
-
-const PAGE: usize = 8256;
+// Room for an answer behind the lines in front.
+const PAGE: usize = Case::LEAST_OUTPUT + 64;
 
 // Which argument names which file.
 const CASE: usize = 1;
@@ -49,8 +46,8 @@ fn replay(case: &[u8], acts: &[u32], output: &mut [u8], work: &mut [i32], page: 
 }
 
 fn print_replay(case: &[u8], acts: &[u32]) {
-    let mut output = [0u8; OUTPUT];
-    let mut work = [0i32; WORK];
+    let mut output = [0u8; Case::LEAST_OUTPUT];
+    let mut work = [0i32; Case::LEAST_WORK];
     let mut page = [0u8; PAGE];
     let n = replay(case, acts, &mut output, &mut work, &mut page);
     desk::print(&page[..n]);
