@@ -1,5 +1,5 @@
 // Lines on standard output and standard error.
-ghost use Rattle.desk.specs.Lines.{refused-line, Puts};
+ghost use Rattle.desk.specs.Lines.{refused-parts, Chain};
 use libc::STDERR_FILENO;
 use libc::STDOUT_FILENO;
 use text::write::write_byte;
@@ -30,9 +30,9 @@ pub fn complain_argument(i: usize) {
     io::write_all(STDERR_FILENO, &argument[..n]);
 }
 
-// The line of a refusal at the buffer's front; its length.
+// The line of a refusal at the buffer's front; its length, or no room.
 pub fn write_refusal(buffer: &mut [u8], refusal: u32) -> usize
-    ensures { λ r. ⌜ Puts 0 (refused-line refusal) r (now (buffer .entry)) (now (buffer .exit)) ⌝ }
+    ensures { λ r. ⌜ Chain (refused-parts refusal) 0 r (now (buffer .entry)) (now (buffer .exit)) ⌝ }
 {
     let a = write_bytes(buffer, 0, b"refused ");
     let b = write_number(buffer, a, refusal);

@@ -1,4 +1,5 @@
 -- `write_checked`: the line of a refusal, or of either verdict.
+use Rattle.desk.proofs.Writing.{refused-puts}
 use Rattle.loopcheck.proofs.Printing.{writes-turned, writes-lasso, writes-empty}
 use borrow.Author.Needs.{needs}
 use Rattle.loopcheck.proofs.write_checked.Statement.{statement}
@@ -11,7 +12,7 @@ same-length : tie.Need-same-length
 same-length c = search needs
 
 returns : tie.Need-returns
-returns c = writes-turned _ _ (c .before .before .before .before .if1 .taken) (c .before .before .write-refusal .ensures)
+returns c = writes-turned _ _ (c .before .before .before .before .if1 .taken) (refused-puts _ (c .before .before .write-refusal .ensures))
 
 slice-aggregate-write-bytes : tie.Need-slice-aggregate-write-bytes
 slice-aggregate-write-bytes c = search needs

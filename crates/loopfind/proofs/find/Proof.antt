@@ -1,4 +1,5 @@
 -- `find`: the answer stands at the front already, or the line of the refusal is put there.
+use Rattle.desk.proofs.Writing.{refused-puts}
 use Rattle.loopfind.proofs.Printing.{found, turned}
 use borrow.Author.Needs.{needs}
 use Rattle.loopfind.proofs.find.Statement.{statement}
@@ -29,7 +30,7 @@ same-length-4 : tie.Need-same-length-4
 same-length-4 c = search needs
 
 returns-2 : tie.Need-returns-2
-returns-2 c = turned _ _ _ _ _ _ (c .before .before .before .before .before .before .before .before .before .before .before .before .before .before .pre .0) (c .before .before .before .before .before .before .before .before .before .before .before .before .before .before .pre .1) (c .before .before .before .before .before .before .before .before .before .run-rounds .ensures) (c .before .before .before .before .if1 .left) (c .before .before .write-refusal .ensures)
+returns-2 c = turned _ _ _ _ _ _ (c .before .before .before .before .before .before .before .before .before .before .before .before .before .before .pre .0) (c .before .before .before .before .before .before .before .before .before .before .before .before .before .before .pre .1) (c .before .before .before .before .before .before .before .before .before .run-rounds .ensures) (c .before .before .before .before .if1 .left) (refused-puts _ (c .before .before .write-refusal .ensures))
 
 pub find-spec : {M : Type 1} → statement M
 find-spec =

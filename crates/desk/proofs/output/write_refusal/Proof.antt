@@ -1,6 +1,6 @@
 -- `output::write_refusal`: three writers, one after the other.
 use borrow.Author.Needs.{needs}
-use Rattle.desk.proofs.Writing.{puts, puts-then, puts-as, refused-parts}
+use Rattle.desk.proofs.Writing.{chain-more, chain-last}
 use Rattle.desk.proofs.output.write_refusal.Statement.{statement}
 use Rattle.desk.proofs.output.write_refusal.Tie as tie
 
@@ -20,7 +20,7 @@ same-length : tie.Need-same-length
 same-length c = search needs
 
 returns : tie.Need-returns
-returns c = puts-as (refused-parts _) (puts-then (puts-then (puts (c .before .before .before .before .before .before .before .before .before .before .write-bytes .ensures)) (puts (c .before .before .before .before .before .before .write-number .ensures))) (puts (c .before .before .write-byte .ensures)))
+returns c = chain-more (c .before .before .before .before .before .before .before .before .before .before .write-bytes .ensures) (chain-more (c .before .before .before .before .before .before .write-number .ensures) (chain-last (c .before .before .write-byte .ensures)))
 
 pub write-refusal-spec : {M : Type 1} → statement M
 write-refusal-spec =
