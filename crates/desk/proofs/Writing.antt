@@ -33,7 +33,7 @@ puts-then {at} {bs} {cs} {r} {s} {o} {y} {z} p q = record { fits = λ h. go h (o
 pub puts-as : {at : ℕ} {bs cs : List ℕ} {r : ℕ} {o z : List ℕ} → bs ≡ cs → Puts at bs r o z → Puts at cs r o z
 puts-as e p = rw (← e) p
 
--- A CHAIN: one writer more in front of it
+-- A CHAIN of writers: one more in front
 pub chain-none : (at : ℕ) (o : List ℕ) → Chain [] at at o o
 unfolding chain-place chain-output
 chain-none at o = record { place = refl; output = refl }
@@ -54,6 +54,24 @@ chain-more {at} {p} {ps} {q} {r} {o} {y} {z} w c =
 
 pub chain-last : {at : ℕ} {p : List ℕ} {r : ℕ} {o z : List ℕ} → Writes at p r o z → Chain (p ∷ []) at r o z
 chain-last {r = r} {z = z} w = chain-more w (chain-none r z)
+
+-- one chain behind another
+place-then : (ps qs : List (List ℕ)) (at : ℕ) (o : List ℕ) → chain-place (ps ++ qs) at o ≡ chain-place qs (chain-place ps at o) (chain-output ps at o)
+unfolding chain-place chain-output
+place-then [] qs at o = refl
+place-then (p ∷ ps) qs at o = place-then ps qs (place-after at p o) (output-after at p o)
+
+output-then : (ps qs : List (List ℕ)) (at : ℕ) (o : List ℕ) → chain-output (ps ++ qs) at o ≡ chain-output qs (chain-place ps at o) (chain-output ps at o)
+unfolding chain-place chain-output
+output-then [] qs at o = refl
+output-then (p ∷ ps) qs at o = output-then ps qs (place-after at p o) (output-after at p o)
+
+pub chain-then : {ps qs : List (List ℕ)} {at q r : ℕ} {o y z : List ℕ} → Chain ps at q o y → Chain qs q r y z → Chain (ps ++ qs) at r o z
+chain-then {ps} {qs} {at} {q} {r} {o} {y} {z} c d =
+    record {
+      place = d .place ∙ rw (c .place, c .output) (sym (place-then ps qs at o));
+      output = d .output ∙ rw (c .place, c .output) (sym (output-then ps qs at o));
+    }
 
 -- where there is room for all its parts, they stand one behind the other
 puts-none : (at : ℕ) (o : List ℕ) → Puts at [] at o o
