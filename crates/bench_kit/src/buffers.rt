@@ -1,8 +1,6 @@
 // Buffers that are lent to a run: what they hold before it, and looking at what it left in them.
-ghost use mathlib.Core.Path.{_≡_};
-ghost use mathlib.Core.Bool.{true};
-ghost use Prim.Native.Nat.{ℕ, _<_, _≤_};
-ghost use lib.ListN.{length, getD};
+ghost use lib.ListN.{drop};
+ghost use Rattle.bench_kit.specs.Buffers.{mark, Front, All-are};
 
 // What the buffers hold before a run.
 pub const MARK: u8 = b'#';
@@ -10,7 +8,9 @@ pub const MARK: u8 = b'#';
 pub const CELL: i32 = 7;
 
 // The first bytes of a text, all of them where it has fewer.
-pub fn front(bytes: &[u8], size: usize) -> &[u8] {
+pub fn front(bytes: &[u8], size: usize) -> &[u8]
+    ensures { λ r. ⌜ Front (bytes .entry) size r ⌝ }
+{
     if size <= bytes.len() {
         &bytes[..size]
     } else {
@@ -19,7 +19,9 @@ pub fn front(bytes: &[u8], size: usize) -> &[u8] {
 }
 
 // The same of a list of acts.
-pub fn front_acts(acts: &[u32], size: usize) -> &[u32] {
+pub fn front_acts(acts: &[u32], size: usize) -> &[u32]
+    ensures { λ r. ⌜ Front (acts .entry) size r ⌝ }
+{
     if size <= acts.len() {
         &acts[..size]
     } else {
@@ -29,7 +31,7 @@ pub fn front_acts(acts: &[u32], size: usize) -> &[u32] {
 
 // Whether the bytes from a place on are as they were lent.
 pub fn untouched(output: &[u8], from: usize) -> bool
-    ensures { λ r. ⌜ (r ≡ true → (k : ℕ) → k < length (now (output .entry)) → from ≤ k → getD (now (output .entry)) k 0 ≡ 35) ⌝ }
+    ensures { λ r. ⌜ All-are mark (drop from (now (output .entry))) r ⌝ }
 {
     let mut i = from;
     while i < output.len() {
@@ -42,7 +44,9 @@ pub fn untouched(output: &[u8], from: usize) -> bool
 }
 
 // Whether every cell has this value.
-pub fn all_are(work: &[i32], value: i32) -> bool {
+pub fn all_are(work: &[i32], value: i32) -> bool
+    ensures { λ r. ⌜ All-are value (now (work .entry)) r ⌝ }
+{
     let mut i: usize = 0;
     while i < work.len() {
         if work[i] != value {

@@ -1,8 +1,7 @@
--- `buffers::front_acts`: the part lent has as many acts as asked for.
-use mathlib.Core.Path.{sym}
+-- `buffers::front_acts`: the part asked for, or the whole.
+use mathlib.Core.Path.{refl, sym}
 use native.Mathlib.Omega.{arith}
-use borrow.Author.Needs.{needs}
-use lib.Seq.{length-take-le}
+use lib.Seq.{length-take-le, take-all}
 use Rattle.bench_kit.proofs.buffers.front_acts.Statement.{statement}
 use Rattle.bench_kit.proofs.buffers.front_acts.Tie as tie
 
@@ -10,10 +9,10 @@ slice-aggregate-result : tie.Need-slice-aggregate-result
 slice-aggregate-result c = sym (length-take-le _ _ (omega arith))
 
 returns : tie.Need-returns
-returns c = search needs
+returns c = record { elements = refl; block = refl; offset = refl }
 
 returns-2 : tie.Need-returns-2
-returns-2 c = search needs
+returns-2 c = record { elements = sym (take-all (c .before .args .size) (c .before .args .acts .now) (omega arith)); block = refl; offset = refl }
 
 pub front-acts-spec : {M : Type 1} → statement M
 front-acts-spec = tie.close (tie.spec slice-aggregate-result returns returns-2)

@@ -1,0 +1,2 @@
+-- Laws of looking through a buffer.
+pub mod Scanning
