@@ -4,7 +4,7 @@ use bench_kit::buffers::front;
 use bench_kit::line::by_checker;
 
 // The same of the checker, which judges the whole case before the answer.
-pub fn checker_cases(wrong: u32) -> u32 {
+pub(crate) fn checker_cases(wrong: u32) -> u32 {
     let mut case = [b'x'; 65537];
     let answer = [b'x'; 65537];
     sizes::write_full(&mut case, 1, 0, 1, 0);
@@ -33,7 +33,7 @@ fn check_k4(wrong: u32, name: &[u8], answer: &[u8], refusal: u32) -> u32 {
 }
 
 // 12 for what such an answer holds, unless it is too long.
-pub fn checker_lengths(wrong: u32) -> u32 {
+pub(crate) fn checker_lengths(wrong: u32) -> u32 {
     let answer = [b'x'; 65537];
     let a = check_k4(
         wrong,
@@ -58,7 +58,7 @@ fn check_k1(wrong: u32, name: &[u8], answer: &[u8], refusal: u32, verdict: u32) 
 }
 
 // The answers of other kept runs, put to K1's case.
-pub fn checker_answers(wrong: u32) -> u32 {
+pub(crate) fn checker_answers(wrong: u32) -> u32 {
     let a = check_k1(
         wrong,
         b"check K1, its lasso",

@@ -6,7 +6,7 @@ use bench_kit::line::by_list;
 use bench_kit::line::by_rounds;
 
 // K1 by a list of acts.
-pub fn list_of_k1(
+pub(crate) fn list_of_k1(
     wrong: u32,
     name: &[u8],
     list: &[u32],
@@ -146,7 +146,7 @@ fn k11(wrong: u32) -> u32 {
 }
 
 // The whole table.
-pub fn table(wrong: u32) -> u32 {
+pub(crate) fn table(wrong: u32) -> u32 {
     let a = k5(k4(k3(k2(k1(wrong)))));
     let b = k9(k8(k7(k6(a))));
     k11(k10(b))

@@ -116,7 +116,7 @@ fn short_before_acts(wrong: u32) -> u32 {
     )
 }
 
-pub fn buffers(wrong: u32) -> u32 {
+pub(crate) fn buffers(wrong: u32) -> u32 {
     let a = short_work(short_output(least_buffers(wrong)));
     short_before_acts(short_before_all(a))
 }
@@ -223,7 +223,7 @@ fn too_many(wrong: u32, name: &[u8], n: u32, m: u32, workers: u32) -> u32 {
     rounds_of(wrong, name, front(&buffer, size), 5, NONE, 0, b"")
 }
 
-pub fn counts(wrong: u32) -> u32 {
+pub(crate) fn counts(wrong: u32) -> u32 {
     let a = ring_lists(ring_16(ring_500(wrong)));
     let b = full(a, b"2,000 edges", 1, 500);
     let c = full(b, b"16 workers, 2,000 edges", 16, 2372);
@@ -251,7 +251,7 @@ fn long_by_list(wrong: u32) -> u32 {
     by_act_5(a, b"65,537 bytes, by a list", &buffer, 1)
 }
 
-pub fn lengths(wrong: u32) -> u32 {
+pub(crate) fn lengths(wrong: u32) -> u32 {
     let a = long_file(wrong, b"65,536 bytes", 65536, 4);
     let b = long_file(a, b"65,537 bytes", 65537, 1);
     let c = rounds_of(long_by_list(b), b"empty file", b"", 2, NONE, 0, b"");

@@ -165,12 +165,12 @@ fn source_with_parent(wrong: u32) -> u32 {
     )
 }
 
-pub fn refusals_and_lists(wrong: u32) -> u32 {
+pub(crate) fn refusals_and_lists(wrong: u32) -> u32 {
     let a = edge_to_no_vertex(owner_too_large(wrong));
     by_one_act(by_whole_rounds(a))
 }
 
-pub fn shortcuts(wrong: u32) -> u32 {
+pub(crate) fn shortcuts(wrong: u32) -> u32 {
     let a = parted_offers(meeting_offers(late_offer(wrong)));
     source_with_parent(accepting_stem(a))
 }

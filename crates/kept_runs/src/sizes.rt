@@ -52,7 +52,7 @@ fn write_first_edges(out: &mut [u8], at: usize, n: u32, m: u32) -> usize {
 }
 
 // A ring whose last vertex is accepting; its length.
-pub fn write_ring(out: &mut [u8], n: u32, workers: u32) -> usize {
+pub(crate) fn write_ring(out: &mut [u8], n: u32, workers: u32) -> usize {
     let last = if n == 0 { 0 } else { n - 1 };
     let a = write_head(out, n, n, 0, workers);
     let b = write_vertices(out, a, n, workers, last);
@@ -61,7 +61,7 @@ pub fn write_ring(out: &mut [u8], n: u32, workers: u32) -> usize {
 }
 
 // n vertices and the first m edges of the complete graph; its length.
-pub fn write_full(out: &mut [u8], n: u32, m: u32, workers: u32, accepting: u32) -> usize {
+pub(crate) fn write_full(out: &mut [u8], n: u32, m: u32, workers: u32, accepting: u32) -> usize {
     let a = write_head(out, n, m, 0, workers);
     let b = write_vertices(out, a, n, workers, accepting);
     let c = write_bytes(out, b, b"from to\n");
@@ -91,7 +91,7 @@ fn write_zero_lines(out: &mut [u8], at: usize, n: u32) -> usize {
 }
 
 // The lasso of a ring of 500: no stem, and all edges.
-pub fn write_ring_answer(out: &mut [u8]) -> usize {
+pub(crate) fn write_ring_answer(out: &mut [u8]) -> usize {
     let a = write_bytes(
         out,
         0,
@@ -101,7 +101,7 @@ pub fn write_ring_answer(out: &mut [u8]) -> usize {
 }
 
 // All of 500 vertices reached, at distance 0.
-pub fn write_full_answer(out: &mut [u8]) -> usize {
+pub(crate) fn write_full_answer(out: &mut [u8]) -> usize {
     let a = write_bytes(
         out,
         0,
@@ -116,7 +116,7 @@ fn round_act(i: usize) -> u32 {
 }
 
 // Whole rounds of K1, as far as the list goes.
-pub fn put_rounds(acts: &mut [u32]) {
+pub(crate) fn put_rounds(acts: &mut [u32]) {
     let mut i: usize = 0;
     while i < acts.len() {
         acts[i] = round_act(i);
@@ -130,7 +130,7 @@ fn ring_act(i: usize) -> u32 {
     if i % 2 == 0 { v % 16 } else { 16 + v }
 }
 
-pub fn put_ring_acts(acts: &mut [u32]) {
+pub(crate) fn put_ring_acts(acts: &mut [u32]) {
     let mut i: usize = 0;
     while i < acts.len() {
         acts[i] = ring_act(i);

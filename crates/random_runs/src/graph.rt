@@ -6,45 +6,45 @@ use bench_kit::rows::write_row3;
 use text::write::write_bytes;
 
 // The next number of the sequence; none is 0 if the first is not.
-pub fn next(x: u32) -> u32 {
+pub(crate) fn next(x: u32) -> u32 {
     let a = x ^ (x << 13);
     let b = a ^ (a >> 17);
     b ^ (b << 5)
 }
 
 // A number below the limit, or 0 where that is 0.
-pub fn below(x: u32, limit: usize) -> usize
+pub(crate) fn below(x: u32, limit: usize) -> usize
     ensures { λ r. ⌜ r ≤ limit ⌝ }
 {
     if limit == 0 { 0 } else { x as usize % limit }
 }
 
-pub fn wide(b: u8) -> u32 {
+pub(crate) fn wide(b: u8) -> u32 {
     b as u32
 }
 
 // A number that is small here, in fewer bits.
-pub fn small(i: usize) -> u32 {
+pub(crate) fn small(i: usize) -> u32 {
     if i < 65536 { i as u32 } else { 0 }
 }
 
-pub fn byte(i: usize) -> u8 {
+pub(crate) fn byte(i: usize) -> u8 {
     if i < 256 { i as u8 } else { 0 }
 }
 
 // A byte of a table, 0 past its end.
-pub fn get(table: &[u8], i: usize) -> u8 {
+pub(crate) fn get(table: &[u8], i: usize) -> u8 {
     if i < table.len() { table[i] } else { 0 }
 }
 
-pub fn put(table: &mut [u8], i: usize, b: u8) {
+pub(crate) fn put(table: &mut [u8], i: usize, b: u8) {
     if i < table.len() {
         table[i] = b;
     }
 }
 
 // Where the matrix has the edge from v to w.
-pub fn place(v: usize, w: usize) -> usize {
+pub(crate) fn place(v: usize, w: usize) -> usize {
     if 128 <= v {
         return 0;
     }
@@ -55,7 +55,7 @@ pub fn place(v: usize, w: usize) -> usize {
 }
 
 // So many edges between vertices below n, some perhaps the same; the number that the sequence has come to.
-pub fn draw_edges(edges: &mut [u8], n: usize, draws: usize, seed: u32) -> u32 {
+pub(crate) fn draw_edges(edges: &mut [u8], n: usize, draws: usize, seed: u32) -> u32 {
     let mut x = seed;
     let mut i: usize = 0;
     while i < draws {
@@ -72,7 +72,7 @@ fn mark(x: u32, share: usize) -> u8 {
 }
 
 // Marks for the vertices below n, so many in a hundred.
-pub fn draw_marks(marks: &mut [u8], n: usize, share: usize, seed: u32) -> u32 {
+pub(crate) fn draw_marks(marks: &mut [u8], n: usize, share: usize, seed: u32) -> u32 {
     let mut x = seed;
     let mut v: usize = 0;
     while v < n {
@@ -84,7 +84,7 @@ pub fn draw_marks(marks: &mut [u8], n: usize, share: usize, seed: u32) -> u32 {
 }
 
 // Owners for the vertices below n.
-pub fn draw_owners(owners: &mut [u8], n: usize, workers: usize, seed: u32) -> u32 {
+pub(crate) fn draw_owners(owners: &mut [u8], n: usize, workers: usize, seed: u32) -> u32 {
     let mut x = seed;
     let mut v: usize = 0;
     while v < n {
@@ -96,7 +96,7 @@ pub fn draw_owners(owners: &mut [u8], n: usize, workers: usize, seed: u32) -> u3
 }
 
 // Acts below the limit.
-pub fn draw_acts(acts: &mut [u32], limit: usize, seed: u32) -> u32 {
+pub(crate) fn draw_acts(acts: &mut [u32], limit: usize, seed: u32) -> u32 {
     let mut x = seed;
     let mut i: usize = 0;
     while i < acts.len() {
@@ -117,7 +117,7 @@ fn more(count: usize, edge: u8) -> usize
 }
 
 // How many edges the matrix has.
-pub fn count_edges(edges: &[u8]) -> usize
+pub(crate) fn count_edges(edges: &[u8]) -> usize
     ensures { λ r. ⌜ r ≤ 16384 ⌝ }
 {
     let mut count: usize = 0;
@@ -166,7 +166,7 @@ fn write_edges(out: &mut [u8], at: usize, edges: &[u8]) -> usize {
 }
 
 // The whole case; its length.
-pub fn write_case(
+pub(crate) fn write_case(
     out: &mut [u8],
     n: usize,
     source: usize,

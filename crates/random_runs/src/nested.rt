@@ -97,7 +97,7 @@ fn any_closes(edges: &[u8], marks: &[u8], seen: &[u8], n: usize) -> bool {
 }
 
 // Whether the graph has a lasso.
-pub fn has_lasso(edges: &[u8], marks: &[u8], n: usize, source: usize) -> bool {
+pub(crate) fn has_lasso(edges: &[u8], marks: &[u8], n: usize, source: usize) -> bool {
     let mut seen = [0u8; 128];
     search(edges, n, source, &mut seen);
     put(&mut seen, source, 1);

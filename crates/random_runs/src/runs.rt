@@ -35,7 +35,7 @@ pub const DAMAGED_REFUSED: usize = 1;
 pub const DAMAGED_PASSED: usize = 2;
 
 // Where the total of this kind stands, among those that start at a place; past all of them where it is no kind.
-pub fn total(start: usize, kind: usize) -> usize {
+pub(crate) fn total(start: usize, kind: usize) -> usize {
     if 64 <= start {
         return NOT_RUN;
     }
@@ -50,7 +50,7 @@ fn more(t: u32) -> u32 {
 }
 
 // One more in the total of this kind, among those that start at a place.
-pub fn count(totals: &mut [u32], start: usize, kind: usize) {
+pub(crate) fn count(totals: &mut [u32], start: usize, kind: usize) {
     let i = total(start, kind);
     if i < totals.len() {
         totals[i] = more(totals[i]);
@@ -89,20 +89,20 @@ fn judged(case: &[u8], o: Outcome, want: u32, one: &[u8], output: &[u8], work: &
 }
 
 // A run by rounds into an output that holds marks; the answer's length.
-pub fn first_run(case: &[u8], output: &mut [u8]) -> usize {
+pub(crate) fn first_run(case: &[u8], output: &mut [u8]) -> usize {
     let mut work = [CELL; 16384];
     let o = run_rounds(case, output, &mut work);
     o.written as usize
 }
 
-pub fn by_rounds(case: &[u8], want: u32, one: &[u8]) -> usize {
+pub(crate) fn by_rounds(case: &[u8], want: u32, one: &[u8]) -> usize {
     let mut output = [MARK; 8192];
     let mut work = [CELL; 16384];
     let o = run_rounds(case, &mut output, &mut work);
     judged(case, o, want, one, &output, &work)
 }
 
-pub fn by_list(case: &[u8], acts: &[u32], want: u32, one: &[u8]) -> usize {
+pub(crate) fn by_list(case: &[u8], acts: &[u32], want: u32, one: &[u8]) -> usize {
     let mut output = [MARK; 8192];
     let mut work = [CELL; 16384];
     let o = run_list(case, acts, &mut output, &mut work);
@@ -119,7 +119,7 @@ fn other_byte(x: u32) -> u8 {
 }
 
 // What the checker says of the answer with one byte drawn anew: never the other verdict.
-pub fn damaged(case: &[u8], answer: &[u8], want: u32, seed: u32) -> usize {
+pub(crate) fn damaged(case: &[u8], answer: &[u8], want: u32, seed: u32) -> usize {
     let mut copy = [0u8; 8192];
     let size = answer.len();
     write_bytes(&mut copy, 0, answer);
