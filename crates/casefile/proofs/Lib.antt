@@ -4,3 +4,4 @@ pub mod Refusals
 pub mod Blocks
 pub mod Whole
 pub mod Loading
+pub mod Tables

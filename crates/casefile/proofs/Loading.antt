@@ -71,7 +71,7 @@ edge-at m (suc k) (l ∷ ls) (suc j) h g = edge-at m k ls j (omega arith) g
 
 -- a row of numbers stands where its line does
 row : (s : List ℕ) (i : ℕ) (vs : List ℕ) → numbers-line (length vs) (line-at (lines s) i) ≡ true → ((k : ℕ) → k < length vs → number-at (line-at (lines s) i) k ≡ getD vs k 0) → Row s (skip i s 0) vs (skip (i + 1) s 0)
-row s i vs l v = record { line = rw (skip-line i s) l; are = λ k h. rw (skip-line i s) (v k h); past = sym (skip-last i s 0) }
+row s i vs l v = record { line = rw (skip-line i s 0) l; are = λ k h. rw (skip-line i s 0) (v k h); past = sym (skip-last i s 0) }
 
 -- what an accepted text's parts are
 record Parts (s : List ℕ) : Type 0 where
@@ -86,7 +86,7 @@ parts s a =
     let r6 = first-zero _ _ (first-zero _ _ r4 .1) .1 in
     record { vertices = first-zero _ _ r6 .0; edges = first-zero _ _ (first-zero _ _ (first-zero _ _ r6 .1) .1) .0 }
 
-drop-line : (k : ℕ) (ls : List Line) (j : ℕ) → line-at (drop k ls) j ≡ line-at ls (k + j)
+pub drop-line : (k : ℕ) (ls : List Line) (j : ℕ) → line-at (drop k ls) j ≡ line-at ls (k + j)
 unfolding line-at
 drop-line k ls j = getD-drop k ls j (open-line [])
 

@@ -38,6 +38,6 @@ skip-lines zero s at = refl
 skip-lines (suc k) s at = skip-lines k s (past-line s at) ∙ ap (λ (ls : List Line). drop k ls) (past-lines s at) ∙ drop-drop k 1 (lines (drop at s)) ∙ ap (λ (j : ℕ). drop j (lines (drop at s))) (let z : 1 + k ≡ suc k = omega arith in z)
 
 -- the line that starts there
-pub skip-line : (k : ℕ) (s : List ℕ) → line-here s (skip k s 0) ≡ line-at (lines s) k
+pub skip-line : (k : ℕ) (s : List ℕ) (at : ℕ) → line-here s (skip k s at) ≡ line-at (lines (drop at s)) k
 unfolding line-at
-skip-line k s = ap (λ (ls : List Line). line-at ls 0) (skip-lines k s 0) ∙ rw (getD-drop, add-zero k) refl
+skip-line k s at = ap (λ (ls : List Line). line-at ls 0) (skip-lines k s at) ∙ rw (getD-drop, add-zero k) refl

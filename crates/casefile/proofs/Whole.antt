@@ -73,7 +73,7 @@ pub record Counted (s : List ℕ) (n m u p : ℕ) : Type 0 where
 
 pub counted : {s : List ℕ} {a n m u p z : ℕ} → Row s (skip 1 s 0) (a ∷ n ∷ m ∷ u ∷ p ∷ []) z → Counted s n m u p
 counted {s} r =
-    let e : line-here s (skip 1 s 0) ≡ line-at (lines s) 1 = skip-line 1 s in
+    let e : line-here s (skip 1 s 0) ≡ line-at (lines s) 1 = skip-line 1 s 0 in
     record {
       vertices = rw e at (r .are 1 (omega arith));
       edges = rw e at (r .are 2 (omega arith));
@@ -104,7 +104,7 @@ module _ {s : List ℕ} (o : Opened s) where
     second = sym (named .past) ∙ sym (skip-one s 0)
 
     line-2 : line-here s z ≡ line-at (lines s) 1
-    line-2 = rw second (skip-line 1 s)
+    line-2 = rw second (skip-line 1 s 0)
 
     pub head-torn : No-row 5 s z → Bad-head 4 ≡ head-says s
     head-torn b = head-4 s (o .short) (o .begun) (o .version) (both-false (line-is head-names (line-at (lines s) 0)) (rw line-2 at (b .none)))
@@ -120,7 +120,7 @@ module _ {s : List ℕ} (o : Opened s) where
       head-miscounted g = head-5 s (o .short) (o .begun) (o .version) laid (counts-are counts ∙ g)
 
       line-3 : line-here s y ≡ line-at (lines s) 2
-      line-3 = rw (← r .past, second, ← skip-last 1 s 0) (skip-line 2 s)
+      line-3 = rw (← r .past, second, ← skip-last 1 s 0) (skip-line 2 s 0)
 
       pub head-untitled : counts-in-range n m u p ≡ true → line-is vertex-names (line-here s y) ≡ false → Bad-head 4 ≡ head-says s
       head-untitled g b = head-names-4 s (o .short) (o .begun) (o .version) laid (counts-are counts ∙ g) (rw line-3 at b)
@@ -206,7 +206,7 @@ module _ {s : List ℕ} {n m u p rows : ℕ} (h : Headed s n m u p rows) where
   after-head = case-split s ∙ (rw (h .right) (unfold first-of in tail))
     where
       tail : first-of (after-3 s) ≡ first-of (vertices-refusal n 0 p (lines (drop rows s)) ∷ refuse (not (line-is edge-names (line-here s (skip n s rows)))) 4 ∷ edges-refusal m n none (lines (drop (skip (4 + n) s 0) s)) ∷ refuse (ltb (4 + n + m) (length (lines s))) 4 ∷ [])
-      tail = unfold after-3 in (rw (← h .place, h .counts .vertices, h .counts .edges, h .counts .workers, skip-lines 3 s 0, skip-lines (4 + n) s 0, ← skip-add 3 n s 0, skip-line (3 + n) s) refl)
+      tail = unfold after-3 in (rw (← h .place, h .counts .vertices, h .counts .edges, h .counts .workers, skip-lines 3 s 0, skip-lines (4 + n) s 0, ← skip-add 3 n s 0, skip-line (3 + n) s 0) refl)
 
   -- a fault in the blocks, by the first that has one
   pub vertices-refused : (k : ℕ) → Bad-block k ≡ block-says (vertices-refusal n 0 p (lines (drop rows s))) n s rows → Refused k ≡ judged s
@@ -221,7 +221,7 @@ module _ {s : List ℕ} {n m u p rows : ℕ} (h : Headed s n m u p rows) where
         judged-refused s 4 (after-head ∙ (rw (r .0, r .1, b) (unfold refuse first-of in refl))) (λ z. omega arith)
 
     module _ (rest : ℕ) (named : Line-named s q edge-names rest) where
-      rest-place : rest ≡ skip (4 + n) s 0
+      pub rest-place : rest ≡ skip (4 + n) s 0
       rest-place = sym (named .past) ∙ (rw (block-good _ n s rows q v .1) at edges-place)
 
       after-names : case-refusal s ≡ first-of (edges-refusal m n none (lines (drop (rest) s)) ∷ refuse (ltb (4 + n + m) (length (lines s))) 4 ∷ [])
@@ -266,7 +266,7 @@ module _ {s : List ℕ} {n m u p rows : ℕ} (h : Headed s n m u p rows) where
 
 -- THE VERSION: line 2's first field
 version-field : (s : List ℕ) (z : ℕ) → z ≡ past-line s 0 → field-here s z ≡ field (line-at (lines s) 1) 0
-version-field s z e = ap (λ (l : Line). field l 0) (rw (e, ← skip-one s 0) (skip-line 1 s))
+version-field s z e = ap (λ (l : Line). field l 0) (rw (e, ← skip-one s 0) (skip-line 1 s 0))
 
 pub version-none : (s : List ℕ) {z : ℕ} {r : Number} → z ≡ past-line s 0 → r ≡ field-number-here s z → r ≡ Not → false ≡ other-version (lines s)
 unfolding other-version

@@ -1,2 +1,4 @@
 -- What the case file's reader answers.
 pub mod Judging
+-- What it puts into tables.
+pub mod Tables

@@ -1,13 +1,14 @@
-// The case file's reader: refusals 1 to 8 or the case, judged in one pass over the lent text; no buffer is written.
-// Contracts cite specs/Judging.antt.
+// The case file's reader: refusals 1 to 8 or the case, judged in one pass over the lent text. What it reads on the way goes
+// into tables of the caller's, as far as they have room. Contracts cite specs/Judging.antt and specs/Tables.antt.
 ghost use mathlib.Core.Path.{_≡_};
 ghost use mathlib.Core.Bool.{_&&_};
 ghost use mathlib.Core.Option.{none};
 ghost use lib.Dec.{ltb, eqb};
-ghost use lib.ListN.{drop};
+ghost use lib.ListN.{drop, set};
 ghost use Rattle.text.specs.Lines.{lines};
 ghost use Rattle.model.specs.CaseFile.{other-version, rises, vertices-refusal, edges-refusal};
-ghost use Rattle.casefile.specs.Judging.{counts-in-range, edge-before, block-says, head-says, judged};
+ghost use Rattle.casefile.specs.Judging.{counts-in-range, edge-before, head-says, judged};
+ghost use Rattle.casefile.specs.Tables.{Block-read, Case-read};
 use text::read::Named;
 use text::read::Number;
 use text::read::Row2;
@@ -125,6 +126,16 @@ fn read_head(text: &[u8]) -> Head
     )
 }
 
+// Puts a value into a table that has room for it.
+fn put(table: &mut [u32], i: usize, value: u32)
+    ensures { λ r. ⌜ now (table .exit) ≡ set (now (table .entry)) i value ⌝ }
+{
+    if table.len() <= i {
+        return;
+    }
+    table[i] = value;
+}
+
 // A block of lines: the refusal, or the place past it.
 enum Block {
     Refused(u32),
@@ -144,9 +155,16 @@ fn vertex_right(v: usize, workers: usize, vertex: u32, mark: u32, owner: u32) ->
     (owner as usize) < workers
 }
 
-// The lines of n vertices from `at` on.
-fn vertex_block(text: &[u8], at: usize, n: usize, workers: usize) -> Block
-    ensures { λ r. ⌜ r ≡ block-says (vertices-refusal n 0 workers (lines (drop at (now (text .entry))))) n (now (text .entry)) at ⌝ }
+// The lines of n vertices from `at` on: their marks and owners.
+fn vertex_block(
+    text: &[u8],
+    at: usize,
+    n: usize,
+    workers: usize,
+    marks: &mut [u32],
+    owners: &mut [u32],
+) -> Block
+    ensures { λ r. ⌜ Block-read (vertices-refusal n 0 workers (lines (drop at (now (text .entry))))) n (now (text .entry)) at 1 2 r (now (marks .entry)) (now (marks .exit)) (now (owners .entry)) (now (owners .exit)) ⌝ }
 {
     let mut here = at;
     let mut v: usize = 0;
@@ -157,6 +175,8 @@ fn vertex_block(text: &[u8], at: usize, n: usize, workers: usize) -> Block
         if !vertex_right(v, workers, vertex, mark, owner) {
             return Block::Refused(6);
         }
+        put(marks, v, mark);
+        put(owners, v, owner);
         here = next;
         v += 1;
     }
@@ -179,9 +199,16 @@ fn rising(e: usize, f: u32, t: u32, from: u32, to: u32) -> bool
     false
 }
 
-// The lines of m edges from `at` on.
-fn edge_block(text: &[u8], at: usize, m: usize, n: usize) -> Block
-    ensures { λ r. ⌜ r ≡ block-says (edges-refusal m n none (lines (drop at (now (text .entry))))) m (now (text .entry)) at ⌝ }
+// The lines of m edges from `at` on: their two ends.
+fn edge_block(
+    text: &[u8],
+    at: usize,
+    m: usize,
+    n: usize,
+    froms: &mut [u32],
+    tos: &mut [u32],
+) -> Block
+    ensures { λ r. ⌜ Block-read (edges-refusal m n none (lines (drop at (now (text .entry))))) m (now (text .entry)) at 0 1 r (now (froms .entry)) (now (froms .exit)) (now (tos .entry)) (now (tos .exit)) ⌝ }
 {
     let mut here = at;
     let mut e: usize = 0;
@@ -200,6 +227,8 @@ fn edge_block(text: &[u8], at: usize, m: usize, n: usize) -> Block
         if !rising(e, before_from, before_to, from, to) {
             return Block::Refused(8);
         }
+        put(froms, e, from);
+        put(tos, e, to);
         before_from = from;
         before_to = to;
         here = next;
@@ -209,15 +238,26 @@ fn edge_block(text: &[u8], at: usize, m: usize, n: usize) -> Block
 }
 
 // The lines after line 3, of a text whose first three are right.
-fn read_body(text: &[u8], n: usize, m: usize, source: usize, workers: usize, rows: usize) -> Judged
+fn read_body(
+    text: &[u8],
+    n: usize,
+    m: usize,
+    source: usize,
+    workers: usize,
+    rows: usize,
+    marks: &mut [u32],
+    owners: &mut [u32],
+    froms: &mut [u32],
+    tos: &mut [u32],
+) -> Judged
     requires { ⌜ head-says (now text) ≡ Head.Counts n m source workers rows ⌝ }
-    ensures { λ r. ⌜ r ≡ judged (now (text .entry)) ⌝ }
+    ensures { λ r. ⌜ Case-read (now (text .entry)) r (now (marks .entry)) (now (marks .exit)) (now (owners .entry)) (now (owners .exit)) (now (froms .entry)) (now (froms .exit)) (now (tos .entry)) (now (tos .exit)) ⌝ }
 {
-    match vertex_block(text, rows, n, workers) {
+    match vertex_block(text, rows, n, workers, marks, owners) {
         Block::Refused(k) => Judged::Refused(k),
         Block::Past(names) => match name_line(text, names, b"from to") {
             Named::Other => Judged::Refused(4),
-            Named::Past(edge_rows) => match edge_block(text, edge_rows, m, n) {
+            Named::Past(edge_rows) => match edge_block(text, edge_rows, m, n, froms, tos) {
                 Block::Refused(k) => Judged::Refused(k),
                 Block::Past(end) => {
                     if end < text.len() {
@@ -237,12 +277,37 @@ fn read_body(text: &[u8], n: usize, m: usize, source: usize, workers: usize, row
     }
 }
 
-// Judges a whole text as a case file.
-pub fn judge(text: &[u8]) -> Judged
-    ensures { λ r. ⌜ r ≡ judged (now (text .entry)) ⌝ }
+// Judges a whole text as a case file, and puts what its lines say into the tables: the mark and the owner of each vertex,
+// both ends of each edge.
+pub fn read_case(
+    text: &[u8],
+    marks: &mut [u32],
+    owners: &mut [u32],
+    froms: &mut [u32],
+    tos: &mut [u32],
+) -> Judged
+    ensures { λ r. ⌜ Case-read (now (text .entry)) r (now (marks .entry)) (now (marks .exit)) (now (owners .entry)) (now (owners .exit)) (now (froms .entry)) (now (froms .exit)) (now (tos .entry)) (now (tos .exit)) ⌝ }
 {
     match read_head(text) {
         Head::Refused(k) => Judged::Refused(k),
-        Head::Counts(n, m, source, workers, rows) => read_body(text, n, m, source, workers, rows),
+        Head::Counts(n, m, source, workers, rows) => read_body(
+            text,
+            n,
+            m,
+            source,
+            workers,
+            rows,
+            marks,
+            owners,
+            froms,
+            tos,
+        ),
     }
+}
+
+// Judges a whole text as a case file; tables without room keep nothing of it.
+pub fn judge(text: &[u8]) -> Judged
+    ensures { λ r. ⌜ r ≡ judged (now (text .entry)) ⌝ }
+{
+    read_case(text, &mut [], &mut [], &mut [], &mut [])
 }

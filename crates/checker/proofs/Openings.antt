@@ -80,7 +80,7 @@ module _ (s : List ℕ) (short : length s ≤ longest-file) where
 
       module _ {z : ℕ} (named : Line-named s 0 answer-names z) where
         line-2 : line-here s z ≡ line-at (lines s) 1
-        line-2 = rw (sym (named .past) ∙ sym (skip-one s 0)) (skip-line 1 s)
+        line-2 = rw (sym (named .past) ∙ sym (skip-one s 0)) (skip-line 1 s 0)
 
         pub unheaded : head-layout (line-here s z) ≡ false → Refused 12 ≡ opening s
         unheaded h = mislaid (rw (rw line-2 at h, and-false) refl)
@@ -167,7 +167,7 @@ fewer k n = go (ltb (3 + k) n) refl
 
 module _ (s : List ℕ) {z : ℕ} (place : skip 2 s 0 ≡ z) where
   line-3 : line-here s z ≡ line-at (lines s) 2
-  line-3 = rw (← place) (skip-line 2 s)
+  line-3 = rw (← place) (skip-line 2 s 0)
 
   after-3 : {names : List ℕ} {rows : ℕ} → Line-named s z names rows → lines (drop rows s) ≡ drop 3 (lines s)
   after-3 {names} {rows} n =

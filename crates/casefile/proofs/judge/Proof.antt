@@ -1,29 +1,33 @@
--- `casefile::judge`: the first three lines decide, then the rest.
-use mathlib.Core.Path.{sym, _∙_}
-use Rattle.casefile.proofs.Whole.{head-judged}
+-- `casefile::judge`: the reader's answer.
 use borrow.Author.Needs.{needs}
 use Rattle.casefile.proofs.judge.Statement.{statement}
 use Rattle.casefile.proofs.judge.Tie as tie
 
-read-head-requires : tie.Need-read-head-requires
-read-head-requires c κs = search needs
+slice-aggregate-read-case : tie.Need-slice-aggregate-read-case
+slice-aggregate-read-case c = search needs
 
-enum-known-k : tie.Need-enum-known-k
-enum-known-k c = search needs
+slice-aggregate-read-case-2 : tie.Need-slice-aggregate-read-case-2
+slice-aggregate-read-case-2 c = search needs
 
-enum-known-n : tie.Need-enum-known-n
-enum-known-n c = search needs
+slice-aggregate-read-case-3 : tie.Need-slice-aggregate-read-case-3
+slice-aggregate-read-case-3 c = search needs
 
-read-body-requires : tie.Need-read-body-requires
-read-body-requires c κs = sym (c .before .before .before .read-head .ensures) ∙ c .before .n .given .1
+slice-aggregate-read-case-4 : tie.Need-slice-aggregate-read-case-4
+slice-aggregate-read-case-4 c = search needs
+
+read-case-requires : tie.Need-read-case-requires
+read-case-requires c κs = search needs
 
 returns : tie.Need-returns
-returns c = head-judged _ _ (sym (c .before .k .given .1) ∙ c .before .before .before .read-head .ensures)
-
-returns-2 : tie.Need-returns-2
-returns-2 c = search needs
+returns c = c .before .before .before .before .read-case .ensures .answer
 
 pub judge-spec : {M : Type 1} → statement M
 judge-spec =
     tie.close
-    (tie.spec read-head-requires enum-known-k enum-known-n read-body-requires returns returns-2)
+    (tie.spec
+    slice-aggregate-read-case
+    slice-aggregate-read-case-2
+    slice-aggregate-read-case-3
+    slice-aggregate-read-case-4
+    read-case-requires
+    returns)

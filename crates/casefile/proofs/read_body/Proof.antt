@@ -2,7 +2,8 @@
 use mathlib.Core.Path.{refl, sym, _∙_}
 use Rattle.text.proofs.Reading.{named-read, named-other}
 use Rattle.model.specs.CaseFile.{edge-names}
-use Rattle.casefile.proofs.Whole.{headed, vertices-refused, names-refused, edges-refused, end-refused, all-accepted}
+use Rattle.casefile.proofs.Whole.{headed, rest-place, vertices-refused, names-refused, edges-refused, end-refused, all-accepted}
+use Rattle.casefile.proofs.Tables.{all-taken, rows-read, case-read}
 use borrow.Author.Needs.{needs}
 use Rattle.casefile.proofs.read_body.Statement.{statement}
 use Rattle.casefile.proofs.read_body.Tie as tie
@@ -37,20 +38,93 @@ enum-known-k-2 c = search needs
 enum-known-end : tie.Need-enum-known-end
 enum-known-end c = search needs
 
+same-length : tie.Need-same-length
+same-length c = search needs
+
+same-length-2 : tie.Need-same-length-2
+same-length-2 c = search needs
+
+same-length-3 : tie.Need-same-length-3
+same-length-3 c = search needs
+
+same-length-4 : tie.Need-same-length-4
+same-length-4 c = search needs
+
 returns : tie.Need-returns
-returns c = end-refused (headed _ _ _ _ _ _ (c .before .before .before .before .before .before .before .before .before .before .before .before .before .before .before .pre)) _ (sym (c .before .before .before .before .before .before .before .before .before .before .before .names .given .1) ∙ c .before .before .before .before .before .before .before .before .before .before .before .before .before .vertex-block .ensures) _ (named-read refl (c .before .before .before .before .before .before .before .before .name-line .ensures) (c .before .before .before .before .before .before .edge-rows .given .1)) _ (sym (c .before .before .end .given .1) ∙ c .before .before .before .before .edge-block .ensures) (c .if1 .taken)
+returns c =
+    let h = headed _ _ _ _ _ _ (c .before .before .before .before .before .before .before .before .before .before .before .before .before .before .before .before .before .before .before .before .before .before .before .before .before .before .before .before .before .before .before .pre) in
+    let v = c .before .before .before .before .before .before .before .before .before .before .before .before .before .before .before .before .before .before .before .before .before .before .before .vertex-block .ensures in
+    let past = sym (c .before .before .before .before .before .before .before .before .before .before .before .before .before .before .before .before .before .names .given .1) ∙ v .answer in
+    let named = named-read refl (c .before .before .before .before .before .before .before .before .before .before .before .before .before .before .name-line .ensures) (c .before .before .before .before .before .before .before .before .before .before .before .before .edge-rows .given .1) in
+    let g = c .before .before .before .before .before .before .before .before .edge-block .ensures in
+    case-read h v (rest-place h _ past _ named) g (end-refused h _ past _ named _ (sym (c .before .before .end .given .1) ∙ g .answer) (c .if1 .taken)) tt
+
+same-length-5 : tie.Need-same-length-5
+same-length-5 c = search needs
+
+same-length-6 : tie.Need-same-length-6
+same-length-6 c = search needs
 
 returns-2 : tie.Need-returns-2
-returns-2 c = vertices-refused (headed _ _ _ _ _ _ (c .before .before .before .before .before .pre)) _ (sym (c .before .k .given .1) ∙ c .before .before .before .vertex-block .ensures)
+returns-2 c =
+    let h = headed _ _ _ _ _ _ (c .before .before .before .before .before .before .before .before .before .before .before .before .before .before .before .pre) in
+    let v = c .before .before .before .before .before .before .before .vertex-block .ensures in
+    rows-read h v (vertices-refused h _ (sym (c .before .k .given .1) ∙ v .answer)) _ _
+
+same-length-7 : tie.Need-same-length-7
+same-length-7 c = search needs
+
+same-length-8 : tie.Need-same-length-8
+same-length-8 c = search needs
 
 returns-3 : tie.Need-returns-3
-returns-3 c = names-refused (headed _ _ _ _ _ _ (c .before .before .before .before .before .before .before .before .before .pre)) _ (sym (c .before .before .before .before .before .names .given .1) ∙ c .before .before .before .before .before .before .before .vertex-block .ensures) (named-other edge-names _ _ refl (c .before .before .name-line .ensures) (c .enum-told .given .1))
+returns-3 c =
+    let h = headed _ _ _ _ _ _ (c .before .before .before .before .before .before .before .before .before .before .before .before .before .before .before .before .before .before .before .pre) in
+    let v = c .before .before .before .before .before .before .before .before .before .before .before .vertex-block .ensures in
+    let past = sym (c .before .before .before .before .before .names .given .1) ∙ v .answer in
+    rows-read h v (names-refused h _ past (named-other edge-names _ _ refl (c .before .before .name-line .ensures) (c .enum-told .given .1))) _ _
+
+same-length-9 : tie.Need-same-length-9
+same-length-9 c = search needs
+
+same-length-10 : tie.Need-same-length-10
+same-length-10 c = search needs
+
+same-length-11 : tie.Need-same-length-11
+same-length-11 c = search needs
+
+same-length-12 : tie.Need-same-length-12
+same-length-12 c = search needs
 
 returns-4 : tie.Need-returns-4
-returns-4 c = edges-refused (headed _ _ _ _ _ _ (c .before .before .before .before .before .before .before .before .before .before .before .before .before .before .pre)) _ (sym (c .before .before .before .before .before .before .before .before .before .before .names .given .1) ∙ c .before .before .before .before .before .before .before .before .before .before .before .before .vertex-block .ensures) _ (named-read refl (c .before .before .before .before .before .before .before .name-line .ensures) (c .before .before .before .before .before .edge-rows .given .1)) _ (sym (c .before .k2 .given .1) ∙ c .before .before .before .edge-block .ensures)
+returns-4 c =
+    let h = headed _ _ _ _ _ _ (c .before .before .before .before .before .before .before .before .before .before .before .before .before .before .before .before .before .before .before .before .before .before .before .before .before .before .before .before .before .before .pre) in
+    let v = c .before .before .before .before .before .before .before .before .before .before .before .before .before .before .before .before .before .before .before .before .before .before .vertex-block .ensures in
+    let past = sym (c .before .before .before .before .before .before .before .before .before .before .before .before .before .before .before .before .names .given .1) ∙ v .answer in
+    let named = named-read refl (c .before .before .before .before .before .before .before .before .before .before .before .before .before .name-line .ensures) (c .before .before .before .before .before .before .before .before .before .before .before .edge-rows .given .1) in
+    let g = c .before .before .before .before .before .before .before .edge-block .ensures in
+    case-read h v (rest-place h _ past _ named) g (edges-refused h _ past _ named _ (sym (c .before .k2 .given .1) ∙ g .answer)) tt
+
+same-length-13 : tie.Need-same-length-13
+same-length-13 c = search needs
+
+same-length-14 : tie.Need-same-length-14
+same-length-14 c = search needs
+
+same-length-15 : tie.Need-same-length-15
+same-length-15 c = search needs
+
+same-length-16 : tie.Need-same-length-16
+same-length-16 c = search needs
 
 returns-5 : tie.Need-returns-5
-returns-5 c = all-accepted (headed _ _ _ _ _ _ (c .before .before .before .before .before .before .before .before .before .before .before .before .before .before .before .pre)) _ (sym (c .before .before .before .before .before .before .before .before .before .before .before .names .given .1) ∙ c .before .before .before .before .before .before .before .before .before .before .before .before .before .vertex-block .ensures) _ (named-read refl (c .before .before .before .before .before .before .before .before .name-line .ensures) (c .before .before .before .before .before .before .edge-rows .given .1)) _ (sym (c .before .before .end .given .1) ∙ c .before .before .before .before .edge-block .ensures) (c .if1 .left)
+returns-5 c =
+    let h = headed _ _ _ _ _ _ (c .before .before .before .before .before .before .before .before .before .before .before .before .before .before .before .before .before .before .before .before .before .before .before .before .before .before .before .before .before .before .before .pre) in
+    let v = c .before .before .before .before .before .before .before .before .before .before .before .before .before .before .before .before .before .before .before .before .before .before .before .vertex-block .ensures in
+    let past = sym (c .before .before .before .before .before .before .before .before .before .before .before .before .before .before .before .before .before .names .given .1) ∙ v .answer in
+    let named = named-read refl (c .before .before .before .before .before .before .before .before .before .before .before .before .before .before .name-line .ensures) (c .before .before .before .before .before .before .before .before .before .before .before .before .edge-rows .given .1) in
+    let g = c .before .before .before .before .before .before .before .before .edge-block .ensures in
+    case-read h v (rest-place h _ past _ named) g (all-accepted h _ past _ named _ (sym (c .before .before .end .given .1) ∙ g .answer) (c .if1 .left)) (all-taken (v .all) (c .before .before .before .before .before .before .before .before .before .before .before .before .before .before .before .before .before .names .given .1), all-taken (g .all) (c .before .before .end .given .1))
 
 pub read-body-spec : {M : Type 1} → statement M
 read-body-spec =
@@ -66,8 +140,24 @@ read-body-spec =
     edge-block-requires
     enum-known-k-2
     enum-known-end
+    same-length
+    same-length-2
+    same-length-3
+    same-length-4
     returns
+    same-length-5
+    same-length-6
     returns-2
+    same-length-7
+    same-length-8
     returns-3
+    same-length-9
+    same-length-10
+    same-length-11
+    same-length-12
     returns-4
+    same-length-13
+    same-length-14
+    same-length-15
+    same-length-16
     returns-5)
