@@ -16,7 +16,7 @@ use Rattle.model.specs.Graph.{Graph, edge, mark, is-walk, walk-end, leaves-acce
 use Rattle.model.specs.Case.{longest-file, most-listed, farthest}
 use Rattle.model.specs.CaseFile.{refuse, first-of, begins-version, other-version, column}
 use Rattle.model.specs.Answer.{answer-names, no-verdict}
-use Rattle.model.specs.Passing.{says-lasso, head-layout, counts-suit, counts-fit, listed-edges-refusal, listed-vertices-refusal, Listed, number-of, listed-in, all-lead, passes-empty}
+use Rattle.model.specs.Passing.{says-lasso, head-layout, counts-suit, counts-fit, listed-edges-refusal, listed-vertices-refusal, Listed, number-of, listed-in, all-lead, passes-empty, lasso-refusal, empty-refusal}
 use Rattle.model.specs.declared.Checked.{Checked}
 use Rattle.casefile.specs.Judging.{skip}
 use Rattle.checker.specs.declared.opening.Head.{Head}
@@ -66,15 +66,7 @@ opening bs =
     (cond (says-lasso h) (Lasso (number-at h 2) (number-at h 3) (skip 2 bs 0)) (Empty (number-at h 4) (skip 2 bs 0)))
     (Bad-opening (opening-refusal bs))
 
--- TABLES of a graph: its marks, its edges
-unfoldable pub Marks : Graph → (marks : List ℕ) → Type 0
-Marks g marks = (v : ℕ) → v < g .vertices → getD marks v 0 ≡ mark g v
-
-pub record Edges (g : Graph) (froms tos : List ℕ) : Type 0 where
-  pub from-at : (e : ℕ) → e < length (g .edges) → getD froms e 0 ≡ edge g e .from
-  pub to-at : (e : ℕ) → e < length (g .edges) → getD tos e 0 ≡ edge g e .to
-
--- what the passing rules ask of them: each edge's ends and the mark of its start, which is 0 or 1
+-- TABLES of a graph, what the passing rules ask of them: each edge's ends and the mark of its start, which is 0 or 1
 pub record Tables (g : Graph) (m : ℕ) (marks froms tos : List ℕ) : Type 0 where
   pub many : length (g .edges) ≡ m
   pub from-at : (e : ℕ) → e < m → getD froms e 0 ≡ edge g e .from
@@ -107,6 +99,9 @@ edge-lines-refusal g s k ls =
 
 abbrev pub Lasso-says : (text : List ℕ) → (at stem cycle m source : ℕ) → (marks froms tos : List ℕ) → ℕ → Type 0
 Lasso-says s at x y m u marks froms tos r = (g : Graph) → Tables g m marks froms tos → g .source ≡ u → r ≡ edge-lines-refusal g x y (lines (drop at s))
+
+abbrev pub Lasso-checked : (answer : List ℕ) → (m source : ℕ) → (marks froms tos : List ℕ) → ℕ → Type 0
+Lasso-checked s m u marks froms tos r = (g : Graph) → Tables g m marks froms tos → g .source ≡ u → r ≡ lasso-refusal g (line-at (lines s) 1) (lines s)
 
 -- VERTEX LINES and their numbers. A table holds one number for each vertex, `not-listed` where there is none
 abbrev pub not-listed : ℤ
@@ -152,3 +147,6 @@ vertex-lines-refusal g k ls =
 abbrev pub Empty-says : (text : List ℕ) → (at reached n m source : ℕ) → (marks froms tos : List ℕ) → ℕ → Type 0
 Empty-says s at k n m u marks froms tos r =
     (g : Graph) → Tables g m marks froms tos → g .source ≡ u → g .vertices ≡ n → r ≡ vertex-lines-refusal g k (lines (drop at s))
+
+abbrev pub Empty-checked : (answer : List ℕ) → (n m source : ℕ) → (marks froms tos : List ℕ) → ℕ → Type 0
+Empty-checked s n m u marks froms tos r = (g : Graph) → Tables g m marks froms tos → g .source ≡ u → g .vertices ≡ n → r ≡ empty-refusal g (line-at (lines s) 1) (lines s)

@@ -2,8 +2,9 @@
 // Contracts cite specs/Checking.antt.
 ghost use Rattle.model.specs.Entry.{Check-says};
 ghost use Rattle.checker.specs.Checking.{Told};
+use casefile::Case;
 use casefile::Judged;
-use casefile::judge;
+use casefile::read_case;
 use listing::check_empty;
 use model::Checked;
 use opening::Opening;
@@ -42,18 +43,36 @@ fn told(refusal: u32, verdict: u32) -> Checked
 pub fn check_answer(case: &[u8], answer: &[u8]) -> Checked
     ensures { λ r. ⌜ Check-says (now (case .entry)) (now (answer .entry)) r ⌝ }
 {
-    match judge(case) {
+    let mut marks = [0u32; Case::MOST_VERTICES];
+    let mut froms = [0u32; Case::MOST_EDGES];
+    let mut tos = [0u32; Case::MOST_EDGES];
+    match read_case(case, &mut marks, &mut [], &mut froms, &mut tos) {
         Judged::Refused(k) => told(k, NONE),
-        Judged::Accepted(c) => match read_opening(answer) {
-            Opening::Refused(k) => told(k, NONE),
-            Opening::Lasso(stem, cycle, third) => {
-                let k = check_lasso(case, c, answer, stem, cycle, third);
-                told(k, LASSO)
+        Judged::Accepted(c) => {
+            let n = c.vertices;
+            let m = c.edges;
+            let source = c.source;
+            match read_opening(answer) {
+                Opening::Refused(k) => told(k, NONE),
+                Opening::Lasso(stem, cycle, third) => {
+                    let k = check_lasso(
+                        answer,
+                        stem,
+                        cycle,
+                        third,
+                        m,
+                        source,
+                        &marks,
+                        &froms,
+                        &tos,
+                    );
+                    told(k, LASSO)
+                }
+                Opening::Empty(reached, third) => {
+                    let k = check_empty(answer, reached, third, n, m, source, &marks, &froms, &tos);
+                    told(k, EMPTY)
+                }
             }
-            Opening::Empty(reached, third) => {
-                let k = check_empty(case, c, answer, reached, third);
-                told(k, EMPTY)
-            }
-        },
+        }
     }
 }

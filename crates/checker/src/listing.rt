@@ -4,17 +4,11 @@ ghost use mathlib.Core.Bool.{_&&_, not};
 ghost use Prim.Native.Nat.{_≤_};
 ghost use lib.Dec.{ltb, leb, eqb};
 ghost use lib.ListN.{getD};
-ghost use Rattle.text.specs.Lines.{lines, line-at};
 ghost use Rattle.model.specs.Case.{most-vertices, farthest};
-ghost use Rattle.model.specs.CaseFile.{case-in};
-ghost use Rattle.model.specs.Passing.{leads, empty-refusal};
-ghost use Rattle.casefile.specs.Judging.{judged};
-ghost use Rattle.casefile.specs.declared.Judged.the-variants.{Accepted};
-ghost use Rattle.checker.specs.Checking.{opening, not-listed, held, signed-by, length-by, Blank, Listing-says, Lead-says, Empty-says};
+ghost use Rattle.model.specs.Passing.{leads};
+ghost use Rattle.checker.specs.Checking.{opening, not-listed, held, signed-by, length-by, Blank, Listing-says, Lead-says, Empty-says, Empty-checked};
 ghost use Rattle.checker.specs.declared.opening.Opening.the-variants.{Empty};
 use crate::tables::cell;
-use crate::tables::load_edges;
-use crate::tables::load_marks;
 use casefile::Case;
 use text::read::Named;
 use text::read::SignedRow;
@@ -171,21 +165,23 @@ fn listed(
     }
 }
 
-// The answer from line 3 on, against the case.
-pub(crate) fn check_empty(case: &[u8], c: Case, answer: &[u8], reached: usize, third: usize) -> u32
-    requires { ⌜ (judged (now case) ≡ Accepted c) × (opening (now answer) ≡ Empty reached third) ⌝ }
-    ensures { λ r. ⌜ r ≡ empty-refusal (case-in (now (case .entry)) .graph) (line-at (lines (now (answer .entry))) 1) (lines (now (answer .entry))) ⌝ }
+// The answer from line 3 on, against the case of n vertices and m edges that stands in the tables.
+pub(crate) fn check_empty(
+    answer: &[u8],
+    reached: usize,
+    third: usize,
+    n: usize,
+    m: usize,
+    source: usize,
+    marks: &[u32],
+    froms: &[u32],
+    tos: &[u32],
+) -> u32
+    requires { ⌜ (opening (now answer) ≡ Empty reached third) × (n ≤ most-vertices) ⌝ }
+    ensures { λ r. ⌜ Empty-checked (now (answer .entry)) n m source (now (marks .entry)) (now (froms .entry)) (now (tos .entry)) r ⌝ }
 {
     let Named::Past(rows) = name_line(answer, third, b"vertex distance") else {
         return 12;
     };
-    let mut marks = [0u32; Case::MOST_VERTICES];
-    let mut froms = [0u32; Case::MOST_EDGES];
-    let mut tos = [0u32; Case::MOST_EDGES];
-    load_marks(case, c, &mut marks);
-    load_edges(case, c, &mut froms, &mut tos);
-    let n = c.vertices;
-    let m = c.edges;
-    let source = c.source;
-    listed(answer, rows, reached, n, m, source, &marks, &froms, &tos)
+    listed(answer, rows, reached, n, m, source, marks, froms, tos)
 }

@@ -2,17 +2,9 @@
 ghost use mathlib.Core.Path.{_≡_};
 ghost use mathlib.Core.Bool.{_&&_, _||_};
 ghost use lib.Dec.{leb, eqb};
-ghost use Rattle.text.specs.Lines.{lines, line-at};
-ghost use Rattle.model.specs.CaseFile.{case-in};
-ghost use Rattle.model.specs.Passing.{lasso-refusal};
-ghost use Rattle.casefile.specs.Judging.{judged};
-ghost use Rattle.casefile.specs.declared.Judged.the-variants.{Accepted};
-ghost use Rattle.checker.specs.Checking.{opening, Walk-says, Lasso-says};
+ghost use Rattle.checker.specs.Checking.{opening, Walk-says, Lasso-says, Lasso-checked};
 ghost use Rattle.checker.specs.declared.opening.Opening.the-variants.{Lasso};
 use crate::tables::cell;
-use crate::tables::load_edges;
-use crate::tables::load_marks;
-use casefile::Case;
 use text::read::Named;
 use text::read::Row1;
 use text::read::name_line;
@@ -135,27 +127,23 @@ fn edge_lines(
     }
 }
 
-// The answer from line 3 on, against the case.
+// The answer from line 3 on, against the case of m edges that stands in the tables.
 pub(crate) fn check_lasso(
-    case: &[u8],
-    c: Case,
     answer: &[u8],
     stem: usize,
     cycle: usize,
     third: usize,
+    m: usize,
+    source: usize,
+    marks: &[u32],
+    froms: &[u32],
+    tos: &[u32],
 ) -> u32
-    requires { ⌜ (judged (now case) ≡ Accepted c) × (opening (now answer) ≡ Lasso stem cycle third) ⌝ }
-    ensures { λ r. ⌜ r ≡ lasso-refusal (case-in (now (case .entry)) .graph) (line-at (lines (now (answer .entry))) 1) (lines (now (answer .entry))) ⌝ }
+    requires { ⌜ opening (now answer) ≡ Lasso stem cycle third ⌝ }
+    ensures { λ r. ⌜ Lasso-checked (now (answer .entry)) m source (now (marks .entry)) (now (froms .entry)) (now (tos .entry)) r ⌝ }
 {
     let Named::Past(rows) = name_line(answer, third, b"edge") else {
         return 12;
     };
-    let mut marks = [0u32; Case::MOST_VERTICES];
-    let mut froms = [0u32; Case::MOST_EDGES];
-    let mut tos = [0u32; Case::MOST_EDGES];
-    load_marks(case, c, &mut marks);
-    load_edges(case, c, &mut froms, &mut tos);
-    let m = c.edges;
-    let source = c.source;
-    edge_lines(answer, rows, stem, cycle, m, source, &marks, &froms, &tos)
+    edge_lines(answer, rows, stem, cycle, m, source, marks, froms, tos)
 }
