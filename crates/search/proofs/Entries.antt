@@ -1,40 +1,44 @@
 -- Entries: from the judged case through loading, the run and its end to what `Entry` says. Assumes nothing.
 use mathlib.Core.Path.{_≡_, refl, sym, ap, subst, _∙_}
-use mathlib.Core.Bool.{Bool, true, false, _||_, cond}
+use mathlib.Core.Bool.{Bool, true, false, _||_}
 use mathlib.Core.List.{List, [], _∷_}
 use Prim.Native.Nat.{ℕ, zero, suc, _+_, _≤_, _<_}
 use native.Mathlib.Omega.{arith}
 use native.Mathlib.Numerals.{add-one}
-use lib.Dec.{ltb, leb, eqb}
-use lib.ListN.{length, getD, drop, replicate, drop-of-length-le}
+use lib.Dec.{ltb, leb}
+use lib.ListN.{length, getD, take, drop, replicate, drop-of-length-le}
 use lib.Seq.{drop-cons}
 use lib.IntN.{ℤ, pos}
-use borrow.Author.Tests.{eqb-true, eqb-false, ne-eqb, lt-ltb, le-ltb, le-leb, lt-leb, leb-false}
+use borrow.Author.Tests.{eqb-true, lt-ltb, le-ltb, le-leb, lt-leb, leb-false}
 use Rattle.text.proofs.Tests.{or-false}
-use Rattle.model.specs.Graph.{accepting-count}
 use Rattle.model.specs.Case as model
 use Rattle.model.specs.Case.{least-output, least-work, most-acts, Sound}
 use Rattle.model.specs.CaseFile.{refuse, first-of, case-refusal, accepted, case-in}
-use Rattle.model.specs.Run.{State, fresh, acted, has-ended, by-list, by-rounds}
-use Rattle.model.specs.Entry.{buffer-refusal, any-at-or-above, acts-refusal, list-refusal, rounds-refusal, zeros, Refused, Cut-short, Finished, Run-says, List-says, Rounds-say}
+use Rattle.model.specs.Run.{State, fresh, has-ended, by-list, by-rounds}
+use Rattle.model.specs.Entry.{buffer-refusal, any-at-or-above, acts-refusal, list-refusal, rounds-refusal, zeros, Run-says, List-says, Rounds-say}
 use Rattle.model.specs.Promise.{whole-rounds}
 use Rattle.model.specs.declared.Outcome.{Outcome}
-use Rattle.model.proofs.Few.{Paid, fresh-paid, paid}
+use Rattle.model.proofs.Few.{fresh-paid, paid}
 use Rattle.model.proofs.Settled.{tale}
 use Rattle.model.proofs.Trace.{trace}
 use Rattle.model.proofs.Findings.{Known}
-use Rattle.model.proofs.Kept.{runs-kept, file-sound}
+use Rattle.model.proofs.Kept.{runs-kept}
 use Rattle.casefile.specs.Judging.{header, judged}
 use Rattle.casefile.specs.declared.Case.{Case}
 use Rattle.casefile.specs.declared.Judged.{Judged}
 use Rattle.casefile.specs.declared.Judged.the-variants.{Refused as Turned, Accepted}
-use Rattle.casefile.proofs.Refusals.{first-decides}
+use Rattle.casefile.specs.Tables.{Case-read, Holds}
+use Rattle.casefile.proofs.Refusals.{first-decides, first-one}
 use Rattle.casefile.proofs.Whole.{turned, taken}
-use Rattle.search.specs.Rep.{Rep, Laid}
+use Rattle.casefile.proofs.Tables.{held}
+use Rattle.search.specs.Rep.{Rep}
 use Rattle.search.specs.Asks.{Begin-asks, Begin-says, List-asks, List-done, By-rounds-asks, By-rounds-says}
 use Rattle.search.specs.Loading.{Load-asks, Load-says}
 use Rattle.search.specs.Finish.{Gone, Answer-asks, Finish-says}
-use Rattle.search.specs.Entries.{refused-by, Case-asks}
+use Rattle.search.specs.Entries.{refused-by, load-refusal, Case-laid, Loads}
+use Rattle.search.specs.declared.Loaded.{Loaded}
+use Rattle.search.specs.declared.Loaded.the-variants.{Refused as Not-loaded, Laid as Loaded-case}
+use Rattle.search.proofs.Loads.{sound-in, within-in, from-rises, load-asks, load-laid, load-counts}
 use Rattle.search.specs.declared.run.Run.{Run}
 
 -- ACTS IN RANGE: none so far is at or above the limit
@@ -61,8 +65,8 @@ all-below l (x ∷ xs) e zero h = leb-false l x (or-false (leb l x) (any-at-or-a
 all-below l (x ∷ xs) e (suc i) h = all-below l xs (or-false (leb l x) (any-at-or-above l xs) e .1) i (omega arith)
 
 -- BUFFERS
-enough : (o w : ℕ) → (ltb o least-output || ltb w least-work) ≡ false → (least-output ≤ o) × (least-work ≤ w)
-enough o w e =
+pub buffers-enough : (o w : ℕ) → (ltb o least-output || ltb w least-work) ≡ false → (least-output ≤ o) × (least-work ≤ w)
+buffers-enough o w e =
     let p = or-false (ltb o least-output) (ltb w least-work) e in
     (ltb-at-least o least-output (p .0), ltb-at-least w least-work (p .1))
   where
@@ -88,134 +92,191 @@ first-skip : (ks : List ℕ) → first-of (0 ∷ ks) ≡ first-of ks
 unfolding first-of
 first-skip ks = refl
 
-refused-so : (k j : ℕ) (b : Bool) (c : model.Case) (x : State) (o : List ℕ) (w : List ℤ) → k ≡ j → (j ≡ 0 → ⊥) → Run-says k b c x (refused-by j) o o w w
+-- with no acts the case alone decides
+no-acts : (s : List ℕ) → load-refusal s [] ≡ case-refusal s
+unfolding load-refusal acts-refusal any-at-or-above refuse
+no-acts s = go (case-refusal s)
+  where
+    go : (k : ℕ) → first-of (k ∷ 0 ∷ []) ≡ k
+    go zero = unfold first-of in refl
+    go (suc k) = first-decides (suc k) _ (λ z. omega arith)
+
+refused-so : (k j : ℕ) (b : Bool) (c : model.Case) (x : State) (o : List ℕ) (w : List ℤ) → k ≡ j → 0 < j → Run-says k b c x (refused-by j) o o w w
 unfolding Run-says
-refused-so zero j b c x o w e n = absurd (n (sym e))
+refused-so zero j b c x o w e n = absurd (omega arith)
 refused-so (suc k) j b c x o w e n = record { refusal = sym e; verdict = refl; acts = refl; written = refl; output = refl; work = refl }
 
 module _ (s xs : List ℕ) (o : List ℕ) (w : List ℤ) where
   pub list-short : (ltb (length o) least-output || ltb (length w) least-work) ≡ true → List-says s xs (refused-by 11) o o w w
   unfolding List-says list-refusal
-  list-short e = refused-so _ 11 _ _ _ o w (rw (buffers-short (length o) (length w) e) (first-decides 11 _ (λ z. omega arith))) (λ z. omega arith)
+  list-short e = refused-so _ 11 _ _ _ o w (rw (buffers-short (length o) (length w) e) (first-decides 11 _ (λ z. omega arith))) (omega arith)
 
   pub rounds-short : (ltb (length o) least-output || ltb (length w) least-work) ≡ true → Rounds-say s (refused-by 11) o o w w
   unfolding Rounds-say rounds-refusal
-  rounds-short e = refused-so _ 11 _ _ _ o w (rw (buffers-short (length o) (length w) e) (first-decides 11 _ (λ z. omega arith))) (λ z. omega arith)
+  rounds-short e = refused-so _ 11 _ _ _ o w (rw (buffers-short (length o) (length w) e) (first-decides 11 _ (λ z. omega arith))) (omega arith)
 
-  pub list-turned : (k : ℕ) → (ltb (length o) least-output || ltb (length w) least-work) ≡ false → case-refusal s ≡ k → (k ≡ 0 → ⊥) → List-says s xs (refused-by k) o o w w
-  unfolding List-says list-refusal
-  list-turned k e q n = refused-so _ k _ _ _ o w (rw (buffers-long (length o) (length w) e, q) (first-skip _ ∙ first-decides k _ n)) n
+  module _ (enough : (ltb (length o) least-output || ltb (length w) least-work) ≡ false) where
+    list-as-loaded : list-refusal s xs (length o) (length w) ≡ load-refusal s xs
+    unfolding list-refusal load-refusal
+    list-as-loaded = rw (buffers-long (length o) (length w) enough) (first-skip _)
 
-  pub rounds-turned : (k : ℕ) → (ltb (length o) least-output || ltb (length w) least-work) ≡ false → case-refusal s ≡ k → (k ≡ 0 → ⊥) → Rounds-say s (refused-by k) o o w w
-  unfolding Rounds-say rounds-refusal
-  rounds-turned k e q n = refused-so _ k _ _ _ o w (rw (buffers-long (length o) (length w) e, q) (first-skip _ ∙ first-decides k _ n)) n
+    rounds-as-loaded : rounds-refusal s (length o) (length w) ≡ load-refusal s []
+    rounds-as-loaded = unfold rounds-refusal in (rw (buffers-long (length o) (length w) enough) (first-skip _ ∙ first-one (case-refusal s))) ∙ sym (no-acts s)
 
-pub case-asks : (s : List ℕ) {c : Case} {r : Judged} (o : List ℕ) (w : List ℤ) → (ltb (length o) least-output || ltb (length w) least-work) ≡ false → r ≡ judged s → r ≡ Accepted c → Case-asks s c o w
-case-asks s o w e p q = let b = enough (length o) (length w) e in let t = taken s p q in record { taken = t .0; is = t .1; output = b .0; work = b .1 }
+    pub list-turned : (k : ℕ) (v : List ℤ) → (load-refusal s xs ≡ k) × (0 < k) × (v ≡ w) → List-says s xs (refused-by k) o o w v
+    list-turned k v t = rw (t .2) (unfold List-says in (refused-so _ k _ _ _ o w (list-as-loaded ∙ t .0) (t .1)))
 
--- A RUN OF AN ACCEPTED CASE: what each call on the way asks
-module _ (s : List ℕ) (c : Case) (o : List ℕ) (w : List ℤ) (a : Case-asks s c o w) where
+    pub rounds-turned : (k : ℕ) (v : List ℤ) → (load-refusal s [] ≡ k) × (0 < k) × (v ≡ w) → Rounds-say s (refused-by k) o o w v
+    rounds-turned k v t = rw (t .2) (unfold Rounds-say in (refused-so _ k _ _ _ o w (rounds-as-loaded ∙ t .0) (t .1)))
+
+-- LOADING: what came of it, by its variant
+pub loads-refused : (s xs : List ℕ) {r : Loaded} {k : ℕ} {w v : List ℤ} → Loads s xs r w v → r ≡ Not-loaded k → (load-refusal s xs ≡ k) × (0 < k) × (v ≡ w)
+loads-refused s xs l e = rw e at l
+
+pub loads-laid : {s xs : List ℕ} {r : Loaded} {c : Case} {n : ℕ} {w v : List ℤ} → Loads s xs r w v → r ≡ Loaded-case c n → Case-laid s xs c n w v
+loads-laid l e = rw e at l
+
+module _ (s : List ℕ) {r : Judged} (p : r ≡ judged s) where
+  pub text-refused : (xs : List ℕ) {k : ℕ} (w : List ℤ) → r ≡ Turned k → (load-refusal s xs ≡ k) × (0 < k) × (w ≡ w)
+  text-refused xs {k} w q = let t = turned s p q in (decided (t .0) (t .1), positive k (t .1), refl)
+    where
+      decided : case-refusal s ≡ k → (k ≡ 0 → ⊥) → load-refusal s xs ≡ k
+      decided e n = unfold load-refusal in (rw e (first-decides k _ n))
+
+      positive : (k : ℕ) → (k ≡ 0 → ⊥) → 0 < k
+      positive k n = omega arith
+
+  module _ {c : Case} (q : r ≡ Accepted c) where
+    is-taken : (accepted s ≡ true) × (c ≡ header s)
+    is-taken = taken s p q
+
+    vertices-of : c .vertices ≡ case-in s .graph .vertices
+    vertices-of = ap (λ (h : Case). h .vertices) (is-taken .1) ∙ (unfold header in refl)
+
+    edges-of : c .edges ≡ length (case-in s .graph .edges)
+    edges-of = ap (λ (h : Case). h .edges) (is-taken .1) ∙ (unfold header in refl)
+
+    workers-of : c .workers ≡ case-in s .workers
+    workers-of = ap (λ (h : Case). h .workers) (is-taken .1) ∙ (unfold header in refl)
+
+    pub counts-few : (c .workers ≤ model.most-workers) × (c .edges ≤ model.most-edges) × (c .vertices ≤ model.most-vertices)
+    counts-few = let l = within-in s (is-taken .0) in (omega (arith, workers-of, l .workers), omega (arith, edges-of, l .edges), omega (arith, vertices-of, l .vertices))
+
+    pub acts-refused : (xs : List ℕ) (w : List ℤ) → any-at-or-above (c .workers + c .edges) xs ≡ true → (load-refusal s xs ≡ 9) × (0 < 9) × (w ≡ w)
+    acts-refused xs w e = (nine (rw (workers-of, edges-of) at e), omega arith, refl)
+      where
+        nine : any-at-or-above (case-in s .workers + length (case-in s .graph .edges)) xs ≡ true → load-refusal s xs ≡ 9
+        nine e = unfold load-refusal acts-refusal in (rw (eqb-true (case-refusal s) 0 (unfold accepted in (is-taken .0)), e) (unfold refuse first-of in refl))
+
+module _ (s : List ℕ) {r : Judged} {marks marks′ owners owners′ froms froms′ tos tos′ : List ℕ} (g : Case-read s r marks marks′ owners owners′ froms froms′ tos tos′) {c : Case} (q : r ≡ Accepted c)
+    (rows : (model.most-vertices ≤ length marks) × (model.most-vertices ≤ length owners)) (pairs : (model.most-edges ≤ length froms) × (model.most-edges ≤ length tos))
+    (long : (length marks′ ≡ length marks) × (length owners′ ≡ length owners) × (length froms′ ≡ length froms) × (length tos′ ≡ length tos)) where
+  room : (c .vertices ≤ length marks′) × (c .vertices ≤ length owners′) × (c .edges ≤ length froms′) × (c .edges ≤ length tos′)
+  room = let f = counts-few s (g .answer) q in (omega (arith, rows .0, long .0, f .2), omega (arith, rows .1, long .1, f .2), omega (arith, pairs .0, long .2, f .1), omega (arith, pairs .1, long .3, f .1))
+
+  in-tables : Holds (case-in s) marks′ owners′ froms′ tos′
+  in-tables =
+      let k = within-in s (is-taken s (g .answer) q .0) in
+      held g q (omega (arith, rows .0, k .vertices)) (omega (arith, rows .1, k .vertices)) (omega (arith, pairs .0, k .edges)) (omega (arith, pairs .1, k .edges))
+
+  accepts : accepted s ≡ true
+  accepts = is-taken s (g .answer) q .0
+
+  pub tables-ask : {w : List ℤ} → least-work ≤ length w → Load-asks (take (c .vertices) marks′) (take (c .vertices) owners′) (take (c .edges) froms′) (take (c .edges) tos′) w
+  tables-ask enough = load-asks (sound-in s accepts) (within-in s accepts) (from-rises s accepts) in-tables (vertices-of s (g .answer) q) (edges-of s (g .answer) q) room enough
+
+  pub case-laid : (xs : List ℕ) → any-at-or-above (c .workers + c .edges) xs ≡ false → {count : ℕ} {w v : List ℤ} → least-work ≤ length w →
+      Load-says (take (c .vertices) marks′) (take (c .vertices) owners′) (take (c .edges) froms′) (take (c .edges) tos′) count w v → Case-laid s xs c count w v
+  case-laid xs e enough l =
+      record {
+        taken = accepts;
+        is = is-taken s (g .answer) q .1;
+        in-range = e;
+        laid = load-laid (sound-in s accepts) (within-in s accepts) (from-rises s accepts) in-tables (vertices-of s (g .answer) q) (edges-of s (g .answer) q) room enough l;
+        counted = load-counts (sound-in s accepts) (within-in s accepts) (from-rises s accepts) in-tables (vertices-of s (g .answer) q) (edges-of s (g .answer) q) room l;
+        long = l .long;
+      }
+
+-- A RUN OF A CASE IN THE CELLS: what each call on the way asks
+module _ (s xs : List ℕ) (c : Case) (marks : ℕ) (w w₁ : List ℤ) (l : Case-laid s xs c marks w w₁) where
   vertices : c .vertices ≡ case-in s .graph .vertices
-  vertices = ap (λ (h : Case). h .vertices) (a .is) ∙ (unfold header in refl)
+  vertices = ap (λ (h : Case). h .vertices) (l .is) ∙ (unfold header in refl)
 
   edges : c .edges ≡ length (case-in s .graph .edges)
-  edges = ap (λ (h : Case). h .edges) (a .is) ∙ (unfold header in refl)
+  edges = ap (λ (h : Case). h .edges) (l .is) ∙ (unfold header in refl)
 
   source : c .source ≡ case-in s .graph .source
-  source = ap (λ (h : Case). h .source) (a .is) ∙ (unfold header in refl)
+  source = ap (λ (h : Case). h .source) (l .is) ∙ (unfold header in refl)
 
   workers : c .workers ≡ case-in s .workers
-  workers = ap (λ (h : Case). h .workers) (a .is) ∙ (unfold header in refl)
+  workers = ap (λ (h : Case). h .workers) (l .is) ∙ (unfold header in refl)
 
   ok : Sound (case-in s)
-  ok = file-sound s (a .taken) .0
+  ok = sound-in s (l .taken)
 
-  pub few : (c .workers ≤ model.most-workers) × (c .edges ≤ model.most-edges)
-  few = let l = file-sound s (a .taken) .1 in (omega (arith, workers, l .workers), omega (arith, edges, l .edges))
+  pub begin-asks : Begin-asks (c .source) marks w₁
+  begin-asks = record { case = case-in s; laid = l .laid; starts = source; counts = l .counted }
 
-  pub load-asks : Load-asks s (c .vertices) (c .edges) (c .«vertex_lines») (c .«edge_lines») w
-  load-asks = record {
-    taken = a .taken;
-    vertices = vertices;
-    edges = edges;
-    rows-at = ap (λ (h : Case). h .«vertex_lines») (a .is) ∙ (unfold header in refl);
-    pairs-at = ap (λ (h : Case). h .«edge_lines») (a .is) ∙ (unfold header in refl);
-    long = a .work;
-  }
+  module _ (k₂ : Run) (w₂ : List ℤ) (b : Begin-says (c .source) marks k₂ w₁ w₂) where
+    begun : Rep (case-in s) (fresh (case-in s)) k₂ w₂
+    unfolding Begin-says
+    begun = b (case-in s) (l .laid) source (l .counted)
 
-  module _ (marks : ℕ) (w₁ : List ℤ) (l : Load-says s marks w w₁) where
-    pub begin-asks : Begin-asks (c .source) marks w₁
-    begin-asks = record { case = case-in s; laid = l .laid; starts = source; counts = l .counted }
+    pub rounds-asks : By-rounds-asks (c .workers) (c .vertices) (c .edges) k₂ w₂
+    rounds-asks = record { case = case-in s; rep = begun; workers = workers; vertices = vertices; edges = edges }
 
-    module _ (k₂ : Run) (w₂ : List ℤ) (b : Begin-says (c .source) marks k₂ w₁ w₂) where
-      begun : Rep (case-in s) (fresh (case-in s)) k₂ w₂
-      unfolding Begin-says
-      begun = b (case-in s) (l .laid) source (l .counted)
+    pub list-asks : List-asks (c .workers) xs k₂ w₂
+    list-asks = record { case = case-in s; state = fresh (case-in s); rep = begun; paid = fresh-paid (case-in s) ok; workers = workers; below = λ i h. rw (← edges) (all-below (c .workers + c .edges) xs (l .in-range) i h) }
 
-      pub rounds-asks : By-rounds-asks (c .workers) (c .vertices) (c .edges) k₂ w₂
-      rounds-asks = record { case = case-in s; rep = begun; workers = workers; vertices = vertices; edges = edges }
+    module _ (k₃ : Run) (w₃ : List ℤ) (o : List ℕ) (enough : (ltb (length o) least-output || ltb (length w) least-work) ≡ false) where
+      list-gone : List-done (c .workers) xs k₂ k₃ w₂ w₃ → Gone (case-in s) (by-list (case-in s) xs) k₃ (c .vertices) (c .source) w₃ o
+      list-gone d = record { rep = rep; known = known; vertices = vertices; start = source; room = buffers-enough (length o) (length w) enough .0 }
+        where
+          rep : Rep (case-in s) (by-list (case-in s) xs) k₃ w₃
+          rep = unfold List-done by-list in (d (case-in s) (fresh (case-in s)) begun (fresh-paid (case-in s) ok) workers (λ i h. rw (← edges) (all-below (c .workers + c .edges) xs (l .in-range) i h)))
 
-      pub list-asks : (xs : List ℕ) → any-at-or-above (c .workers + c .edges) xs ≡ false → List-asks (c .workers) xs k₂ w₂
-      list-asks xs e = record { case = case-in s; state = fresh (case-in s); rep = begun; paid = fresh-paid (case-in s) ok; workers = workers; below = λ i h. rw (← edges) (all-below (c .workers + c .edges) xs e i h) }
+          known : Known (case-in s) (by-list (case-in s) xs)
+          known = record { paid = paid (case-in s) ok xs; tale = tale (case-in s) ok xs; trace = trace (case-in s) ok xs }
 
-      module _ (k₃ : Run) (w₃ : List ℤ) where
-        list-gone : (xs : List ℕ) → any-at-or-above (c .workers + c .edges) xs ≡ false → List-done (c .workers) xs k₂ k₃ w₂ w₃ → Gone (case-in s) (by-list (case-in s) xs) k₃ (c .vertices) (c .source) w₃ o
-        list-gone xs e d = record { rep = rep; known = known; vertices = vertices; start = source; room = a .output }
-          where
-            rep : Rep (case-in s) (by-list (case-in s) xs) k₃ w₃
-            rep = unfold List-done by-list in (d (case-in s) (fresh (case-in s)) begun (fresh-paid (case-in s) ok) workers (λ i h. rw (← edges) (all-below (c .workers + c .edges) xs e i h)))
+      rounds-gone : By-rounds-says (c .workers) (c .vertices) (c .edges) k₂ k₃ w₂ w₃ → Gone (case-in s) (by-rounds (case-in s)) k₃ (c .vertices) (c .source) w₃ o
+      rounds-gone d = record { rep = rep; known = subst (λ (y : State). Known (case-in s) y) (sym listed) known; vertices = vertices; start = source; room = buffers-enough (length o) (length w) enough .0 }
+        where
+          rep : Rep (case-in s) (by-rounds (case-in s)) k₃ w₃
+          rep = unfold By-rounds-says in (d (case-in s) begun workers vertices edges)
 
-            known : Known (case-in s) (by-list (case-in s) xs)
-            known = record { paid = paid (case-in s) ok xs; tale = tale (case-in s) ok xs; trace = trace (case-in s) ok xs }
+          acts : List ℕ
+          acts = whole-rounds (most-acts (case-in s)) (case-in s)
 
-        rounds-gone : By-rounds-says (c .workers) (c .vertices) (c .edges) k₂ k₃ w₂ w₃ → Gone (case-in s) (by-rounds (case-in s)) k₃ (c .vertices) (c .source) w₃ o
-        rounds-gone d = record { rep = rep; known = subst (λ (y : State). Known (case-in s) y) (sym listed) known; vertices = vertices; start = source; room = a .output }
-          where
-            rep : Rep (case-in s) (by-rounds (case-in s)) k₃ w₃
-            rep = unfold By-rounds-says in (d (case-in s) begun workers vertices edges)
+          listed : by-rounds (case-in s) ≡ by-list (case-in s) acts
+          listed = runs-kept (case-in s) ok .rounds-listed (most-acts (case-in s)) (omega arith)
 
-            xs : List ℕ
-            xs = whole-rounds (most-acts (case-in s)) (case-in s)
+          known : Known (case-in s) (by-list (case-in s) acts)
+          known = record { paid = paid (case-in s) ok acts; tale = tale (case-in s) ok acts; trace = trace (case-in s) ok acts }
 
-            listed : by-rounds (case-in s) ≡ by-list (case-in s) xs
-            listed = runs-kept (case-in s) ok .rounds-listed (most-acts (case-in s)) (omega arith)
+      pub list-finish : List-done (c .workers) xs k₂ k₃ w₂ w₃ → Answer-asks k₃ (c .vertices) (c .source) w₃ o
+      list-finish d = record { case = case-in s; state = by-list (case-in s) xs; gone = list-gone d }
 
-            known : Known (case-in s) (by-list (case-in s) xs)
-            known = record { paid = paid (case-in s) ok xs; tale = tale (case-in s) ok xs; trace = trace (case-in s) ok xs }
+      pub rounds-finish : By-rounds-says (c .workers) (c .vertices) (c .edges) k₂ k₃ w₂ w₃ → Answer-asks k₃ (c .vertices) (c .source) w₃ o
+      rounds-finish d = record { case = case-in s; state = by-rounds (case-in s); gone = rounds-gone d }
 
-        pub list-finish : (xs : List ℕ) → any-at-or-above (c .workers + c .edges) xs ≡ false → List-done (c .workers) xs k₂ k₃ w₂ w₃ → Answer-asks k₃ (c .vertices) (c .source) w₃ o
-        list-finish xs e d = record { case = case-in s; state = by-list (case-in s) xs; gone = list-gone xs e d }
+      -- the cells' length alone counts in what is said of them
+      as-lent : length w₃ ≡ length w → (b : Bool) (x : State) (r : Outcome) (z : List ℕ) (v : List ℤ) → Run-says 0 b (case-in s) x r o z w₃ v → Run-says 0 b (case-in s) x r o z w v
+      unfolding Run-says zeros
+      as-lent long true x r z v t = record { refusal = t .refusal; verdict = t .verdict; acts = t .acts; written = t .written; output = t .output; work = t .work ∙ ap (λ (j : ℕ). replicate j (pos 0)) long }
+      as-lent long false x r z v t = record { refusal = t .refusal; verdict = t .verdict; acts = t .acts; written = t .written; output = t .output; work = t .work ∙ ap (λ (j : ℕ). replicate j (pos 0)) long }
 
-        pub rounds-finish : By-rounds-says (c .workers) (c .vertices) (c .edges) k₂ k₃ w₂ w₃ → Answer-asks k₃ (c .vertices) (c .source) w₃ o
-        rounds-finish d = record { case = case-in s; state = by-rounds (case-in s); gone = rounds-gone d }
+      right : case-refusal s ≡ 0
+      right = eqb-true (case-refusal s) 0 (unfold accepted in (l .taken))
 
-        -- the cells' length alone counts in what is said of them
-        as-lent : length w₃ ≡ length w → (b : Bool) (x : State) (r : Outcome) (z : List ℕ) (v : List ℤ) → Run-says 0 b (case-in s) x r o z w₃ v → Run-says 0 b (case-in s) x r o z w v
-        unfolding Run-says zeros
-        as-lent long true x r z v t = record { refusal = t .refusal; verdict = t .verdict; acts = t .acts; written = t .written; output = t .output; work = t .work ∙ ap (λ (j : ℕ). replicate j (pos 0)) long }
-        as-lent long false x r z v t = record { refusal = t .refusal; verdict = t .verdict; acts = t .acts; written = t .written; output = t .output; work = t .work ∙ ap (λ (j : ℕ). replicate j (pos 0)) long }
+      in-range : acts-refusal (case-in s) xs ≡ 0
+      in-range = unfold acts-refusal in (rw (rw (workers, edges) at (l .in-range)) (unfold refuse in refl))
 
-        not-short : buffer-refusal (length o) (length w) ≡ 0
-        not-short = buffers-long (length o) (length w) (rw (le-ltb (length o) least-output (a .output), le-ltb (length w) least-work (a .work)) refl)
+      pub list-says : List-done (c .workers) xs k₂ k₃ w₂ w₃ → {r : Outcome} {z : List ℕ} {v : List ℤ} → Finish-says k₃ (c .vertices) (c .source) r w₃ v o z → length w₃ ≡ length w → List-says s xs r o z w v
+      unfolding List-says list-refusal
+      list-says d {r} {z} {v} f long =
+          rw (buffers-long (length o) (length w) enough, right, in-range) (unfold first-of in (as-lent long (has-ended (by-list (case-in s) xs)) (by-list (case-in s) xs) r z v (f .says (case-in s) (by-list (case-in s) xs) (list-gone d))))
 
-        right : case-refusal s ≡ 0
-        right = eqb-true (case-refusal s) 0 (unfold accepted in (a .taken))
-
-        pub list-says : (xs : List ℕ) → any-at-or-above (c .workers + c .edges) xs ≡ false → List-done (c .workers) xs k₂ k₃ w₂ w₃ → {r : Outcome} {z : List ℕ} {v : List ℤ} → Finish-says k₃ (c .vertices) (c .source) r w₃ v o z → length w₃ ≡ length w → List-says s xs r o z w v
-        unfolding List-says list-refusal acts-refusal
-        list-says xs e d {r} {z} {v} f long =
-            rw (not-short, right, rw (workers, edges) at e) (unfold refuse first-of in (as-lent long (has-ended (by-list (case-in s) xs)) (by-list (case-in s) xs) r z v (f .says (case-in s) (by-list (case-in s) xs) (list-gone xs e d))))
-
-        pub rounds-say : By-rounds-says (c .workers) (c .vertices) (c .edges) k₂ k₃ w₂ w₃ → {r : Outcome} {z : List ℕ} {v : List ℤ} → Finish-says k₃ (c .vertices) (c .source) r w₃ v o z → length w₃ ≡ length w → Rounds-say s r o z w v
-        unfolding Rounds-say rounds-refusal
-        rounds-say d {r} {z} {v} f long =
-            rw (not-short, right) (unfold refuse first-of in (as-lent long (has-ended (by-rounds (case-in s))) (by-rounds (case-in s)) r z v (f .says (case-in s) (by-rounds (case-in s)) (rounds-gone d))))
-
-  -- an act out of range
-  pub list-out : (xs : List ℕ) → any-at-or-above (c .workers + c .edges) xs ≡ true → List-says s xs (refused-by 9) o o w w
-  unfolding List-says list-refusal acts-refusal
-  list-out xs e = refused-so _ 9 _ _ _ o w (nine (rw (workers, edges) at e)) (λ z. omega arith)
-    where
-      nine : any-at-or-above (case-in s .workers + length (case-in s .graph .edges)) xs ≡ true →
-          first-of (buffer-refusal (length o) (length w) ∷ case-refusal s ∷ refuse (any-at-or-above (case-in s .workers + length (case-in s .graph .edges)) xs) 9 ∷ []) ≡ 9
-      nine q = rw (buffers-long (length o) (length w) (rw (le-ltb (length o) least-output (a .output), le-ltb (length w) least-work (a .work)) refl), eqb-true (case-refusal s) 0 (unfold accepted in (a .taken)), q) (unfold refuse first-of in refl)
+      pub rounds-say : By-rounds-says (c .workers) (c .vertices) (c .edges) k₂ k₃ w₂ w₃ → {r : Outcome} {z : List ℕ} {v : List ℤ} → Finish-says k₃ (c .vertices) (c .source) r w₃ v o z → length w₃ ≡ length w → Rounds-say s r o z w v
+      unfolding Rounds-say rounds-refusal
+      rounds-say d {r} {z} {v} f long =
+          rw (buffers-long (length o) (length w) enough, right) (unfold first-of in (as-lent long (has-ended (by-rounds (case-in s))) (by-rounds (case-in s)) r z v (f .says (case-in s) (by-rounds (case-in s)) (rounds-gone d))))

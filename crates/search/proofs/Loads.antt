@@ -1,4 +1,4 @@
--- Loading: what the lines of an accepted text put into the cells, line by line. Assumes nothing.
+-- Loading: what tables put into the cells, entry by entry; and that the tables of a case put the case there. Assumes nothing.
 use mathlib.Core.Path.{_≡_, refl, sym, ap, _∙_}
 use mathlib.Core.Bool.{true, _&&_}
 use mathlib.Core.List.{List, [], _∷_, _++_}
@@ -9,27 +9,22 @@ use native.Mathlib.Omega.{arith}
 use native.Mathlib.Nat.{add-zero, zero-add}
 use native.Mathlib.Numerals.{add-one}
 use borrow.Author.Tests.{eqb-true, ltb-true}
-use lib.Dec.{eqb, ltb, lit<}
+use lib.Dec.{eqb, ltb}
 use lib.ListN.{length, getD, set, take, drop, replicate, length-append, length-replicate, length-set, length-take, drop-of-length-le}
-use lib.Seq.{drop-cons, getD-set-other}
+use lib.Seq.{drop-cons, getD-set-other, getD-take, length-take-le, ext-getD}
 use lib.IntN.{ℤ, pos}
 use Rattle.text.specs.Lines.{lines, line-at}
 use Rattle.text.specs.Numbers.{number-at}
 use Rattle.text.proofs.Tests.{or-cases, and-both}
-use Rattle.text.specs.Reading.{Number-there}
-use Rattle.text.proofs.Reading.{Row, row-first, row-last}
 use Rattle.model.specs.Graph.{Edge, edge, mark, total, accepting-count}
-use Rattle.model.specs.Case.{owner, most-workers, least-work, Sound, Within}
+use Rattle.model.specs.Case.{Case, owner, least-work, Sound, Within}
 use Rattle.model.specs.CaseFile.{rises, case-refusal, accepted, case-in}
 use Rattle.model.specs.Promise.{Files-sound}
 use Rattle.model.proofs.Accepting.{first-zero, edge-ends, files-sound}
-use Rattle.casefile.specs.Judging.{skip}
-use Rattle.casefile.proofs.Places.{skip-none}
-use Rattle.casefile.proofs.Loading.{vertex-row, edge-row}
+use Rattle.casefile.specs.Tables.{Holds}
 use Rattle.search.specs.Cells.{Region, Filled, by-from, by-to, accepting-at, owner-at, from-at, to-at, first-at}
-use Rattle.search.specs.Rep.{no-edge}
-use Rattle.search.specs.declared.load.Known.{Known}
-use Rattle.search.specs.Loading.{Known-is, Load-says, Rows-say, Pair-asks, Pair-says, Pairs-say}
+use Rattle.search.specs.Rep.{First-edges, Firsts, no-edge, Laid}
+use Rattle.search.specs.Loading.{Load-asks, Load-says, Rows-ask, Rows-say, Pair-asks, Pair-says, Pairs-ask, Pairs-say}
 use Rattle.search.proofs.Regions.{same-or, below-or, fill-start, region-below, region-above, region-none, region-grow, region-whole}
 
 pub sound-in : (s : List ℕ) → accepted s ≡ true → Sound (case-in s)
@@ -39,29 +34,6 @@ sound-in s a = files-sound s a .0
 pub within-in : (s : List ℕ) → accepted s ≡ true → Within (case-in s)
 unfolding Files-sound
 within-in s a = files-sound s a .1
-
--- ROWS: two rows at one place are the same
-module _ {s : List ℕ} {at : ℕ} {vs us : List ℕ} {z y : ℕ} (r : Row s at vs z) (q : Row s at us y) where
-  pub row-same : (i : ℕ) → i < length vs → i < length us → getD vs i 0 ≡ getD us i 0
-  row-same i h g = sym (r .are i h) ∙ q .are i g
-
-  pub past-same : z ≡ y
-  past-same = sym (r .past) ∙ q .past
-
--- number by number: what is read of a row that stands at a place
-module _ {s : List ℕ} {at v u : ℕ} {vs : List ℕ} {z : ℕ} {k : Known} (r : Row s at (v ∷ u ∷ vs) z) (i : Known-is s at k) where
-  known-worth : k .value ≡ v
-  known-worth = i .value ∙ row-first r .worth
-
-  known-later : Row s (k .past) (u ∷ vs) z
-  known-later = rw (i .past) (row-first r .later)
-
-module _ {s : List ℕ} {at v z : ℕ} {k : Known} (r : Row s at (v ∷ []) z) (i : Known-is s at k) where
-  last-worth : k .value ≡ v
-  last-worth = i .value ∙ row-last r .worth
-
-  last-past : k .past ≡ z
-  last-past = i .past ∙ row-last r .past
 
 -- SUMS from a place on
 total-at : (l : List ℕ) (v : ℕ) → v < length l → total (drop v l) ≡ getD l v 0 + total (drop (v + 1) l)
@@ -73,96 +45,50 @@ unfolding total
 total-none l v h = rw (drop-of-length-le l h)
 
 -- VERTICES: v of them are loaded, count of these accept
-pub record Rows-laid (s : List ℕ) (here v count : ℕ) (w₀ w : List ℤ) : Type 0 where
-  pub most : v ≤ case-in s .graph .vertices
-  pub place : here ≡ skip v s (skip 3 s 0)
-  pub counted : count + total (drop v (case-in s .graph .accepting)) ≡ total (case-in s .graph .accepting)
+pub record Rows-laid (marks owners : List ℕ) (v count : ℕ) (w₀ w : List ℤ) : Type 0 where
+  pub most : v ≤ length marks
+  pub counted : count + total (drop v marks) ≡ total marks
   pub few : count ≤ v
-  pub marks : Region pos 0 accepting-at (take v (case-in s .graph .accepting)) w
-  pub owners : Region pos 0 owner-at (take v (case-in s .owners)) w
+  pub mark-cells : Region pos 0 accepting-at (take v marks) w
+  pub owner-cells : Region pos 0 owner-at (take v owners) w
   pub long : length w ≡ length w₀
 
-pub rows-start : (s : List ℕ) (at : ℕ) (w : List ℤ) → at ≡ skip 3 s 0 → Rows-laid s at 0 0 w w
-rows-start s at w e =
+pub rows-start : (marks owners : List ℕ) (w : List ℤ) → Rows-laid marks owners 0 0 w w
+rows-start marks owners w =
     record {
       most = omega arith;
-      place = e ∙ sym (skip-none s (skip 3 s 0));
-      counted = zero-add (total (case-in s .graph .accepting));
+      counted = zero-add (total marks);
       few = omega arith;
-      marks = region-none pos 0 accepting-at (case-in s .graph .accepting) w;
-      owners = region-none pos 0 owner-at (case-in s .owners) w;
+      mark-cells = region-none pos 0 accepting-at marks w;
+      owner-cells = region-none pos 0 owner-at owners w;
       long = refl;
     }
 
-module _ {s : List ℕ} {here v count : ℕ} {w₀ w : List ℤ} (l : Rows-laid s here v count w₀ w) (a : accepted s ≡ true) where
-  pub rows-end : case-in s .graph .vertices ≤ v → Rows-say s count w₀ w
-  unfolding accepting-count
+module _ {marks owners : List ℕ} {v count : ℕ} {w₀ w : List ℤ} (l : Rows-laid marks owners v count w₀ w) (a : Rows-ask marks owners w₀) where
+  pub rows-end : length marks ≤ v → Rows-say marks owners count w₀ w
   rows-end h =
-      let o = sound-in s a in
       record {
-        mark-cells = region-whole pos 0 accepting-at (case-in s .graph .accepting) w v (l .marks) (omega (arith, o .marks));
-        owner-cells = region-whole pos 0 owner-at (case-in s .owners) w v (l .owners) (omega (arith, o .owned));
-        counted = omega (arith, l .counted, total-none (case-in s .graph .accepting) v (omega (arith, o .marks)));
+        mark-cells = region-whole pos 0 accepting-at marks w v (l .mark-cells) h;
+        owner-cells = region-whole pos 0 owner-at owners w v (l .owner-cells) (omega (arith, a .owned));
+        counted = omega (arith, l .counted, total-none marks v h);
         long = l .long;
       }
 
-  module _ (h : v < case-in s .graph .vertices) where
-    vertex-here : Row s here (v ∷ mark (case-in s .graph) v ∷ owner (case-in s) v ∷ []) (skip (v + 1) s (skip 3 s 0))
-    vertex-here = rw (l .place) (vertex-row s a v h)
-
-    -- its three numbers, one after the other
-    pub vertex-1 : Number-there s here
-    vertex-1 = row-first vertex-here .there
-
-    module _ {i : Known} (ki : Known-is s here i) where
-      pub vertex-2 : Number-there s (i .past)
-      vertex-2 = row-first (known-later vertex-here ki) .there
-
-      module _ {j : Known} (kj : Known-is s (i .past) j) where
-        pub vertex-3 : Number-there s (j .past)
-        vertex-3 = row-last (known-later (known-later vertex-here ki) kj) .there
-
-        pub vertex-read : {k : Known} → Known-is s (j .past) k → Row s here (i .value ∷ j .value ∷ k .value ∷ []) (k .past)
-        vertex-read kk =
-            let two = known-later vertex-here ki in
-            let three = known-later two kj in
-            rw (known-worth vertex-here ki, known-worth two kj, last-worth three kk, last-past three kk) vertex-here
-
-    module _ {i b c z : ℕ} (r : Row s here (i ∷ b ∷ c ∷ []) z) where
-      mark-is : b ≡ mark (case-in s .graph) v
-      mark-is = row-same r vertex-here 1 (lit< tt) (lit< tt)
-
-      owner-is : c ≡ owner (case-in s) v
-      owner-is = row-same r vertex-here 2 (lit< tt) (lit< tt)
-
-      owner-there : c ≡ getD (case-in s .owners) v 0
-      unfolding owner
-      owner-there = owner-is
-
-      pub row-mark : b < 2
-      row-mark = omega (arith, mark-is, sound-in s a .mark v h)
-
-      pub row-owner : c < most-workers
-      row-owner = omega (arith, owner-is, sound-in s a .owner v h, within-in s a .workers)
-
-      pub rows-step : least-work ≤ length w₀ → Rows-laid s z (v + 1) (count + b) w₀ (set (set w (accepting-at + v) (pos b)) (owner-at + v) (pos c))
-      rows-step long =
-          let o = sound-in s a in
-          let k = within-in s a in
-          let M = case-in s .graph .accepting in
-          let O = case-in s .owners in
-          let m1 = region-grow pos 0 accepting-at M w v (pos b) (l .marks) (omega (arith, o .marks)) (omega (arith, o .marks, k .vertices, l .long)) (ap pos mark-is) in
-          let o1 = region-below pos 0 owner-at (take v O) w (accepting-at + v) (pos b) (l .owners) (omega (arith, k .vertices)) in
-          let w₁ = set w (accepting-at + v) (pos b) in
-          record {
-            most = omega arith;
-            place = past-same r vertex-here;
-            counted = omega (arith, l .counted, mark-is, total-at M v (omega (arith, o .marks)));
-            few = omega (arith, l .few, row-mark);
-            marks = region-above pos 0 accepting-at (take (v + 1) M) w₁ (owner-at + v) (pos c) m1 (omega (arith, length-take (v + 1) M, o .marks, k .vertices));
-            owners = region-grow pos 0 owner-at O w₁ v (pos c) o1 (omega (arith, o .owned)) (omega (arith, length-set w (accepting-at + v) (pos b), o .owned, k .vertices, l .long)) (ap pos owner-there);
-            long = length-set w₁ (owner-at + v) (pos c) ∙ length-set w (accepting-at + v) (pos b) ∙ l .long;
-          }
+  pub rows-step : v < length marks → Rows-laid marks owners (v + 1) (count + getD marks v 0) w₀ (set (set w (accepting-at + v) (pos (getD marks v 0))) (owner-at + v) (pos (getD owners v 0)))
+  rows-step h =
+      let b = pos (getD marks v 0) in
+      let w₁ = set w (accepting-at + v) b in
+      let same = length-set w (accepting-at + v) b in
+      let m1 = region-grow pos 0 accepting-at marks w v b (l .mark-cells) h (omega (arith, a .many, a .long, l .long)) refl in
+      let o1 = region-below pos 0 owner-at (take v owners) w (accepting-at + v) b (l .owner-cells) (omega (arith, a .many)) in
+      record {
+        most = omega arith;
+        counted = omega (arith, l .counted, total-at marks v h);
+        few = omega (arith, l .few, a .mark v h);
+        mark-cells = region-above pos 0 accepting-at (take (v + 1) marks) w₁ (owner-at + v) (pos (getD owners v 0)) m1 (omega (arith, length-take (v + 1) marks, a .many));
+        owner-cells = region-grow pos 0 owner-at owners w₁ v (pos (getD owners v 0)) o1 (omega (arith, a .owned)) (omega (arith, same, a .owned, a .many, a .long, l .long)) refl;
+        long = length-set w₁ (owner-at + v) (pos (getD owners v 0)) ∙ same ∙ l .long;
+      }
 
 -- FIRST EDGES of the vertices before `next`, with e edges loaded of m, which leave the vertices f
 pub record First-part (f : ℕ → ℕ) (m e next : ℕ) (w : List ℤ) : Type 0 where
@@ -291,31 +217,29 @@ later-from s a e (suc k) h =
     let z : e + suc k ≡ suc (e + k) = omega arith in
     rw z (omega (arith, later-from s a e k (omega arith), next-from s a (e + k) (omega arith)))
 
-from-rises : (s : List ℕ) → accepted s ≡ true → (e j : ℕ) → e ≤ j → j < length (case-in s .graph .edges) → from-in s e ≤ from-in s j
+pub from-rises : (s : List ℕ) → accepted s ≡ true → (e j : ℕ) → e ≤ j → j < length (case-in s .graph .edges) → from-in s e ≤ from-in s j
 from-rises s a e j h g =
     let z : e + (j - e) ≡ j = omega arith in
     rw z at (later-from s a e (j - e) (omega arith))
 
 -- EDGES: e of them are loaded
-pub record Pairs-laid (s : List ℕ) (here e next : ℕ) (w₀ w : List ℤ) : Type 0 where
-  pub most : e ≤ length (case-in s .graph .edges)
-  pub place : here ≡ skip e s (skip (4 + case-in s .graph .vertices) s 0)
-  pub within : next ≤ case-in s .graph .vertices
-  pub firsts : First-part (from-in s) (length (case-in s .graph .edges)) e next w
-  pub froms : Region by-from no-edge from-at (take e (case-in s .graph .edges)) w
-  pub tos : Region by-to no-edge to-at (take e (case-in s .graph .edges)) w
+pub record Pairs-laid (froms tos : List ℕ) (n e next : ℕ) (w₀ w : List ℤ) : Type 0 where
+  pub most : e ≤ length froms
+  pub within : next ≤ n
+  pub firsts : First-part (λ j. getD froms j 0) (length froms) e next w
+  pub from-cells : Region pos 0 from-at (take e froms) w
+  pub to-cells : Region pos 0 to-at (take e tos) w
   pub kept : (i : ℕ) → i < from-at → getD w i (pos 0) ≡ getD w₀ i (pos 0)
   pub long : length w ≡ length w₀
 
-pub pairs-start : (s : List ℕ) (at : ℕ) (w : List ℤ) → at ≡ skip (4 + case-in s .graph .vertices) s 0 → Pairs-laid s at 0 0 w w
-pairs-start s at w e =
+pub pairs-start : (froms tos : List ℕ) (n : ℕ) (w : List ℤ) → Pairs-laid froms tos n 0 0 w w
+pairs-start froms tos n w =
     record {
       most = omega arith;
-      place = e ∙ sym (skip-none s (skip (4 + case-in s .graph .vertices) s 0));
       within = omega arith;
-      firsts = first-start (from-in s) (length (case-in s .graph .edges)) w;
-      froms = region-none by-from no-edge from-at (case-in s .graph .edges) w;
-      tos = region-none by-to no-edge to-at (case-in s .graph .edges) w;
+      firsts = first-start (λ j. getD froms j 0) (length froms) w;
+      from-cells = region-none pos 0 from-at froms w;
+      to-cells = region-none pos 0 to-at tos w;
       kept = λ i h. refl;
       long = refl;
     }
@@ -345,16 +269,13 @@ pair-kept e f t next w h =
 pub pair-new : (e f t next : ℕ) (w v : List ℤ) → next ≤ f → Filled (first-at + next) (f + 1 - next) (pos e) (set (set w (from-at + e) (pos f)) (to-at + e) (pos t)) v → Pair-says e f t next (f + 1) w v
 pair-new e f t next w v h c = record { later = omega arith; past = omega arith; exact = λ g. refl; cells = c }
 
-module _ {s : List ℕ} {here e next : ℕ} {w₀ w : List ℤ} (l : Pairs-laid s here e next w₀ w) (a : accepted s ≡ true) where
-  pub pairs-end : {n m : ℕ} {v : List ℤ} → n ≡ case-in s .graph .vertices → m ≡ length (case-in s .graph .edges) → m ≤ e → Filled (first-at + next) (n + 1 - next) (pos m) w v → Pairs-say s w₀ v
-  pairs-end {n} {m} {v} p q h c =
-      let E = case-in s .graph .edges in
-      let k = within-in s a in
-      let done : e ≡ length E = omega (arith, l .most) in
-      let low : length E ≤ e = omega arith in
-      let part : First-part (from-in s) (length E) (length E) next w = rw done at (l .firsts) in
-      let filled : Filled (first-at + next) (case-in s .graph .vertices + 1 - next) (pos (length E)) w v = rw (← p, ← q) c in
-      let r : First-part (from-in s) (length E) (length E) (case-in s .graph .vertices + 1) v = first-grow part (omega (arith, l .within)) filled (λ u j nu ur ej jm. absurd (omega arith)) in
+module _ {froms tos : List ℕ} {n e next : ℕ} {w₀ w : List ℤ} (l : Pairs-laid froms tos n e next w₀ w) (a : Pairs-ask froms tos n w₀) where
+  pub pairs-end : {v : List ℤ} → length froms ≤ e → Filled (first-at + next) (n + 1 - next) (pos (length froms)) w v → Pairs-say froms tos n w₀ v
+  pairs-end {v} h c =
+      let m = length froms in
+      let done : e ≡ m = omega (arith, l .most) in
+      let part : First-part (λ j. getD froms j 0) m m next w = rw done at (l .firsts) in
+      let r : First-part (λ j. getD froms j 0) m m (n + 1) v = first-grow part (omega (arith, l .within)) c (λ u j nu ur ej jm. absurd (omega arith)) in
       record {
         first = r .first;
         firsts = record {
@@ -363,111 +284,166 @@ module _ {s : List ℕ} {here e next : ℕ} {w₀ w : List ℤ} (l : Pairs-laid 
           before = λ u j g b. r .before u j (omega arith) b;
           after = λ u j g b d. r .after u j (omega arith) b d;
         };
-        from-cells = region-fill (region-whole by-from no-edge from-at E w e (l .froms) low) c (omega (arith, k .edges));
-        to-cells = region-fill (region-whole by-to no-edge to-at E w e (l .tos) low) c (omega (arith, k .edges));
+        from-cells = region-fill (region-whole pos 0 from-at froms w e (l .from-cells) h) c (omega (arith, a .many));
+        to-cells = region-fill (region-whole pos 0 to-at tos w e (l .to-cells) (omega (arith, a .paired))) c (omega (arith, a .paired, a .many));
         first-cells = r .cells;
         kept = λ i g. c .before i (omega arith) ∙ l .kept i g;
         long = c .long ∙ l .long;
       }
 
-  module _ (h : e < length (case-in s .graph .edges)) where
-    edge-here : Row s here (edge (case-in s .graph) e .from ∷ edge (case-in s .graph) e .to ∷ []) (skip (e + 1) s (skip (4 + case-in s .graph .vertices) s 0))
-    edge-here = rw (l .place) (edge-row s a e h)
+  module _ (h : e < length froms) where
+    pub pair-asks : Pair-asks e (getD froms e 0) (getD tos e 0) next w
+    pair-asks =
+        record {
+          number = omega (arith, a .many);
+          from = omega (arith, a .from e h, a .vertices);
+          to = omega (arith, a .to e h, a .vertices);
+          most = omega (arith, l .within, a .vertices);
+          long = omega (arith, l .long, a .long);
+        }
 
-    -- its two numbers, one after the other
-    pub edge-1 : Number-there s here
-    edge-1 = row-first edge-here .there
+    module _ {r : ℕ} {v : List ℤ} (y : Pair-says e (getD froms e 0) (getD tos e 0) next r w v) where
+      pair-within : (next < r) ⊎ (r ≤ next) → r ≤ n
+      pair-within (inl g) = omega (arith, y .exact g, a .from e h)
+      pair-within (inr g) = omega (arith, l .within)
 
-    module _ {i : Known} (ki : Known-is s here i) where
-      pub edge-2 : Number-there s (i .past)
-      edge-2 = row-last (known-later edge-here ki) .there
+      pair-firsts : First-part (λ j. getD froms j 0) (length froms) (e + 1) r v
+      pair-firsts =
+          let p1 = first-store (l .firsts) (from-at + e) (pos (getD froms e 0)) (omega (arith, a .many)) in
+          let p2 = first-store p1 (to-at + e) (pos (getD tos e 0)) (omega (arith, a .many)) in
+          let p3 = first-grow p2 (y .later) (y .cells) (λ u j nu ur ej jm. omega (arith, y .exact (omega arith), a .rise e j ej jm)) in
+          first-on p3 (y .past)
 
-      pub edge-read : {j : Known} → Known-is s (i .past) j → Row s here (i .value ∷ j .value ∷ []) (j .past)
-      edge-read kj = let two = known-later edge-here ki in rw (known-worth edge-here ki, last-worth two kj, last-past two kj) edge-here
-
-    module _ {f t z : ℕ} (row : Row s here (f ∷ t ∷ []) z) where
-      from-is : f ≡ from-in s e
-      from-is = row-same row edge-here 0 (lit< tt) (lit< tt)
-
-      to-is : t ≡ edge (case-in s .graph) e .to
-      to-is = row-same row edge-here 1 (lit< tt) (lit< tt)
-
-      from-there : f ≡ getD (case-in s .graph .edges) e no-edge .from
-      unfolding edge
-      from-there = from-is
-
-      to-there : t ≡ getD (case-in s .graph .edges) e no-edge .to
-      unfolding edge
-      to-there = to-is
-
-      pair-from : f < case-in s .graph .vertices
-      pair-from = omega (arith, from-is, sound-in s a .from e h)
-
-      pub pair-asks : least-work ≤ length w₀ → Pair-asks e f t next w
-      pair-asks long =
-          let k = within-in s a in
+      pub pairs-step : Pairs-laid froms tos n (e + 1) r w₀ v
+      pairs-step =
+          let f = pos (getD froms e 0) in
+          let t = pos (getD tos e 0) in
+          let w₁ = set w (from-at + e) f in
+          let same = length-set w (from-at + e) f in
+          let f1 = region-grow pos 0 from-at froms w e f (l .from-cells) h (omega (arith, a .many, a .long, l .long)) refl in
+          let f2 = region-above pos 0 from-at (take (e + 1) froms) w₁ (to-at + e) t f1 (omega (arith, length-take (e + 1) froms, a .many)) in
+          let t1 = region-below pos 0 to-at (take e tos) w (from-at + e) f (l .to-cells) (omega (arith, a .many)) in
+          let t2 = region-grow pos 0 to-at tos w₁ e t t1 (omega (arith, a .paired)) (omega (arith, same, a .paired, a .many, a .long, l .long)) refl in
           record {
-            number = omega (arith, k .edges);
-            from = omega (arith, pair-from, k .vertices);
-            to = omega (arith, to-is, sound-in s a .to e h, k .vertices);
-            most = omega (arith, l .within, k .vertices);
-            long = omega (arith, l .long);
+            most = omega arith;
+            within = pair-within (below-or next r);
+            firsts = pair-firsts;
+            from-cells = region-fill f2 (y .cells) (omega (arith, length-take (e + 1) froms, a .many));
+            to-cells = region-fill t2 (y .cells) (omega (arith, length-take (e + 1) tos, a .paired, a .many));
+            kept = λ i g.
+                let n1 : i ≡ to-at + e → ⊥ = λ q. omega arith in
+                let n2 : i ≡ from-at + e → ⊥ = λ q. omega arith in
+                y .cells .before i (omega arith) ∙ getD-set-other w₁ (to-at + e) i t (pos 0) n1 ∙ getD-set-other w (from-at + e) i f (pos 0) n2 ∙ l .kept i g;
+            long = y .cells .long ∙ length-set w₁ (to-at + e) t ∙ same ∙ l .long;
           }
 
-      module _ {r : ℕ} {v : List ℤ} (y : Pair-says e f t next r w v) where
-        pair-within : (next < r) ⊎ (r ≤ next) → r ≤ case-in s .graph .vertices
-        pair-within (inl g) = omega (arith, y .exact g, pair-from)
-        pair-within (inr g) = omega (arith, l .within)
-
-        pair-firsts : First-part (from-in s) (length (case-in s .graph .edges)) (e + 1) r v
-        pair-firsts =
-            let k = within-in s a in
-            let p1 = first-store (l .firsts) (from-at + e) (pos f) (omega (arith, k .edges)) in
-            let p2 = first-store p1 (to-at + e) (pos t) (omega (arith, k .edges)) in
-            let p3 = first-grow p2 (y .later) (y .cells) (λ u j nu ur ej jm. omega (arith, y .exact (omega arith), from-is, from-rises s a e j ej jm)) in
-            first-on p3 (omega (arith, y .past, from-is))
-
-        pub pairs-step : least-work ≤ length w₀ → Pairs-laid s z (e + 1) r w₀ v
-        pairs-step long =
-            let E = case-in s .graph .edges in
-            let k = within-in s a in
-            let w₁ = set w (from-at + e) (pos f) in
-            let f1 = region-grow by-from no-edge from-at E w e (pos f) (l .froms) h (omega (arith, k .edges, l .long)) (ap pos from-there) in
-            let f2 = region-above by-from no-edge from-at (take (e + 1) E) w₁ (to-at + e) (pos t) f1 (omega (arith, length-take (e + 1) E, k .edges)) in
-            let t1 = region-below by-to no-edge to-at (take e E) w (from-at + e) (pos f) (l .tos) (omega (arith, k .edges)) in
-            let t2 = region-grow by-to no-edge to-at E w₁ e (pos t) t1 h (omega (arith, length-set w (from-at + e) (pos f), k .edges, l .long)) (ap pos to-there) in
-            record {
-              most = omega arith;
-              place = past-same row edge-here;
-              within = pair-within (below-or next r);
-              firsts = pair-firsts;
-              froms = region-fill f2 (y .cells) (omega (arith, length-take (e + 1) E, k .edges));
-              tos = region-fill t2 (y .cells) (omega (arith, length-take (e + 1) E, k .edges));
-              kept = λ i g.
-                  let n1 : i ≡ to-at + e → ⊥ = λ q. omega arith in
-                  let n2 : i ≡ from-at + e → ⊥ = λ q. omega arith in
-                  y .cells .before i (omega arith) ∙ getD-set-other w₁ (to-at + e) i (pos t) (pos 0) n1 ∙ getD-set-other w (from-at + e) i (pos f) (pos 0) n2 ∙ l .kept i g;
-              long = y .cells .long ∙ length-set w₁ (to-at + e) (pos t) ∙ length-set w (from-at + e) (pos f) ∙ l .long;
-            }
-
--- THE CASE: vertices, then edges
-pub case-laid : {s : List ℕ} {count : ℕ} {w u v : List ℤ} → accepted s ≡ true → least-work ≤ length w → Rows-say s count w u → Pairs-say s u v → Load-says s count w v
-case-laid {s} {count} {w} {u} {v} a long r p =
-    let o = sound-in s a in
-    let k = within-in s a in
+-- BOTH: vertices, then edges
+pub both-loaded : {marks owners froms tos : List ℕ} {count : ℕ} {w u v : List ℤ} → Rows-ask marks owners w → Rows-say marks owners count w u → Pairs-say froms tos (length marks) u v → Load-says marks owners froms tos count w v
+both-loaded a r p =
     record {
-      laid = record {
-        sound = o;
-        within = k;
-        long = omega (arith, r .long, p .long);
-        first = p .first;
-        firsts = p .firsts;
-        mark-cells = record { each = λ i h. p .kept (accepting-at + i) (omega (arith, o .marks, k .vertices)) ∙ r .mark-cells .each i h };
-        owner-cells = record { each = λ i h. p .kept (owner-at + i) (omega (arith, o .owned, k .vertices)) ∙ r .owner-cells .each i h };
-        from-cells = p .from-cells;
-        to-cells = p .to-cells;
-        first-cells = p .first-cells;
-      };
+      first = p .first;
+      firsts = p .firsts;
+      mark-cells = record { each = λ i h. p .kept (accepting-at + i) (omega (arith, a .many)) ∙ r .mark-cells .each i h };
+      owner-cells = record { each = λ i h. p .kept (owner-at + i) (omega (arith, a .owned, a .many)) ∙ r .owner-cells .each i h };
+      from-cells = p .from-cells;
+      to-cells = p .to-cells;
+      first-cells = p .first-cells;
       counted = r .counted;
       long = p .long ∙ r .long;
     }
+
+-- THE CASE: its tables, put in the cells, are the case in the cells
+module _ {c : Case} {marks owners froms tos : List ℕ} (ok : Sound c) (in-limits : Within c)
+    (rise : (e j : ℕ) → e ≤ j → j < length (c .graph .edges) → edge (c .graph) e .from ≤ edge (c .graph) j .from)
+    (h : Holds c marks owners froms tos) {n m : ℕ} (p : n ≡ c .graph .vertices) (q : m ≡ length (c .graph .edges))
+    (room : (n ≤ length marks) × (n ≤ length owners) × (m ≤ length froms) × (m ≤ length tos)) where
+  many-marks : length (take n marks) ≡ n
+  many-marks = length-take-le n marks (room .0)
+
+  many-owners : length (take n owners) ≡ n
+  many-owners = length-take-le n owners (room .1)
+
+  many-froms : length (take m froms) ≡ m
+  many-froms = length-take-le m froms (room .2)
+
+  many-tos : length (take m tos) ≡ m
+  many-tos = length-take-le m tos (room .3)
+
+  marks-are : take n marks ≡ c .graph .accepting
+  marks-are = ext-getD 0 _ _ (many-marks ∙ p ∙ sym (ok .marks)) (λ v g. getD-take n marks v 0 (omega (arith, many-marks)) ∙ h .mark-at v (omega (arith, many-marks)))
+
+  owners-are : take n owners ≡ c .owners
+  unfolding owner
+  owners-are = ext-getD 0 _ _ (many-owners ∙ p ∙ sym (ok .owned)) (λ v g. getD-take n owners v 0 (omega (arith, many-owners)) ∙ h .owner-at v (omega (arith, many-owners)))
+
+  from-is : (e : ℕ) → e < m → getD (take m froms) e 0 ≡ edge (c .graph) e .from
+  from-is e g = getD-take m froms e 0 g ∙ h .from-at e (omega arith)
+
+  to-is : (e : ℕ) → e < m → getD (take m tos) e 0 ≡ edge (c .graph) e .to
+  to-is e g = getD-take m tos e 0 g ∙ h .to-at e (omega arith)
+
+  mark-low : (v : ℕ) → v < n → getD (take n marks) v 0 < 2
+  mark-low v g = rw marks-are (ok .mark v (omega arith))
+
+  owner-is : (v : ℕ) → v < n → getD (take n owners) v 0 ≡ owner c v
+  owner-is v g = getD-take n owners v 0 g ∙ h .owner-at v (omega arith)
+
+  pub load-asks : {w : List ℤ} → least-work ≤ length w → Load-asks (take n marks) (take n owners) (take m froms) (take m tos) w
+  load-asks long =
+      record {
+        rows = record {
+          many = omega (arith, many-marks, in-limits .vertices);
+          owned = many-owners ∙ sym many-marks;
+          mark = λ v g. mark-low v (omega (arith, many-marks));
+          owner = λ v g. let z : v < n = omega (arith, many-marks) in omega (arith, owner-is v z, ok .owner v (omega arith), in-limits .workers);
+          long = long;
+        };
+        pairs = record {
+          many = omega (arith, many-froms, in-limits .edges);
+          paired = many-tos ∙ sym many-froms;
+          vertices = omega (arith, many-marks, in-limits .vertices);
+          from = λ e g. let z : e < m = omega (arith, many-froms) in omega (arith, from-is e z, ok .from e (omega arith), many-marks);
+          to = λ e g. let z : e < m = omega (arith, many-froms) in omega (arith, to-is e z, ok .to e (omega arith), many-marks);
+          rise = λ e j k g. let z : j < m = omega (arith, many-froms) in omega (arith, from-is e (omega arith), from-is j z, rise e j k (omega arith));
+          long = long;
+        };
+      }
+
+  -- the first edges of the tables are the case's
+  firsts-are : {F : List ℕ} → First-edges (λ e. getD (take m froms) e 0) (length (take n marks)) (length (take m froms)) F → Firsts (c .graph) F
+  firsts-are f =
+      let many : length (take n marks) ≡ c .graph .vertices = many-marks ∙ p in
+      let low : (v : ℕ) → v ≤ c .graph .vertices → v ≤ length (take n marks) = λ v g. omega (arith, many) in
+      record {
+        sized = omega (arith, f .sized, many);
+        below = λ v g. omega (arith, f .below v (low v g), many-froms);
+        before = λ v e g b. omega (arith, f .before v e (low v g) b, from-is e (omega (arith, f .below v (low v g), many-froms)));
+        after = λ v e g b d. omega (arith, f .after v e (low v g) b (omega (arith, many-froms)), from-is e (omega arith));
+      }
+
+  from-there : (e : ℕ) → e < length (c .graph .edges) → pos (getD (take m froms) e 0) ≡ by-from (getD (c .graph .edges) e no-edge)
+  unfolding edge
+  from-there e g = ap pos (from-is e (omega arith))
+
+  to-there : (e : ℕ) → e < length (c .graph .edges) → pos (getD (take m tos) e 0) ≡ by-to (getD (c .graph .edges) e no-edge)
+  unfolding edge
+  to-there e g = ap pos (to-is e (omega arith))
+
+  pub load-laid : {count : ℕ} {w v : List ℤ} → least-work ≤ length w → Load-says (take n marks) (take n owners) (take m froms) (take m tos) count w v → Laid c v
+  load-laid long s =
+      record {
+        sound = ok;
+        within = in-limits;
+        long = omega (arith, s .long);
+        first = s .first;
+        firsts = firsts-are (s .firsts);
+        mark-cells = rw marks-are at (s .mark-cells);
+        owner-cells = rw owners-are at (s .owner-cells);
+        from-cells = record { each = λ e g. s .from-cells .each e (omega (arith, many-froms)) ∙ from-there e g };
+        to-cells = record { each = λ e g. s .to-cells .each e (omega (arith, many-tos)) ∙ to-there e g };
+        first-cells = s .first-cells;
+      }
+
+  pub load-counts : {count : ℕ} {w v : List ℤ} → Load-says (take n marks) (take n owners) (take m froms) (take m tos) count w v → count ≡ accepting-count (c .graph)
+  unfolding accepting-count
+  load-counts s = s .counted ∙ ap total marks-are

@@ -1,23 +1,37 @@
 -- What the steps of the entries ask and say. Assumes nothing: these are definitions.
 use mathlib.Core.Path.{_≡_}
-use mathlib.Core.Bool.{true}
-use mathlib.Core.List.{List}
-use Prim.Native.Nat.{ℕ, _≤_}
+use mathlib.Core.Bool.{true, false}
+use mathlib.Core.List.{List, [], _∷_}
+use Prim.Native.Nat.{ℕ, _+_, _<_}
 use lib.ListN.{length}
 use lib.IntN.{ℤ}
-use Rattle.model.specs.Case.{least-output, least-work}
-use Rattle.model.specs.CaseFile.{accepted}
+use Rattle.model.specs.Graph.{accepting-count}
+use Rattle.model.specs.CaseFile.{first-of, case-refusal, accepted, case-in}
+use Rattle.model.specs.Entry.{any-at-or-above, acts-refusal}
 use Rattle.model.specs.declared.Outcome.{Outcome}
 use Rattle.casefile.specs.Judging.{header}
 use Rattle.casefile.specs.declared.Case.{Case}
+use Rattle.search.specs.declared.Loaded.{Loaded}
+use Rattle.search.specs.declared.Loaded.the-variants.{Refused, Laid}
+use Rattle.search.specs.Rep as rep
 
 -- "A refusal returns its number, answer length 0 and 0 acts"
 abbrev pub refused-by : (number : ℕ) → Outcome
 refused-by k = record { refusal = k; verdict = 0; acts = 0; written = 0 }
 
--- an accepted text with its case, and buffers long enough
-pub record Case-asks (text : List ℕ) (case : Case) (o : List ℕ) (w : List ℤ) : Type 0 where
-  pub taken : accepted text ≡ true
-  pub is : case ≡ header text
-  pub output : least-output ≤ length o
-  pub work : least-work ≤ length w
+-- LOADING: refusals 1 to 8, then 9, which change no cell
+unfoldable pub load-refusal : (case acts : List ℕ) → ℕ
+load-refusal bs xs = first-of (case-refusal bs ∷ acts-refusal (case-in bs) xs ∷ [])
+
+-- or the text's case stands in the cells, and count of its vertices accept
+pub record Case-laid (bs xs : List ℕ) (c : Case) (count : ℕ) (w v : List ℤ) : Type 0 where
+  pub taken : accepted bs ≡ true
+  pub is : c ≡ header bs
+  pub in-range : any-at-or-above (c .workers + c .edges) xs ≡ false
+  pub laid : rep.Laid (case-in bs) v
+  pub counted : count ≡ accepting-count (case-in bs .graph)
+  pub long : length v ≡ length w
+
+abbrev pub Loads : (case acts : List ℕ) → Loaded → (work work-now : List ℤ) → Type 0
+Loads bs xs (Refused k) w v = (load-refusal bs xs ≡ k) × (0 < k) × (v ≡ w)
+Loads bs xs (Laid c n) w v = Case-laid bs xs c n w v

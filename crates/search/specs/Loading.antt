@@ -1,51 +1,26 @@
 -- What loading a case into the cells asks and says. Assumes nothing: these are definitions.
 use mathlib.Core.Path.{_≡_}
-use mathlib.Core.Bool.{true}
 use mathlib.Core.List.{List}
-use Prim.Native.Nat.{ℕ, suc, _+_, _-_, _≤_, _<_}
+use Prim.Native.Nat.{ℕ, _+_, _-_, _≤_, _<_}
 use lib.ListN.{length, getD, set}
 use lib.IntN.{ℤ, pos}
-use Rattle.text.specs.Numbers.{value}
-use Rattle.text.specs.Reading.{field-here}
-use Rattle.model.specs.Graph.{accepting-count}
-use Rattle.model.specs.Case.{most-vertices, most-edges, least-work}
-use Rattle.model.specs.CaseFile.{accepted, case-in}
-use Rattle.casefile.specs.Judging.{skip}
-use Rattle.search.specs.declared.load.Known.{Known}
-use Rattle.search.specs.Cells.{Region, Filled, by-from, by-to, accepting-at, owner-at, from-at, to-at, first-at}
-use Rattle.search.specs.Rep.{Firsts, no-edge, Laid}
+use Rattle.model.specs.Graph.{total}
+use Rattle.model.specs.Case.{most-vertices, most-edges, most-workers, least-work}
+use Rattle.search.specs.Cells.{Region, Filled, accepting-at, owner-at, from-at, to-at, first-at}
+use Rattle.search.specs.Rep.{First-edges}
 
--- an accepted text, the counts and places that the judge gives for it, and cells enough
-pub record Load-asks (text : List ℕ) (n m rows pairs : ℕ) (w : List ℤ) : Type 0 where
-  pub taken : accepted text ≡ true
-  pub vertices : n ≡ case-in text .graph .vertices
-  pub edges : m ≡ length (case-in text .graph .edges)
-  pub rows-at : rows ≡ skip 3 text 0
-  pub pairs-at : pairs ≡ skip (4 + case-in text .graph .vertices) text 0
+-- VERTICES: tables of marks and owners, one entry for each vertex, that fit the cells
+pub record Rows-ask (marks owners : List ℕ) (w : List ℤ) : Type 0 where
+  pub many : length marks ≤ most-vertices
+  pub owned : length owners ≡ length marks
+  pub mark : (v : ℕ) → v < length marks → getD marks v 0 < 2
+  pub owner : (v : ℕ) → v < length marks → getD owners v 0 < most-workers
   pub long : least-work ≤ length w
 
--- the case stands in the cells, and marks is the number of accepting vertices
-pub record Load-says (text : List ℕ) (marks : ℕ) (w v : List ℤ) : Type 0 where
-  pub laid : Laid (case-in text) v
-  pub counted : marks ≡ accepting-count (case-in text .graph)
-  pub long : length v ≡ length w
-
--- A NUMBER that is known to stand at a place: its value, and the place past the byte that ends it
-pub record Known-is (text : List ℕ) (at : ℕ) (k : Known) : Type 0 where
-  pub value : k .value ≡ value (field-here text at)
-  pub past : k .past ≡ at + suc (length (field-here text at))
-
--- VERTEX LINES: the same for the lines of the vertices alone
-pub record Rows-ask (text : List ℕ) (at n : ℕ) (w : List ℤ) : Type 0 where
-  pub taken : accepted text ≡ true
-  pub vertices : n ≡ case-in text .graph .vertices
-  pub place : at ≡ skip 3 text 0
-  pub long : least-work ≤ length w
-
-pub record Rows-say (text : List ℕ) (marks : ℕ) (w v : List ℤ) : Type 0 where
-  pub mark-cells : Region pos 0 accepting-at (case-in text .graph .accepting) v
-  pub owner-cells : Region pos 0 owner-at (case-in text .owners) v
-  pub counted : marks ≡ accepting-count (case-in text .graph)
+pub record Rows-say (marks owners : List ℕ) (count : ℕ) (w v : List ℤ) : Type 0 where
+  pub mark-cells : Region pos 0 accepting-at marks v
+  pub owner-cells : Region pos 0 owner-at owners v
+  pub counted : count ≡ total marks
   pub long : length v ≡ length w
 
 -- ONE EDGE e from f to t, where `next` is the lowest vertex without a first edge
@@ -63,19 +38,38 @@ pub record Pair-says (e f t next r : ℕ) (w v : List ℤ) : Type 0 where
   pub exact : next < r → r ≡ f + 1
   pub cells : Filled (first-at + next) (r - next) (pos e) (set (set w (from-at + e) (pos f)) (to-at + e) (pos t)) v
 
--- EDGE LINES: the ends and the first edges stand in the cells, and what is before them stays
-pub record Pairs-ask (text : List ℕ) (at n m : ℕ) (w : List ℤ) : Type 0 where
-  pub taken : accepted text ≡ true
-  pub vertices : n ≡ case-in text .graph .vertices
-  pub edges : m ≡ length (case-in text .graph .edges)
-  pub place : at ≡ skip (4 + case-in text .graph .vertices) text 0
+-- EDGES: tables of their two ends, vertices below n, sorted by from
+pub record Pairs-ask (froms tos : List ℕ) (n : ℕ) (w : List ℤ) : Type 0 where
+  pub many : length froms ≤ most-edges
+  pub paired : length tos ≡ length froms
+  pub vertices : n ≤ most-vertices
+  pub from : (e : ℕ) → e < length froms → getD froms e 0 < n
+  pub to : (e : ℕ) → e < length froms → getD tos e 0 < n
+  pub rise : (e j : ℕ) → e ≤ j → j < length froms → getD froms e 0 ≤ getD froms j 0
   pub long : least-work ≤ length w
 
-pub record Pairs-say (text : List ℕ) (w v : List ℤ) : Type 0 where
+-- the ends and the first edges stand in the cells, and what is before them stays
+pub record Pairs-say (froms tos : List ℕ) (n : ℕ) (w v : List ℤ) : Type 0 where
   pub first : List ℕ
-  pub firsts : Firsts (case-in text .graph) first
-  pub from-cells : Region by-from no-edge from-at (case-in text .graph .edges) v
-  pub to-cells : Region by-to no-edge to-at (case-in text .graph .edges) v
+  pub firsts : First-edges (λ e. getD froms e 0) n (length froms) first
+  pub from-cells : Region pos 0 from-at froms v
+  pub to-cells : Region pos 0 to-at tos v
   pub first-cells : Region pos 0 first-at first v
   pub kept : (i : ℕ) → i < from-at → getD v i (pos 0) ≡ getD w i (pos 0)
+  pub long : length v ≡ length w
+
+-- BOTH
+pub record Load-asks (marks owners froms tos : List ℕ) (w : List ℤ) : Type 0 where
+  pub rows : Rows-ask marks owners w
+  pub pairs : Pairs-ask froms tos (length marks) w
+
+pub record Load-says (marks owners froms tos : List ℕ) (count : ℕ) (w v : List ℤ) : Type 0 where
+  pub first : List ℕ
+  pub firsts : First-edges (λ e. getD froms e 0) (length marks) (length froms) first
+  pub mark-cells : Region pos 0 accepting-at marks v
+  pub owner-cells : Region pos 0 owner-at owners v
+  pub from-cells : Region pos 0 from-at froms v
+  pub to-cells : Region pos 0 to-at tos v
+  pub first-cells : Region pos 0 first-at first v
+  pub counted : count ≡ total marks
   pub long : length v ≡ length w

@@ -17,11 +17,14 @@ abbrev pub no-edge : Edge
 no-edge = record { from = 0; to = 0 }
 
 -- edges are sorted by from, and F v is the number of the first edge from v or a later vertex: v's own edges are F v to F (v + 1)
-pub record Firsts (g : Graph) (F : List ℕ) : Type 0 where
-  pub sized : length F ≡ g .vertices + 1
-  pub below : (v : ℕ) → v ≤ g .vertices → getD F v 0 ≤ length (g .edges)
-  pub before : (v e : ℕ) → v ≤ g .vertices → e < getD F v 0 → edge g e .from < v
-  pub after : (v e : ℕ) → v ≤ g .vertices → getD F v 0 ≤ e → e < length (g .edges) → v ≤ edge g e .from
+pub record First-edges (from : ℕ → ℕ) (n m : ℕ) (F : List ℕ) : Type 0 where
+  pub sized : length F ≡ n + 1
+  pub below : (v : ℕ) → v ≤ n → getD F v 0 ≤ m
+  pub before : (v e : ℕ) → v ≤ n → e < getD F v 0 → from e < v
+  pub after : (v e : ℕ) → v ≤ n → getD F v 0 ≤ e → e < m → v ≤ from e
+
+abbrev pub Firsts : Graph → (F : List ℕ) → Type 0
+Firsts g F = First-edges (λ e. edge g e .from) (g .vertices) (length (g .edges)) F
 
 -- a case stands in the cells
 pub record Laid (c : Case) (w : List ℤ) : Type 0 where

@@ -11,13 +11,15 @@ mod show;
 
 ghost use mathlib.Core.Path.{_≡_};
 ghost use mathlib.Core.Bool.{_||_};
+ghost use Prim.Native.Nat.{_≤_};
 ghost use lib.Dec.{ltb};
+ghost use lib.ListN.{length};
 ghost use Rattle.model.specs.Case.{least-output, least-work};
 ghost use Rattle.model.specs.Entry.{any-at-or-above, List-says, Rounds-say};
-ghost use Rattle.search.specs.Entries.{refused-by, Case-asks};
+ghost use Rattle.search.specs.Entries.{refused-by, Loads};
 use casefile::Case;
 use casefile::Judged;
-use casefile::judge;
+use casefile::read_case;
 use finish::finish;
 use load::load_case;
 use model::Outcome;
@@ -62,43 +64,35 @@ fn out_of_range(acts: &[u32], limit: usize) -> bool
     false
 }
 
-// A run of an accepted case by a list of acts.
-fn list_of(text: &[u8], acts: &[u32], output: &mut [u8], work: &mut [i32], case: Case) -> Outcome
-    requires { ⌜ Case-asks (now text) case (now output) (now work) ⌝ }
-    ensures { λ r. ⌜ List-says (now (text .entry)) (now (acts .entry)) r (now (output .entry)) (now (output .exit)) (now (work .entry)) (now (work .exit)) ⌝ }
-{
-    if out_of_range(acts, case.workers + case.edges) {
-        return refused(9);
-    }
-    let marks = load_case(
-        work,
-        text,
-        case.vertices,
-        case.edges,
-        case.vertex_lines,
-        case.edge_lines,
-    );
-    let fresh = begin(work, case.source, marks);
-    let run = act_list(work, fresh, acts, case.workers);
-    finish(output, work, run, case.vertices, case.source)
+// What came of loading: the refusal, with the cells as they were; or the case, which stands in the cells, and how many of
+// its vertices accept.
+enum Loaded {
+    Refused(u32),
+    Laid(Case, usize),
 }
 
-// A run of an accepted case by rounds.
-fn rounds_of(text: &[u8], output: &mut [u8], work: &mut [i32], case: Case) -> Outcome
-    requires { ⌜ Case-asks (now text) case (now output) (now work) ⌝ }
-    ensures { λ r. ⌜ Rounds-say (now (text .entry)) r (now (output .entry)) (now (output .exit)) (now (work .entry)) (now (work .exit)) ⌝ }
+// Reads a case, tests the acts against it, and loads it into the cells. The tables keep what was read until it is known
+// that nothing refuses the call.
+fn load_text(text: &[u8], acts: &[u32], work: &mut [i32]) -> Loaded
+    requires { ⌜ least-work ≤ length (now work) ⌝ }
+    ensures { λ r. ⌜ Loads (now (text .entry)) (now (acts .entry)) r (now (work .entry)) (now (work .exit)) ⌝ }
 {
-    let marks = load_case(
-        work,
-        text,
-        case.vertices,
-        case.edges,
-        case.vertex_lines,
-        case.edge_lines,
-    );
-    let fresh = begin(work, case.source, marks);
-    let run = run_by_rounds(work, fresh, case.workers, case.vertices, case.edges);
-    finish(output, work, run, case.vertices, case.source)
+    let mut marks = [0u32; Case::MOST_VERTICES];
+    let mut owners = [0u32; Case::MOST_VERTICES];
+    let mut froms = [0u32; Case::MOST_EDGES];
+    let mut tos = [0u32; Case::MOST_EDGES];
+    match read_case(text, &mut marks, &mut owners, &mut froms, &mut tos) {
+        Judged::Refused(k) => Loaded::Refused(k),
+        Judged::Accepted(c) => {
+            if out_of_range(acts, c.workers + c.edges) {
+                return Loaded::Refused(9);
+            }
+            let n = c.vertices;
+            let m = c.edges;
+            let count = load_case(work, &marks[..n], &owners[..n], &froms[..m], &tos[..m]);
+            Loaded::Laid(c, count)
+        }
+    }
 }
 
 // Runs a case by a list of acts: 11 first, then 1 to 8, then 9, then the run, then 10.
@@ -108,9 +102,13 @@ pub fn run_list(case: &[u8], acts: &[u32], output: &mut [u8], work: &mut [i32]) 
     if too_short(output.len(), work.len()) {
         return refused(11);
     }
-    match judge(case) {
-        Judged::Refused(k) => refused(k),
-        Judged::Accepted(c) => list_of(case, acts, output, work, c),
+    match load_text(case, acts, work) {
+        Loaded::Refused(k) => refused(k),
+        Loaded::Laid(c, marks) => {
+            let fresh = begin(work, c.source, marks);
+            let run = act_list(work, fresh, acts, c.workers);
+            finish(output, work, run, c.vertices, c.source)
+        }
     }
 }
 
@@ -121,8 +119,12 @@ pub fn run_rounds(case: &[u8], output: &mut [u8], work: &mut [i32]) -> Outcome
     if too_short(output.len(), work.len()) {
         return refused(11);
     }
-    match judge(case) {
-        Judged::Refused(k) => refused(k),
-        Judged::Accepted(c) => rounds_of(case, output, work, c),
+    match load_text(case, &[], work) {
+        Loaded::Refused(k) => refused(k),
+        Loaded::Laid(c, marks) => {
+            let fresh = begin(work, c.source, marks);
+            let run = run_by_rounds(work, fresh, c.workers, c.vertices, c.edges);
+            finish(output, work, run, c.vertices, c.source)
+        }
     }
 }

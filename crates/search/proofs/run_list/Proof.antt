@@ -1,8 +1,8 @@
 -- `search::run_list`: the buffers, the case, then the run.
 use mathlib.Core.Path.{sym, _∙_}
-use mathlib.Core.List.{[]}
-use Rattle.casefile.proofs.Whole.{turned}
-use Rattle.search.proofs.Entries.{case-asks, list-short, list-turned}
+use native.Mathlib.Omega.{arith}
+use lib.ListN.{length}
+use Rattle.search.proofs.Entries.{buffers-enough, list-short, list-turned, loads-refused, loads-laid, begin-asks, list-asks, list-finish, list-says}
 use borrow.Author.Needs.{needs}
 use Rattle.search.proofs.run_list.Statement.{statement}
 use Rattle.search.proofs.run_list.Tie as tie
@@ -16,8 +16,8 @@ refused-requires c κs = search needs
 returns : tie.Need-returns
 returns c = rw (c .refused .ensures) (list-short _ _ _ _ (sym (c .before .before .too-short .ensures) ∙ c .before .if1 .taken))
 
-judge-requires : tie.Need-judge-requires
-judge-requires c κs = search needs
+load-text-requires : tie.Need-load-text-requires
+load-text-requires c κs = buffers-enough (length (c .before .before .before .before .before .before .args .output .now)) _ (sym (c .before .before .too-short .ensures) ∙ c .before .if1 .left) .1
 
 enum-known-k : tie.Need-enum-known-k
 enum-known-k c = search needs
@@ -28,20 +28,29 @@ refused-requires-2 c κs = search needs
 enum-known-c : tie.Need-enum-known-c
 enum-known-c c = search needs
 
-list-of-requires : tie.Need-list-of-requires
-list-of-requires c κs = case-asks _ _ _ (sym (c .before .before .before .before .before .before .before .too-short .ensures) ∙ c .before .before .before .before .before .before .if1 .left) (c .before .before .before .before .before .judge .ensures) (c .before .before .before .c .given .1)
+begin-requires : tie.Need-begin-requires
+begin-requires c κs = begin-asks _ _ _ _ _ _ (loads-laid (c .before .before .before .before .before .load-text .ensures) (c .before .before .c .given .1))
 
-returns-2 : tie.Need-returns-2
-returns-2 c = let t = turned _ (c .before .before .before .before .judge .ensures) (c .before .before .k .given .1) in rw (c .refused2 .ensures) (list-turned _ _ _ _ _ (sym (c .before .before .before .before .before .before .too-short .ensures) ∙ c .before .before .before .before .before .if1 .left) (t .0) (t .1))
+act-list-requires : tie.Need-act-list-requires
+act-list-requires c κs = list-asks _ _ _ _ _ _ (loads-laid (c .before .before .before .before .before .before .before .before .load-text .ensures) (c .before .before .before .before .before .c .given .1)) _ _ (c .before .before .begin .ensures)
+
+finish-requires : tie.Need-finish-requires
+finish-requires c κs = list-finish _ _ _ _ _ _ (loads-laid (c .before .before .before .before .before .before .before .before .before .before .before .before .load-text .ensures) (c .before .before .before .before .before .before .before .before .before .c .given .1)) _ _ (c .before .before .before .before .before .before .begin .ensures) _ _ _ (sym (c .before .before .before .before .before .before .before .before .before .before .before .before .before .before .before .too-short .ensures) ∙ c .before .before .before .before .before .before .before .before .before .before .before .before .before .before .if1 .left) (c .before .before .before .act-list .ensures)
 
 same-length : tie.Need-same-length
 same-length c = search needs
 
+returns-2 : tie.Need-returns-2
+returns-2 c = rw (c .refused2 .ensures) (list-turned _ _ _ _ (sym (c .before .before .before .before .before .before .before .before .too-short .ensures) ∙ c .before .before .before .before .before .before .before .if1 .left) _ _ (loads-refused _ _ (c .before .before .before .before .before .load-text .ensures) (c .before .before .k .given .1)))
+
 same-length-2 : tie.Need-same-length-2
 same-length-2 c = search needs
 
+same-length-3 : tie.Need-same-length-3
+same-length-3 c = search needs
+
 returns-3 : tie.Need-returns-3
-returns-3 c = search needs
+returns-3 c = list-says _ _ _ _ _ _ (loads-laid (c .before .before .before .before .before .before .before .before .before .before .before .before .before .before .before .before .load-text .ensures) (c .before .before .before .before .before .before .before .before .before .before .before .before .before .c .given .1)) _ _ (c .before .before .before .before .before .before .before .before .before .before .begin .ensures) _ _ _ (sym (c .before .before .before .before .before .before .before .before .before .before .before .before .before .before .before .before .before .before .before .too-short .ensures) ∙ c .before .before .before .before .before .before .before .before .before .before .before .before .before .before .before .before .before .before .if1 .left) (c .before .before .before .before .before .before .before .act-list .ensures) (c .before .before .before .finish .ensures) (omega (arith, c .before .before .before .before .before .before .before .act-list .kept .0, c .before .before .before .before .before .before .before .before .before .before .begin .kept .0, c .before .before .before .before .before .before .before .before .before .before .before .before .before .before .before .before .load-text .kept .1 .1 .0))
 
 pub run-list-spec : {M : Type 1} → statement M
 run-list-spec =
@@ -50,12 +59,15 @@ run-list-spec =
     too-short-requires
     refused-requires
     returns
-    judge-requires
+    load-text-requires
     enum-known-k
     refused-requires-2
     enum-known-c
-    list-of-requires
-    returns-2
+    begin-requires
+    act-list-requires
+    finish-requires
     same-length
+    returns-2
     same-length-2
+    same-length-3
     returns-3)

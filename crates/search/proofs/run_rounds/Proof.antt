@@ -1,8 +1,9 @@
 -- `search::run_rounds`: the buffers, the case, then the run.
 use mathlib.Core.Path.{sym, _∙_}
 use mathlib.Core.List.{[]}
-use Rattle.casefile.proofs.Whole.{turned}
-use Rattle.search.proofs.Entries.{case-asks, rounds-short, rounds-turned}
+use native.Mathlib.Omega.{arith}
+use lib.ListN.{length}
+use Rattle.search.proofs.Entries.{buffers-enough, rounds-short, rounds-turned, loads-refused, loads-laid, begin-asks, rounds-asks, rounds-finish, rounds-say}
 use borrow.Author.Needs.{needs}
 use Rattle.search.proofs.run_rounds.Statement.{statement}
 use Rattle.search.proofs.run_rounds.Tie as tie
@@ -16,8 +17,11 @@ refused-requires c κs = search needs
 returns : tie.Need-returns
 returns c = rw (c .refused .ensures) (rounds-short _ [] _ _ (sym (c .before .before .too-short .ensures) ∙ c .before .if1 .taken))
 
-judge-requires : tie.Need-judge-requires
-judge-requires c κs = search needs
+slice-aggregate-load-text : tie.Need-slice-aggregate-load-text
+slice-aggregate-load-text c = search needs
+
+load-text-requires : tie.Need-load-text-requires
+load-text-requires c κs = buffers-enough (length (c .before .before .before .before .before .before .args .output .now)) _ (sym (c .before .before .before .too-short .ensures) ∙ c .before .before .if1 .left) .1
 
 enum-known-k : tie.Need-enum-known-k
 enum-known-k c = search needs
@@ -28,20 +32,29 @@ refused-requires-2 c κs = search needs
 enum-known-c : tie.Need-enum-known-c
 enum-known-c c = search needs
 
-rounds-of-requires : tie.Need-rounds-of-requires
-rounds-of-requires c κs = case-asks _ _ _ (sym (c .before .before .before .before .before .before .before .too-short .ensures) ∙ c .before .before .before .before .before .before .if1 .left) (c .before .before .before .before .before .judge .ensures) (c .before .before .before .c .given .1)
+begin-requires : tie.Need-begin-requires
+begin-requires c κs = begin-asks _ _ _ _ _ _ (loads-laid (c .before .before .before .before .before .load-text .ensures) (c .before .before .c .given .1))
 
-returns-2 : tie.Need-returns-2
-returns-2 c = let t = turned _ (c .before .before .before .before .judge .ensures) (c .before .before .k .given .1) in rw (c .refused2 .ensures) (rounds-turned _ [] _ _ _ (sym (c .before .before .before .before .before .before .too-short .ensures) ∙ c .before .before .before .before .before .if1 .left) (t .0) (t .1))
+run-by-rounds-requires : tie.Need-run-by-rounds-requires
+run-by-rounds-requires c κs = rounds-asks _ _ _ _ _ _ (loads-laid (c .before .before .before .before .before .before .before .before .load-text .ensures) (c .before .before .before .before .before .c .given .1)) _ _ (c .before .before .begin .ensures)
+
+finish-requires : tie.Need-finish-requires
+finish-requires c κs = rounds-finish _ _ _ _ _ _ (loads-laid (c .before .before .before .before .before .before .before .before .before .before .before .before .load-text .ensures) (c .before .before .before .before .before .before .before .before .before .c .given .1)) _ _ (c .before .before .before .before .before .before .begin .ensures) _ _ _ (sym (c .before .before .before .before .before .before .before .before .before .before .before .before .before .before .before .before .too-short .ensures) ∙ c .before .before .before .before .before .before .before .before .before .before .before .before .before .before .before .if1 .left) (c .before .before .before .run-by-rounds .ensures)
 
 same-length : tie.Need-same-length
 same-length c = search needs
 
+returns-2 : tie.Need-returns-2
+returns-2 c = rw (c .refused2 .ensures) (rounds-turned _ [] _ _ (sym (c .before .before .before .before .before .before .before .before .before .too-short .ensures) ∙ c .before .before .before .before .before .before .before .before .if1 .left) _ _ (loads-refused _ _ (c .before .before .before .before .before .load-text .ensures) (c .before .before .k .given .1)))
+
 same-length-2 : tie.Need-same-length-2
 same-length-2 c = search needs
 
+same-length-3 : tie.Need-same-length-3
+same-length-3 c = search needs
+
 returns-3 : tie.Need-returns-3
-returns-3 c = search needs
+returns-3 c = rounds-say _ _ _ _ _ _ (loads-laid (c .before .before .before .before .before .before .before .before .before .before .before .before .before .before .before .before .load-text .ensures) (c .before .before .before .before .before .before .before .before .before .before .before .before .before .c .given .1)) _ _ (c .before .before .before .before .before .before .before .before .before .before .begin .ensures) _ _ _ (sym (c .before .before .before .before .before .before .before .before .before .before .before .before .before .before .before .before .before .before .before .before .too-short .ensures) ∙ c .before .before .before .before .before .before .before .before .before .before .before .before .before .before .before .before .before .before .before .if1 .left) (c .before .before .before .before .before .before .before .run-by-rounds .ensures) (c .before .before .before .finish .ensures) (omega (arith, c .before .before .before .before .before .before .before .run-by-rounds .kept .0, c .before .before .before .before .before .before .before .before .before .before .begin .kept .0, c .before .before .before .before .before .before .before .before .before .before .before .before .before .before .before .before .load-text .kept .1 .1 .0))
 
 pub run-rounds-spec : {M : Type 1} → statement M
 run-rounds-spec =
@@ -50,12 +63,16 @@ run-rounds-spec =
     too-short-requires
     refused-requires
     returns
-    judge-requires
+    slice-aggregate-load-text
+    load-text-requires
     enum-known-k
     refused-requires-2
     enum-known-c
-    rounds-of-requires
-    returns-2
+    begin-requires
+    run-by-rounds-requires
+    finish-requires
     same-length
+    returns-2
     same-length-2
+    same-length-3
     returns-3)

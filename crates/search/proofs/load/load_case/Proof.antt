@@ -1,6 +1,6 @@
 -- `search::load::load_case`: the vertices, then the edges, which leave the vertices' cells.
 use borrow.Author.Needs.{needs}
-use Rattle.search.proofs.Loads.{case-laid}
+use Rattle.search.proofs.Loads.{both-loaded}
 use Rattle.search.proofs.load.load_case.Statement.{statement}
 use Rattle.search.proofs.load.load_case.Tie as tie
 
@@ -14,7 +14,8 @@ same-length : tie.Need-same-length
 same-length c = search needs
 
 returns : tie.Need-returns
-returns c = case-laid (c .before .before .before .before .before .before .before .pre .taken) (c .before .before .before .before .before .before .before .pre .long) (c .before .before .before .before .load-vertices .ensures) (c .before .load-edges .ensures)
+returns c =
+    both-loaded (c .before .before .before .before .before .before .before .before .before .before .pre .rows) (c .before .before .before .before .load-vertices .ensures) (c .before .load-edges .ensures)
 
 pub load-case-spec : {M : Type 1} → statement M
 load-case-spec =
