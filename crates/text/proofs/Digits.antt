@@ -12,11 +12,11 @@ use lib.Seq.{drop-cons, drop-drop, getD-drop}
 use borrow.Author.Tests.{le-leb, lt-leb, eq-eqb, ne-eqb, leb-true, leb-false}
 use Rattle.text.specs.Ascii.{digit-0, digit-9}
 use Rattle.text.specs.Numbers.{most-digits, is-digit, all-digits, no-leading-zero, is-number, value, value-from}
-use Rattle.text.specs.Reading.{field-here, run, run-here, Digits-read, digits-here, is-separator, field-number-here, number-before, Number-there}
+use Rattle.text.specs.Reading.{field-here, run, run-here, Digits-read, digits-here, is-separator, field-number-here, number-before}
 use Rattle.text.specs.declared.read.Number.the-variants.{Is, Not}
 use Rattle.text.specs.declared.read.Row1.{Row1}
 use Rattle.text.specs.declared.read.Row1.the-variants.{Read as Read1, Fault as Fault1}
-use Rattle.text.proofs.Tests.{and-both, clash}
+use Rattle.text.proofs.Tests.{and-both}
 use Rattle.text.proofs.Lines.{field-in, field-nil, field-stop, field-byte, ended}
 
 -- THE RUN of digits, k at most
@@ -219,13 +219,6 @@ module _ {s : List ℕ} {at e v : ℕ} (g : Digits-read s at e v) where
 no-separator : (stop : ℕ) → 0 ≡ stop → is-separator stop ≡ true → ⊥
 no-separator stop e h = let z : false ≡ true = rw (← e) at h in let n : _≡_ {A = ℕ} 0 1 = cc in omega arith
 
-no-separator-high : (b : ℕ) → digit-0 ≤ b → is-separator b ≡ false
-no-separator-high b h = rw (ne-eqb b 32 (λ q. omega arith), ne-eqb b 10 (λ q. omega arith))
-
-digit-not-low : (b : ℕ) → b < digit-0 → is-digit b ≡ false
-unfolding is-digit
-digit-not-low b h = rw (lt-leb digit-0 b h)
-
 -- FROM A RUN TO THE FIELD at a place
 pub record Run-read (s : List ℕ) (at v e : ℕ) : Type 0 where
   pub number : is-number (run-here s at) ≡ true
@@ -310,52 +303,3 @@ module _ {s : List ℕ} {at v e : ℕ} (g : Run-read s at v e) where
 
   pub before-end : (stop : ℕ) → is-separator stop ≡ true → length s ≤ e → Fault1 ≡ number-before s at stop
   before-end stop h l = before-other stop (λ q. no-separator stop (sym (List·getD-eq-default s 0 l) ∙ q) h)
-
--- A NUMBER THAT IS THERE: its digits go on while no byte below the digits comes
-module _ {s : List ℕ} {at v e : ℕ} (g : Reading-digits s at v e) (n : Number-there s at) where
-  known-ended : Digits-read s at e v → ended (drop e s) ≡ true
-  known-ended d = go (ended (drop e s)) refl
-    where
-      rest : drop (length (run-here s at)) (drop at s) ≡ drop e s
-      rest = drop-drop (length (run-here s at)) at s ∙ ap (λ (i : ℕ). drop i s) (d .ends)
-
-      go : (t : Bool) → ended (drop e s) ≡ t → ended (drop e s) ≡ true
-      go true h = h
-      go false h = clash (is-number (field-here s at)) (n .number) (run-other (drop at s) (ap ended rest ∙ h))
-
-  known-field : Digits-read s at e v → field-here s at ≡ run-here s at
-  known-field d = run-field (drop at s) (ap ended (drop-drop (length (run-here s at)) at s ∙ ap (λ (i : ℕ). drop i s) (d .ends)) ∙ known-ended d)
-
-  known-inside : Digits-read s at e v → e < length s → digit-0 ≤ getD s e 0 → {X : Type 0} → X
-  known-inside d h l = clash (ended (drop e s)) (known-ended d) (ended-at s e h ∙ no-separator-high (getD s e 0) l)
-
-  -- a byte that is not below the digits is one
-  pub known-more : e < length s → digit-0 ≤ getD s e 0 → (e < min (at + most-digits) (length s)) × (is-digit (getD s e 0) ≡ true)
-  known-more h l = go (leb (at + most-digits) e) refl (is-digit (getD s e 0)) refl
-    where
-      go : (t : Bool) → leb (at + most-digits) e ≡ t → (u : Bool) → is-digit (getD s e 0) ≡ u → (e < min (at + most-digits) (length s)) × (is-digit (getD s e 0) ≡ true)
-      go true i u j = known-inside (digits-last g (omega (arith, leb-true (at + most-digits) e i))) h l
-      go false i true j = (omega (arith, leb-false (at + most-digits) e i), j)
-      go false i false j = known-inside (digits-stop g (omega (arith, leb-false (at + most-digits) e i)) j) h l
-
-  -- a byte below them ends it
-  pub known-end : e < length s → getD s e 0 < digit-0 → (value (field-here s at) ≡ v) × (at + length (field-here s at) ≡ e)
-  known-end h l = let d = go (leb (at + most-digits) e) refl in (ap value (known-field d) ∙ d .worth, ap (λ (w : List ℕ). at + length w) (known-field d) ∙ d .ends)
-    where
-      low : is-digit (getD s e 0) ≡ false
-      low = digit-not-low (getD s e 0) l
-
-      go : (t : Bool) → leb (at + most-digits) e ≡ t → Digits-read s at e v
-      go true i = digits-last g (omega (arith, leb-true (at + most-digits) e i))
-      go false i = digits-stop g (omega (arith, leb-false (at + most-digits) e i)) low
-
-  -- and there is such a byte
-  pub known-within : e < length s
-  known-within = go (leb (length s) e) refl
-    where
-      go : (t : Bool) → leb (length s) e ≡ t → e < length s
-      go true i =
-          let d = digits-last g (omega (arith, leb-true (length s) e i)) in
-          let q : at + length (field-here s at) ≡ e = ap (λ (w : List ℕ). at + length w) (known-field d) ∙ d .ends in
-          absurd (no-separator 0 refl (rw (q, List·getD-eq-default s 0 (leb-true (length s) e i)) at (n .parted)))
-      go false i = leb-false (length s) e i

@@ -9,10 +9,10 @@ use lib.Dec.{leb, ltb, eqb, eqb·suc-suc, lit<}
 use lib.ListN.{length, getD, drop, drop-of-length-le, length-drop}
 use lib.Seq.{drop-drop}
 use borrow.Author.Tests.{leb-true, leb-false, eqb-true, eqb-false, ne-eqb, not-true}
-use Rattle.text.specs.Ascii.{line-feed, space, digit-0}
+use Rattle.text.specs.Ascii.{line-feed, digit-0}
 use Rattle.text.specs.Lines.{Line, lines, put-byte, fields, field, equal, begins, line-is}
 use Rattle.text.specs.Numbers.{most-digits, is-digit, all-digits, no-leading-zero, is-number, value, value-from, all-numbers, numbers-line, number-at}
-use Rattle.text.specs.Reading.{line-here, past-line, field-here, named-here, field-number-here, number-before, leading-here, row1-here, row2-here, row3-here, row5-here, Number-there}
+use Rattle.text.specs.Reading.{line-here, past-line, field-here, named-here, field-number-here, leading-here, row1-here, row2-here, row3-here, row5-here}
 use Rattle.text.specs.declared.read.Number.{Number}
 use Rattle.text.specs.declared.read.Number.the-variants.{Is, Not}
 use Rattle.text.specs.declared.read.Named.{Named}
@@ -29,7 +29,7 @@ use Rattle.text.proofs.Tests.{and-both}
 use Rattle.text.proofs.Lines.{size, first, first-nil, first-feed, first-byte, rest-lines, size-within, equal-true}
 use Rattle.text.proofs.Digits.{digit-high, read-go, fault-go}
 use Rattle.text.proofs.ReadingSteps.{past-size}
-use Rattle.text.proofs.ReadingRows.{Parted, Not-parted, numbers-more, row1-number, leading-number, parted}
+use Rattle.text.proofs.ReadingRows.{Parted, Not-parted, numbers-more, leading-number, parted}
 
 -- THE NEXT LINE: past a line come the lines after it
 pub past-lines : (s : List ℕ) (at : ℕ) → lines (drop (past-line s at) s) ≡ drop 1 (lines (drop at s))
@@ -236,28 +236,6 @@ no-row-here k {s} {at} g = record { none = numbers-more s at k ∙ rw (g .none) 
 pub no-row-later : {k : ℕ} {s : List ℕ} {at v p : ℕ} → Parted s at v p → No-row k s p → No-row (suc k) s at
 no-row-later {k} g n = record { none = parted-more g k ∙ n .none }
 
--- A ROW TAKEN APART: its first number, the separator that ends it, and the row behind it
-pub record First (s : List ℕ) (at v : ℕ) (vs : List ℕ) (z : ℕ) : Type 0 where
-  pub there : Number-there s at
-  pub worth : value (field-here s at) ≡ v
-  pub later : Row s (at + suc (length (field-here s at))) vs z
-
-pub row-first : {s : List ℕ} {at v u : ℕ} {vs : List ℕ} {z : ℕ} → Row s at (v ∷ u ∷ vs) z → First s at v (u ∷ vs) z
-unfolding number-before number-at
-row-first {s} {at} {v} {u} {vs} {z} r =
-    let n = is-number (field-here s at) in
-    let b = eqb (getD s (at + length (field-here s at)) 0) space in
-    let p = at + suc (length (field-here s at)) in
-    let t = and-both (n && b) (numbers-line (suc (length vs)) (line-here s p)) (sym (numbers-more s at (length vs)) ∙ r .line) in
-    let q = and-both n b (t .0) in
-    let g : Parted s at (value (field-here s at)) p = parted refl (rw (q .0, q .1)) in
-    record {
-      there = record { number = q .0; parted = rw (eqb-true (getD s (at + length (field-here s at)) 0) space (q .1)) };
-      worth = r .are 0 (omega arith);
-      later = record { line = t .1; are = λ i h. sym (parted-later g i) ∙ r .are (suc i) (omega arith); past = sym (g .past) ∙ r .past };
-    }
-
--- the readers' answers as rows
 -- the readers' answers as rows
 are1 : (s : List ℕ) (at a : ℕ) → number-at (line-here s at) 0 ≡ a → (i : ℕ) → i < 1 → number-at (line-here s at) i ≡ getD (a ∷ []) i 0
 are1 s at a h0 zero l = h0
@@ -276,21 +254,6 @@ row1-fault s at p q = record { none = fault-go (numbers-line 1 (line-here s at))
 pub row1-is : {s : List ℕ} {at a z : ℕ} → Row s at (a ∷ []) z → Read1 a z ≡ row1-here s at
 unfolding row1-here
 row1-is r = sym (rw (r .line, r .are 0 (lit< tt), r .past))
-
--- the last number of a row, and the place past it
-pub record Last (s : List ℕ) (at v z : ℕ) : Type 0 where
-  pub there : Number-there s at
-  pub worth : value (field-here s at) ≡ v
-  pub past : at + suc (length (field-here s at)) ≡ z
-
-pub row-last : {s : List ℕ} {at v z : ℕ} → Row s at (v ∷ []) z → Last s at v z
-unfolding number-before
-row-last {s} {at} {v} {z} r =
-    let n = is-number (field-here s at) in
-    let b = eqb (getD s (at + length (field-here s at)) 0) line-feed in
-    let g = read-go (n && b) (value (field-here s at)) (at + suc (length (field-here s at))) v z (row1-number s at ∙ sym (row1-is r)) in
-    let q = and-both n b (g .0) in
-    record { there = record { number = q .0; parted = rw (eqb-true (getD s (at + length (field-here s at)) 0) line-feed (q .1)) }; worth = g .1; past = g .2 }
 
 pub row1-none : {s : List ℕ} {at : ℕ} → No-row 1 s at → Fault1 ≡ row1-here s at
 unfolding row1-here

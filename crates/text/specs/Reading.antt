@@ -1,6 +1,6 @@
 -- What the readers of src/read.rt answer at a place of a text, each by the lines and fields of specs/Lines.antt. Assumes nothing: these are definitions.
 use mathlib.Core.Path.{_≡_}
-use mathlib.Core.Bool.{Bool, true, _&&_, _||_, cond}
+use mathlib.Core.Bool.{Bool, _&&_, _||_, cond}
 use mathlib.Core.List.{List, [], _∷_, _++_}
 use Prim.Native.Nat.{ℕ, zero, suc, _+_, min}
 use lib.Dec.{ltb, eqb}
@@ -110,11 +110,6 @@ unfoldable pub number-before : (text : List ℕ) → (at stop : ℕ) → Row1
 number-before s at stop =
     cond (is-number (field-here s at) && eqb (getD s (at + length (field-here s at)) 0) stop)
     (Read1 (value (field-here s at)) (at + suc (length (field-here s at)))) Fault1
-
--- a number stands at a place, and a space or a line feed ends it
-pub record Number-there (text : List ℕ) (at : ℕ) : Type 0 where
-  pub number : is-number (field-here text at) ≡ true
-  pub parted : is-separator (getD text (at + length (field-here text at)) 0) ≡ true
 
 -- the line at a place as a row of one signed number
 unfoldable pub signed-last : (text : List ℕ) → (at : ℕ) → Signed
