@@ -53,7 +53,7 @@ module _ (c : Case) (ps : List (Option ℕ)) (v : ℕ) (w : List ℤ) (l : Lies 
   pub parent-there : Below (most-edges + 1) (getD w (parent-at + v) (pos 0))
   parent-there =
       let p = chained-here (c .graph) ps v f in
-      record { number = suc (p .0); is = parent-cell (p .0) (p .1); less = omega (arith, l .real v (p .0) (p .1), l .drawn .within .edges) }
+      record { number = suc (p .0); is = parent-cell (p .0) (p .1); less = omega (arith, l .real v (p .0) (p .1), l .laid .within .edges) }
 
   -- the cell's number and what it says
   pub parent-is : (r : ℕ) → getD w (parent-at + v) (pos 0) ≡ pos r → (1 ≤ r) × (getD ps v none ≡ some (r - 1))
@@ -99,7 +99,7 @@ circling-step c ps s n v left at w e u k r h a p o y z =
       so-far = e ∷ r .so-far;
       rest = sym (go (eqb (edge (c .graph) e .from) s) refl) ∙ sym (cycle-step left (c .graph) ps s v e (r .so-far) h p) ∙ r .rest;
       chained = rw o (chained-up (c .graph) ps v (r .chained));
-      written = written-cons c e (at - 1) cells-end (r .so-far) w (rw i (r .written)) (l .real v e p) (omega (arith, r .written .ends, l .drawn .long));
+      written = written-cons c e (at - 1) cells-end (r .so-far) w (rw i (r .written)) (l .real v e p) (omega (arith, r .written .ends, l .laid .long));
       lies = lies-kept c ps cycle-at w (set w (at - 1) (pos e)) (omega arith) (kept-set cycle-at w (at - 1) (pos e) (omega arith)) l;
     }
   where

@@ -1,28 +1,24 @@
 -- Ends: from a run that stands in the cells to its answer and its outcome. Assumes nothing.
 use mathlib.Core.Path.{_≡_, refl, sym, ap, subst, _∙_}
-use mathlib.Core.Bool.{Bool, true, false, cond}
+use mathlib.Core.Bool.{true, false, cond}
 use mathlib.Core.List.{List}
 use mathlib.Core.Option.{Option, none, some}
-use Prim.Native.Nat.{ℕ, suc, _+_, _-_, _≤_, _<_}
+use Prim.Native.Nat.{ℕ, _-_, _≤_}
 use native.Mathlib.Omega.{arith}
-use lib.Dec.{eqb}
 use lib.ListN.{length, getD, replicate}
 use lib.IntN.{ℤ, pos}
-use borrow.Author.Tests.{ltb-true, ltb-false, eq-eqb, ne-eqb}
-use Rattle.text.proofs.Tests.{Test, test, holds, fails, Same, same?, same, other, clash}
-use Rattle.model.specs.Graph.{Graph, edge}
-use Rattle.model.specs.Case.{Case, least-output, most-edges, most-vertices, Sound, Within}
+use borrow.Author.Tests.{eq-eqb, ne-eqb}
+use Rattle.model.specs.Case.{Case, least-output}
 use Rattle.model.specs.Run.{State, is-some, ended-lasso, has-ended}
 use Rattle.model.specs.Answer.{stem, cycle, cycle-start, lasso-text, empty-text, answer-of, answer}
-use Rattle.model.specs.Entry.{verdict, zeros, Cut-short, Finished, Run-says}
-use Rattle.model.specs.declared.Outcome.{Outcome}
-use Rattle.model.proofs.Findings.{Known, stem-few}
+use Rattle.model.specs.Entry.{verdict, zeros, Run-says}
+use Rattle.model.proofs.Findings.{stem-few}
 use Rattle.model.proofs.Fits.{cycle-few, answer-fits}
-use Rattle.search.specs.Cells.{Region, Below, more, cycle-at, cells-end}
-use Rattle.search.specs.Rep.{Rep, Laid, Firsts}
+use Rattle.search.specs.Cells.{more, cycle-at, cells-end}
+use Rattle.search.specs.Rep.{Rep}
 use Rattle.search.specs.Asks.{over}
 use Rattle.search.specs.Show as show
-use Rattle.search.specs.Show.{Drawn, Lies, Broke, Showable, Shows, Lasso-there, Written}
+use Rattle.search.specs.Show.{Lies, Broke, Showable, Shows, Lasso-there, Written}
 use Rattle.search.specs.Writing.{Edges-at, Distances-at, Lasso-asks, Lasso-says, Empty-says, Answers}
 use Rattle.search.specs.Finish.{Gone, Lasso-done, Answer-done, Finish-says, verdict-of}
 use Rattle.search.specs.declared.run.Run.{Run}
@@ -45,39 +41,15 @@ module _ {c : Case} {x : State} {k : Run} {w : List ℤ} (r : Rep c x k w) where
   pub broken-none : k .broken ≡ 0 → x .broken ≡ none
   broken-none z = more-none (x .broken) (k .broken) (r .counted .broke) z
 
-  drawn : Drawn c w
-  drawn = let l = r .held .laid in record { sound = l .sound; within = l .within; froms = l .from-cells; tos = l .to-cells; long = omega (arith, l .long) }
-
--- the first-edge table, as the search for the stem reads it
-firsts-show : (g : Graph) (F : List ℕ) → Firsts g F → show.Firsts g F
-firsts-show g F f = record {
-  sized = f .sized;
-  most = λ v h. f .below v (omega (arith, f .sized));
-  low = λ v e a b q. low v e a b q (test (lib.Dec.ltb e (getD F v 0)));
-  high = λ v e a b q. high v e a b q (test (lib.Dec.ltb e (getD F (v + 1) 0)));
-  only = λ v e a p q. omega (arith, f .after v e (omega arith) p (omega (arith, f .below (v + 1) (omega arith))), f .before (v + 1) e (omega arith) q);
-}
-  where
-    low : (v e : ℕ) → v < g .vertices → e < length (g .edges) → edge g e .from ≡ v → Test (lib.Dec.ltb e (getD F v 0)) → getD F v 0 ≤ e
-    low v e a b q (holds t) = absurd (omega (arith, f .before v e (omega arith) (ltb-true e (getD F v 0) t)))
-    low v e a b q (fails t) = ltb-false e (getD F v 0) t
-
-    high : (v e : ℕ) → v < g .vertices → e < length (g .edges) → edge g e .from ≡ v → Test (lib.Dec.ltb e (getD F (v + 1) 0)) → e < getD F (v + 1) 0
-    high v e a b q (holds t) = ltb-true e (getD F (v + 1) 0) t
-    high v e a b q (fails t) = absurd (omega (arith, f .after (v + 1) e (omega arith) (ltb-false e (getD F (v + 1) 0) t) b))
-
 module _ {c : Case} {x : State} {k : Run} {n s : ℕ} {w : List ℤ} {o : List ℕ} (g : Gone c x k n s w o) where
   pub lies : Lies c (x .parents) w
-  lies = record { drawn = drawn (g .rep); parents = g .rep .held .parents .region; sized = g .rep .held .parents .sized; real = run-real c x (g .known .trace) }
-
-  pub laid : show.Laid c w
-  laid = let l = g .rep .held .laid in record { drawn = drawn (g .rep); list = l .first; firsts = firsts-show (c .graph) (l .first) (l .firsts); region = l .first-cells }
+  lies = record { laid = g .rep .held .laid; parents = g .rep .held .parents .region; sized = g .rep .held .parents .sized; real = run-real c x (g .known .trace) }
 
   pub broke : (b : ℕ) → x .broken ≡ some b → Broke c (x .parents) b
   broke b h = run-broke c x (g .known .trace) (g .known .tale .walked) b h
 
   pub showable : (b : ℕ) → x .broken ≡ some b → Showable b s n w
-  showable b h = record { case = c; parents = x .parents; lies = lies; laid = laid; broke = broke b h; source-is = g .start; vertices = g .vertices }
+  showable b h = record { case = c; parents = x .parents; lies = lies; broke = broke b h; source-is = g .start; vertices = g .vertices }
 
   fits : (q : Option ℕ) → x .broken ≡ q → length (answer-of (c .graph) q (x .parents) (x .depths)) ≤ length o
   fits q h = let l = g .rep .held .laid in omega (arith, answer-fits c (l .sound) (l .within) x (g .known) q h, g .room)
@@ -159,7 +131,7 @@ module _ {c : Case} {x : State} {k : Run} {n s : ℕ} {w : List ℤ} {o : List �
   module _ (at to : ℕ) (v : List ℤ) (y : Shows (k .broken - 1) s n at to w v) where
     pub there : Lasso-there c (x .parents) (k .broken - 1) at to v
     unfolding Shows
-    there = let b = broken-some (g .rep) broken in y .1 c (x .parents) (lies g) (laid g) (rw (b .2) (broke g (b .0) (b .1))) (g .start) (g .vertices)
+    there = let b = broken-some (g .rep) broken in y .1 c (x .parents) (lies g) (rw (b .2) (broke g (b .0) (b .1))) (g .start) (g .vertices)
 
     long-after : cells-end ≤ length v
     unfolding Shows

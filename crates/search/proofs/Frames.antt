@@ -12,7 +12,8 @@ use lib.IntN.{ℤ, pos}
 use Rattle.model.specs.Graph.{edge}
 use Rattle.model.specs.Case.{Case, most-vertices}
 use Rattle.search.specs.Cells.{Region, Below, Filled, from-at, to-at, distance-at, link-at}
-use Rattle.search.specs.Show.{Drawn, Lies, Laid, Kept, Written}
+use Rattle.search.specs.Rep.{Laid}
+use Rattle.search.specs.Show.{Lies, Kept, Written}
 use Rattle.search.proofs.Regions.{same-or}
 
 pub kept-same : (top : ℕ) (w : List ℤ) → Kept top w w
@@ -36,27 +37,24 @@ kept-set top w j z h = record { long = length-set w j z; same = λ i g. let n : 
 pub region-kept : {A : Type 0} (enc : A → ℤ) (d : A) (base : ℕ) (l : List A) (top : ℕ) (w v : List ℤ) → Kept top w v → base + length l ≤ top → Region enc d base l w → Region enc d base l v
 region-kept enc d base l top w v k h r = record { each = λ i g. k .same (base + i) (omega arith) ∙ r .each i g }
 
-pub drawn-kept : (c : Case) (top : ℕ) (w v : List ℤ) → distance-at ≤ top → Kept top w v → Drawn c w → Drawn c v
-drawn-kept c top w v h k d = record {
-  sound = d .sound;
-  within = d .within;
-  froms = region-kept _ _ _ _ top w v k (omega (arith, d .within .edges)) (d .froms);
-  tos = region-kept _ _ _ _ top w v k (omega (arith, d .within .edges)) (d .tos);
-  long = omega (arith, k .long, d .long);
-}
-
 pub laid-kept : (c : Case) (top : ℕ) (w v : List ℤ) → distance-at ≤ top → Kept top w v → Laid c w → Laid c v
 laid-kept c top w v h k l = record {
-  drawn = drawn-kept c top w v h k (l .drawn);
-  list = l .list;
+  sound = l .sound;
+  within = l .within;
+  long = omega (arith, k .long, l .long);
+  first = l .first;
   firsts = l .firsts;
-  region = region-kept _ _ _ _ top w v k (omega (arith, l .firsts .sized, l .drawn .within .vertices)) (l .region);
+  mark-cells = region-kept _ _ _ _ top w v k (omega (arith, l .sound .marks, l .within .vertices)) (l .mark-cells);
+  owner-cells = region-kept _ _ _ _ top w v k (omega (arith, l .sound .owned, l .within .vertices)) (l .owner-cells);
+  from-cells = region-kept _ _ _ _ top w v k (omega (arith, l .within .edges)) (l .from-cells);
+  to-cells = region-kept _ _ _ _ top w v k (omega (arith, l .within .edges)) (l .to-cells);
+  first-cells = region-kept _ _ _ _ top w v k (omega (arith, l .firsts .sized, l .within .vertices)) (l .first-cells);
 }
 
 pub lies-kept : (c : Case) (ps : List (Option ℕ)) (top : ℕ) (w v : List ℤ) → link-at ≤ top → Kept top w v → Lies c ps w → Lies c ps v
 lies-kept c ps top w v h k l = record {
-  drawn = drawn-kept c top w v (omega arith) k (l .drawn);
-  parents = region-kept _ _ _ _ top w v k (omega (arith, l .sized, l .drawn .within .vertices)) (l .parents);
+  laid = laid-kept c top w v (omega arith) k (l .laid);
+  parents = region-kept _ _ _ _ top w v k (omega (arith, l .sized, l .laid .within .vertices)) (l .parents);
   sized = l .sized;
   real = l .real;
 }
@@ -97,19 +95,19 @@ region-snoc {A} enc d base l w at a r q h = record { each = λ i g. go i (omega 
         getD-set-other w at (base + i) (enc a) (pos 0) m ∙ r .each i j ∙ rw (List·getD-append l (a ∷ []) d i j) refl
 
 -- loads of an edge's ends
-module _ (c : Case) (w : List ℤ) (e : ℕ) (d : Drawn c w) (h : e < length (c .graph .edges)) where
+module _ (c : Case) (w : List ℤ) (e : ℕ) (d : Laid c w) (h : e < length (c .graph .edges)) where
   pub from-there : Below most-vertices (getD w (from-at + e) (pos 0))
   unfolding edge
-  from-there = record { number = edge (c .graph) e .from; is = d .froms .each e h; less = omega (arith, d .sound .from e h, d .within .vertices) }
+  from-there = record { number = edge (c .graph) e .from; is = d .from-cells .each e h; less = omega (arith, d .sound .from e h, d .within .vertices) }
 
   pub to-there : Below most-vertices (getD w (to-at + e) (pos 0))
   unfolding edge
-  to-there = record { number = edge (c .graph) e .to; is = d .tos .each e h; less = omega (arith, d .sound .to e h, d .within .vertices) }
+  to-there = record { number = edge (c .graph) e .to; is = d .to-cells .each e h; less = omega (arith, d .sound .to e h, d .within .vertices) }
 
   pub from-is : (r : ℕ) → getD w (from-at + e) (pos 0) ≡ pos r → r ≡ edge (c .graph) e .from
   unfolding edge
-  from-is r q = let z : pos r ≡ pos (edge (c .graph) e .from) = sym q ∙ d .froms .each e h in cc
+  from-is r q = let z : pos r ≡ pos (edge (c .graph) e .from) = sym q ∙ d .from-cells .each e h in cc
 
   pub to-is : (r : ℕ) → getD w (to-at + e) (pos 0) ≡ pos r → r ≡ edge (c .graph) e .to
   unfolding edge
-  to-is r q = let z : pos r ≡ pos (edge (c .graph) e .to) = sym q ∙ d .tos .each e h in cc
+  to-is r q = let z : pos r ≡ pos (edge (c .graph) e .to) = sym q ∙ d .to-cells .each e h in cc

@@ -57,6 +57,13 @@ own-edges c F v a b f h p q =
         ordered (inl l) = absurd (omega (arith, f .before v b (omega arith) (omega arith), f .after (v + 1) b (omega arith) (omega arith) (omega (arith, f .below v (omega arith)))))
         ordered (inr l) = l
 
+pub own-to : {c : Case} {v a b : ℕ} → Own c v a b → (e : ℕ) → edge (c .graph) e .from ≡ v → e < length (c .graph .edges) → e < b
+own-to {b = b} o e leaves h = go (below-or e b)
+  where
+    go : (e < b) ⊎ (b ≤ e) → e < b
+    go (inl l) = l
+    go (inr l) = absurd (o .after e l h leaves)
+
 -- SKIPPING
 skip-one : (c : Case) (v o e : ℕ) (x : State) → (edge (c .graph) e .from ≡ v → ⊥) → scan-edge c v o e x ≡ x
 unfolding scan-edge

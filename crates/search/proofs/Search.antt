@@ -16,9 +16,12 @@ use Rattle.model.specs.Answer.{stem}
 use Rattle.model.proofs.Tools.{getD-out, getD-replicate-same}
 use Rattle.model.proofs.Pigeon.{pigeon-twice}
 use Rattle.search.specs.Cells.{Region, Below, Filled, from-at, to-at, first-at, found-at, queue-at, stem-at, cycle-at}
-use Rattle.search.specs.Show.{Le, Less, tip, Made, Tree, Scanned, Drawn, Laid, by-tip, Stands, Searching, Scanning, Grown, Stemming, Written, Kept, at-source, by-edge}
+use Rattle.search.specs.Rep.{Laid}
+use Rattle.search.specs.Show.{Le, Less, tip, Made, Tree, Scanned, by-tip, Stands, Searching, Scanning, Grown, Stemming, Written, Kept, at-source, by-edge}
 use Rattle.search.proofs.Regions.{same-or, below-or, region-set, region-below, region-above}
-use Rattle.search.proofs.Frames.{from-is, to-is, region-snoc, region-kept, kept-set, drawn-kept, written-none, written-cons}
+use Rattle.search.proofs.Ranges as Ranges
+use Rattle.search.proofs.Ranges.{first-is, Own, own-edges, own-to}
+use Rattle.search.proofs.Frames.{from-is, to-is, region-snoc, region-kept, kept-set, laid-kept, written-none, written-cons}
 
 -- ORDER
 lex-same : (p : List ℕ) → Lex p p
@@ -419,7 +422,7 @@ end-low c ok v (e ∷ es) h w = let s = steps (c .graph) v e es w in end-low c o
 reach-low : (c : Case) → Sound c → (v : ℕ) (es : List ℕ) → Reaches (c .graph) v es → v < c .graph .vertices
 reach-low c ok v es w = rw (w .arrives) at (end-low c ok (c .graph .source) es (ok .source) (w .walks))
 
-module _ (c : Case) (ts : List (List ℕ)) (ms : List ℕ) (w : List ℤ) (d : Drawn c w) (s : Stands c ts ms w) where
+module _ (c : Case) (ts : List (List ℕ)) (ms : List ℕ) (w : List ℤ) (d : Laid c w) (s : Stands c ts ms w) where
   pub stands-few : length ts ≤ c .graph .vertices
   stands-few = tree-few (c .graph) ts ms (s .tree) (reach-low c (d .sound))
 
@@ -450,7 +453,7 @@ module _ (c : Case) (ts : List (List ℕ)) (ms : List ℕ) (w : List ℤ) (d : D
   queue-is j r h q = let z : pos r ≡ pos (tip (c .graph) (getD ts j [])) = sym q ∙ s .queue .each j h in cc
 
 -- ONE EDGE: u is what is loaded as its end, and r as that vertex's mark
-module _ (c : Case) (h v e tail : ℕ) (w : List ℤ) (d : Drawn c w) (s : Scanning c h v e tail w) (b : e < length (c .graph .edges)) (q : edge (c .graph) e .from ≡ v) (u : ℕ) (a : getD w (to-at + e) (pos 0) ≡ pos u) where
+module _ (c : Case) (h v e tail : ℕ) (w : List ℤ) (d : Laid c w) (s : Scanning c h v e tail w) (b : e < length (c .graph .edges)) (q : edge (c .graph) e .from ≡ v) (u : ℕ) (a : getD w (to-at + e) (pos 0) ≡ pos u) where
   end-is : u ≡ edge (c .graph) e .to
   end-is = to-is c w e d b u a
 
@@ -514,33 +517,26 @@ module _ (c : Case) (head tail : ℕ) (w : List ℤ) (l : Laid c w) (s : Searchi
   on = omega (arith, s .size)
 
   pub head-there : (head < most-vertices) × Below most-vertices (getD w (queue-at + head) (pos 0))
-  head-there = (omega (arith, on, stands-few c _ _ w (l .drawn) (s .stands), l .drawn .within .vertices), queue-there c _ _ w (l .drawn) (s .stands) head on)
+  head-there = (omega (arith, on, stands-few c _ _ w l (s .stands), l .within .vertices), queue-there c _ _ w l (s .stands) head on)
 
   module _ (v : ℕ) (a : getD w (queue-at + head) (pos 0) ≡ pos v) where
     vertex-is : tip (c .graph) (getD (s .walks) head []) ≡ v
-    vertex-is = queue-is c _ _ w (l .drawn) (s .stands) head v on a
+    vertex-is = queue-is c _ _ w l (s .stands) head v on a
 
     vertex-low : v < c .graph .vertices
-    vertex-low = rw vertex-is at (tip-low c (s .walks) (s .list) w (l .drawn) (s .stands) head on)
-
-    first-cell : (u : ℕ) → u < c .graph .vertices + 1 → Below (most-edges + 1) (getD w (first-at + u) (pos 0))
-    first-cell u h = record { number = getD (l .list) u 0; is = l .region .each u (omega (arith, l .firsts .sized)); less = omega (arith, l .firsts .most u (omega (arith, l .firsts .sized)), l .drawn .within .edges) }
+    vertex-low = rw vertex-is at (tip-low c (s .walks) (s .list) w l (s .stands) head on)
 
     pub first-there : Below (most-edges + 1) (getD w (first-at + v) (pos 0))
-    first-there = first-cell v (omega (arith, vertex-low))
+    first-there = Ranges.first-there c w v l (omega (arith, vertex-low))
 
     pub next-there : Below (most-edges + 1) (getD w (first-at + v + 1) (pos 0))
-    next-there = let e : first-at + v + 1 ≡ first-at + (v + 1) = omega arith in rw e (first-cell (v + 1) (omega (arith, vertex-low)))
+    next-there = let e : first-at + v + 1 ≡ first-at + (v + 1) = omega arith in rw e (Ranges.first-there c w (v + 1) l (omega (arith, vertex-low)))
 
     module _ (f z : ℕ) (p : getD w (first-at + v) (pos 0) ≡ pos f) (q : getD w (first-at + v + 1) (pos 0) ≡ pos z) where
-      first-is : f ≡ getD (l .list) v 0
-      first-is = let y : pos f ≡ pos (getD (l .list) v 0) = sym p ∙ l .region .each v (omega (arith, l .firsts .sized, vertex-low)) in cc
-
-      next-is : z ≡ getD (l .list) (v + 1) 0
-      next-is =
+      own : Own c v f z
+      own =
           let e : first-at + v + 1 ≡ first-at + (v + 1) = omega arith in
-          let y : pos z ≡ pos (getD (l .list) (v + 1) 0) = sym (rw e at q) ∙ l .region .each (v + 1) (omega (arith, l .firsts .sized, vertex-low)) in
-          cc
+          own-edges c (l .first) v f z (l .firsts) vertex-low (first-is c w v l (omega (arith, vertex-low)) f p) (first-is c w (v + 1) l (omega (arith, vertex-low)) z (rw e at q))
 
       pub scan-start : Scanning c head v f tail w
       scan-start = record {
@@ -548,7 +544,7 @@ module _ (c : Case) (head tail : ℕ) (w : List ℤ) (l : Laid c w) (s : Searchi
           walks = s .walks;
           list = s .list;
           stands = s .stands;
-          scanned = scanned-jump (c .graph) (s .walks) (s .list) head f (s .scanned) (λ k h b o. omega (arith, first-is, l .firsts .low v k vertex-low b (o ∙ vertex-is)));
+          scanned = scanned-jump (c .graph) (s .walks) (s .list) head f (s .scanned) (λ k h b o. own .before k h (o ∙ vertex-is));
           size = s .size;
         };
         on = i;
@@ -556,19 +552,19 @@ module _ (c : Case) (head tail : ℕ) (w : List ℤ) (l : Laid c w) (s : Searchi
       }
 
       pub scan-edge : (e : ℕ) → f ≤ e → e < z → (e < length (c .graph .edges)) × (edge (c .graph) e .from ≡ v)
-      scan-edge e h g = (omega (arith, next-is, l .firsts .most (v + 1) (omega (arith, l .firsts .sized, vertex-low))), l .firsts .only v e vertex-low (omega (arith, first-is)) (omega (arith, next-is)))
+      scan-edge e h g = (omega (arith, own .below), own .inside e h g)
 
       pub scan-done : (e last : ℕ) (w′ : List ℤ) → Scanning c head v e last w′ → z ≤ e → Searching c (head + 1) 0 last w′
       scan-done e last w′ y h = let x = y .search in record {
         walks = x .walks;
         list = x .list;
         stands = x .stands;
-        scanned = scanned-next (c .graph) (x .walks) (x .list) head e (x .stands .tree) (x .scanned) (omega (arith, x .size, y .on)) (λ k b o. omega (arith, next-is, l .firsts .high v k vertex-low b (o ∙ y .at)));
+        scanned = scanned-next (c .graph) (x .walks) (x .list) head e (x .stands .tree) (x .scanned) (omega (arith, x .size, y .on)) (λ k b o. omega (arith, own-to own k (o ∙ y .at) b));
         size = x .size;
       }
 
 -- THE START, after the marks are cleared
-pub search-start : (c : Case) (source n : ℕ) (w v : List ℤ) → Drawn c w → source ≡ c .graph .source → n ≡ c .graph .vertices → Filled found-at n (pos 0) w v →
+pub search-start : (c : Case) (source n : ℕ) (w v : List ℤ) → Laid c w → source ≡ c .graph .source → n ≡ c .graph .vertices → Filled found-at n (pos 0) w v →
     Searching c 0 0 1 (set (set v (found-at + source) (pos 1)) queue-at (pos source))
 unfolding walk-end
 search-start c source n w v d p q f =
@@ -593,7 +589,7 @@ search-start c source n w v d p q f =
     })
 
 -- THE GOAL
-module _ (c : Case) (head tail goal : ℕ) (w : List ℤ) (d : Drawn c w) (s : Searching c head 0 tail w) where
+module _ (c : Case) (head tail goal : ℕ) (w : List ℤ) (d : Laid c w) (s : Searching c head 0 tail w) where
   pub search-few : tail ≤ c .graph .vertices
   search-few = omega (arith, s .size, stands-few c _ _ w d (s .stands))
 
@@ -610,14 +606,14 @@ module _ (c : Case) (head tail goal : ℕ) (w : List ℤ) (d : Drawn c w) (s : S
   goal-found h es r = grown (all-found (c .graph) (s .walks) (s .list) (s .stands .tree) head 0 (s .scanned) (omega (arith, s .size)) es goal r)
 
 -- BACK from the goal
-stands-kept : (c : Case) (ts : List (List ℕ)) (ms : List ℕ) (w v : List ℤ) → Drawn c w → Kept stem-at w v → Stands c ts ms w → Stands c ts ms v
+stands-kept : (c : Case) (ts : List (List ℕ)) (ms : List ℕ) (w v : List ℤ) → Laid c w → Kept stem-at w v → Stands c ts ms w → Stands c ts ms v
 stands-kept c ts ms w v d k s = record {
   tree = s .tree;
   marks = region-kept pos 0 found-at ms stem-at w v k (omega (arith, s .tree .sized, d .within .vertices)) (s .marks);
   queue = region-kept (by-tip (c .graph)) [] queue-at ts stem-at w v k (omega (arith, stands-few c ts ms w d s, d .within .vertices)) (s .queue);
 }
 
-module _ (c : Case) (goal : ℕ) (w : List ℤ) (d : Drawn c w) (r : Grown c goal w) where
+module _ (c : Case) (goal : ℕ) (w : List ℤ) (d : Laid c w) (r : Grown c goal w) where
   goal-low : goal < c .graph .vertices
   goal-low = rw (r .at) at (tip-low c (r .walks) (r .list) w d (r .stands) (r .number) (r .below))
 
@@ -632,7 +628,7 @@ module _ (c : Case) (goal : ℕ) (w : List ℤ) (d : Drawn c w) (r : Grown c goa
         grown = r .walks;
         list = r .list;
         stands = r .stands;
-        drawn = d;
+        laid = d;
         number = r .number;
         below = r .below;
         mark = rw (r .at) (sym (mark-is c (r .walks) (r .list) w d (r .stands) goal mark goal-low q));
@@ -677,13 +673,13 @@ module _ (c : Case) (goal mark at : ℕ) (w : List ℤ) (s : Stemming c goal mar
     -- v is what is loaded as where it starts, and k as that vertex's mark
     module _ (v : ℕ) (a : getD w (from-at + (mark - 2)) (pos 0) ≡ pos v) where
       start-is : v ≡ tip (c .graph) (getD (s .grown) (last .before) [])
-      start-is = from-is c w (mark - 2) (s .drawn) stem-edge v a ∙ last .from
+      start-is = from-is c w (mark - 2) (s .laid) stem-edge v a ∙ last .from
 
       start-low : v < c .graph .vertices
-      start-low = rw start-is (tip-low c (s .grown) (s .list) w (s .drawn) (s .stands) (last .before) (omega (arith, last .lower, s .below)))
+      start-low = rw start-is (tip-low c (s .grown) (s .list) w (s .laid) (s .stands) (last .before) (omega (arith, last .lower, s .below)))
 
       pub stem-mark : Below (most-edges + 2) (getD w (found-at + v) (pos 0))
-      stem-mark = mark-there c (s .grown) (s .list) w (s .drawn) (s .stands) v start-low
+      stem-mark = mark-there c (s .grown) (s .list) w (s .laid) (s .stands) v start-low
 
       pub stem-step : (k : ℕ) → getD w (found-at + v) (pos 0) ≡ pos k → Stemming c goal k (at - 1) (set w (at - 1) (pos (mark - 2)))
       stem-step k q =
@@ -693,13 +689,13 @@ module _ (c : Case) (goal mark at : ℕ) (w : List ℤ) (s : Stemming c goal mar
           record {
             grown = s .grown;
             list = s .list;
-            stands = stands-kept c (s .grown) (s .list) w _ (s .drawn) kept (s .stands);
-            drawn = drawn-kept c stem-at w _ (omega arith) kept (s .drawn);
+            stands = stands-kept c (s .grown) (s .list) w _ (s .laid) kept (s .stands);
+            laid = laid-kept c stem-at w _ (omega arith) kept (s .laid);
             number = last .before;
             below = omega (arith, last .lower, s .below);
-            mark = rw (← start-is) (sym (mark-is c (s .grown) (s .list) w (s .drawn) (s .stands) v k start-low q));
+            mark = rw (← start-is) (sym (mark-is c (s .grown) (s .list) w (s .laid) (s .stands) v k start-low q));
             so-far = (mark - 2) ∷ s .so-far;
-            written = written-cons c (mark - 2) (at - 1) cycle-at (s .so-far) w (rw i (s .written)) stem-edge (omega (arith, s .written .ends, s .drawn .long));
+            written = written-cons c (mark - 2) (at - 1) cycle-at (s .so-far) w (rw i (s .written)) stem-edge (omega (arith, s .written .ends, s .laid .long));
             whole = sym (append-snoc t (mark - 2) (s .so-far)) ∙ ap (λ (l : List ℕ). l ++ s .so-far) (sym (last .split)) ∙ s .whole;
             short = s .short;
           }

@@ -6,25 +6,15 @@ use mathlib.Core.Option.{Option, none, some}
 use Prim.Native.Nat.{ℕ, _+_, _≤_, _<_}
 use lib.ListN.{length, getD}
 use lib.IntN.{ℤ, pos}
-use Rattle.model.specs.Graph.{Graph, Edge, edge, walk-end, Reaches, Lex, Fewest}
-use Rattle.model.specs.Case.{Case, Sound, Within, most-vertices}
+use Rattle.model.specs.Graph.{Graph, edge, walk-end, Reaches, Lex, Fewest}
+use Rattle.model.specs.Case.{Case, most-vertices}
 use Rattle.model.specs.Answer.{one-back, back, cycle-start, cycle-from, cycle, stem}
-use Rattle.search.specs.Cells.{Region, by-from, by-to, by-more, from-at, to-at, first-at, parent-at, found-at, queue-at, stem-at, cycle-at, cells-end}
+use Rattle.search.specs.Rep.{Laid}
+use Rattle.search.specs.Cells.{Region, by-more, parent-at, found-at, queue-at, stem-at, cycle-at, cells-end}
 
-abbrev pub no-edge : Edge
-no-edge = record { from = 0; to = 0 }
-
--- the edges of a case in the cells
-pub record Drawn (c : Case) (w : List ℤ) : Type 0 where
-  pub sound : Sound c
-  pub within : Within c
-  pub froms : Region by-from no-edge from-at (c .graph .edges) w
-  pub tos : Region by-to no-edge to-at (c .graph .edges) w
-  pub long : cells-end ≤ length w
-
--- and the parent edges of a run
+-- a case in the cells, and the parent edges of a run
 pub record Lies (c : Case) (ps : List (Option ℕ)) (w : List ℤ) : Type 0 where
-  pub drawn : Drawn c w
+  pub laid : Laid c w
   pub parents : Region by-more none parent-at ps w
   pub sized : length ps ≡ c .graph .vertices
   pub real : (v e : ℕ) → getD ps v none ≡ some e → e < length (c .graph .edges)
@@ -106,20 +96,7 @@ pub record Scanned (g : Graph) (ts : List (List ℕ)) (ms : List ℕ) (h e : ℕ
   pub here : (f : ℕ) → f < e → h < length ts → f < length (g .edges) → edge g f .from ≡ tip g (getD ts h []) → getD ms (edge g f .to) 0 ≡ 0 → ⊥
   pub ahead : h < length ts → (j : ℕ) → j < length ts → Less (getD ts j []) (getD ts h [] ++ (e ∷ []))
 
--- THE SEARCH IN THE CELLS. The edges are sorted by where they start: those that leave v are numbered from the one that v has in this list to the next vertex's
-pub record Firsts (g : Graph) (fs : List ℕ) : Type 0 where
-  pub sized : length fs ≡ g .vertices + 1
-  pub most : (v : ℕ) → v < length fs → getD fs v 0 ≤ length (g .edges)
-  pub low : (v e : ℕ) → v < g .vertices → e < length (g .edges) → edge g e .from ≡ v → getD fs v 0 ≤ e
-  pub high : (v e : ℕ) → v < g .vertices → e < length (g .edges) → edge g e .from ≡ v → e < getD fs (v + 1) 0
-  pub only : (v e : ℕ) → v < g .vertices → getD fs v 0 ≤ e → e < getD fs (v + 1) 0 → edge g e .from ≡ v
-
-pub record Laid (c : Case) (w : List ℤ) : Type 0 where
-  pub drawn : Drawn c w
-  pub list : List ℕ
-  pub firsts : Firsts (c .graph) list
-  pub region : Region pos 0 first-at list w
-
+-- THE SEARCH IN THE CELLS
 abbrev pub by-tip : Graph → List ℕ → ℤ
 by-tip g t = pos (tip g t)
 
@@ -156,7 +133,7 @@ pub record Stemming (c : Case) (goal code at : ℕ) (w : List ℤ) : Type 0 wher
   pub grown : List (List ℕ)
   pub list : List ℕ
   pub stands : Stands c grown list w
-  pub drawn : Drawn c w
+  pub laid : Laid c w
   pub number : ℕ
   pub below : number < length grown
   pub mark : getD list (tip (c .graph) (getD grown number [])) 0 ≡ code
@@ -170,7 +147,7 @@ pub record Triable (e tail : ℕ) (w : List ℤ) : Type 0 where
   pub case : Case
   pub head : ℕ
   pub vertex : ℕ
-  pub drawn : Drawn case w
+  pub laid : Laid case w
   pub scanning : Scanning case head vertex e tail w
   pub below : e < length (case .graph .edges)
   pub leaves : edge (case .graph) e .from ≡ vertex
@@ -178,7 +155,7 @@ pub record Triable (e tail : ℕ) (w : List ℤ) : Type 0 where
 unfoldable pub Tried : (e tail r : ℕ) → (w w′ : List ℤ) → Type 0
 Tried e tail r w w′ =
     Kept found-at w w′
-    × ((c : Case) (h v : ℕ) → Drawn c w → Scanning c h v e tail w → e < length (c .graph .edges) → edge (c .graph) e .from ≡ v → Scanning c h v (e + 1) r w′)
+    × ((c : Case) (h v : ℕ) → Laid c w → Scanning c h v e tail w → e < length (c .graph .edges) → edge (c .graph) e .from ≡ v → Scanning c h v (e + 1) r w′)
 
 pub record Scannable (head tail : ℕ) (w : List ℤ) : Type 0 where
   pub case : Case
@@ -209,11 +186,11 @@ Searched source goal n w w′ =
 
 pub record Stemmable (goal : ℕ) (w : List ℤ) : Type 0 where
   pub case : Case
-  pub drawn : Drawn case w
+  pub laid : Laid case w
   pub grown : Grown case goal w
 
 unfoldable pub Stem-taken : (goal r : ℕ) → (w w′ : List ℤ) → Type 0
-Stem-taken goal r w w′ = Kept stem-at w w′ × ((c : Case) → Drawn c w → Grown c goal w → Written c (stem (c .graph) goal) r cycle-at w′)
+Stem-taken goal r w w′ = Kept stem-at w w′ × ((c : Case) → Laid c w → Grown c goal w → Written c (stem (c .graph) goal) r cycle-at w′)
 
 -- a run that broke the floor at b: its parents never end, and the cycle's start can be reached
 pub record Broke (c : Case) (ps : List (Option ℕ)) (b : ℕ) : Type 0 where
@@ -225,7 +202,6 @@ pub record Showable (b source n : ℕ) (w : List ℤ) : Type 0 where
   pub case : Case
   pub parents : List (Option ℕ)
   pub lies : Lies case parents w
-  pub laid : Laid case w
   pub broke : Broke case parents b
   pub source-is : source ≡ case .graph .source
   pub vertices : n ≡ case .graph .vertices
@@ -237,4 +213,4 @@ pub record Lasso-there (c : Case) (ps : List (Option ℕ)) (b stem-from cycle-fr
 unfoldable pub Shows : (b source n stem-from cycle-from : ℕ) → (w w′ : List ℤ) → Type 0
 Shows b source n s k w w′ =
     Kept found-at w w′
-    × ((c : Case) (ps : List (Option ℕ)) → Lies c ps w → Laid c w → Broke c ps b → source ≡ c .graph .source → n ≡ c .graph .vertices → Lasso-there c ps b s k w′)
+    × ((c : Case) (ps : List (Option ℕ)) → Lies c ps w → Broke c ps b → source ≡ c .graph .source → n ≡ c .graph .vertices → Lasso-there c ps b s k w′)

@@ -5,7 +5,8 @@ use native.Mathlib.Omega.{arith}
 use borrow.Author.Needs.{needs}
 use Rattle.model.specs.Case.{Case, most-vertices}
 use Rattle.search.specs.Cells.{found-at}
-use Rattle.search.specs.Show.{Laid, Kept, Searching, Scans, Started, Searched}
+use Rattle.search.specs.Rep.{Laid}
+use Rattle.search.specs.Show.{Kept, Searching, Scans, Started, Searched}
 use Rattle.search.proofs.Frames.{kept-same, kept-more, kept-back, laid-kept}
 use Rattle.search.proofs.Search.{search-few, goal-mark, goal-marked, goal-found}
 use Rattle.search.proofs.show.find_stem.Statement.{statement}
@@ -36,8 +37,8 @@ few : (c : tie.At-loop Inv-loop μ-loop) → (c .before .before .before .before 
 few c =
     let s = c .before .before .before .before .pre .start in
     let l = laid c (s .case) (s .laid) in
-    let t = search-few _ _ _ 0 _ (l .drawn) (searching c (s .case) (s .laid) (s .source-is) (s .vertices)) in
-    (omega (arith, s .vertices, l .drawn .within .vertices), omega (arith, s .vertices, t))
+    let t = search-few _ _ _ 0 _ l (searching c (s .case) (s .laid) (s .source-is) (s .vertices)) in
+    (omega (arith, s .vertices, l .within .vertices), omega (arith, s .vertices, t))
 
 start-search-requires : tie.Need-start-search-requires Inv-loop μ-loop
 start-search-requires c κs = c .before .pre .start
@@ -59,7 +60,7 @@ load-below-requires c κs =
     let p = c .before .before .before .before .before .before .pre in
     let s = p .start in
     let l = laid (c .before .before) (s .case) (s .laid) in
-    (omega (arith, few (c .before .before) .0, p .goal-below, l .drawn .long), goal-mark _ _ _ _ _ (l .drawn) (searching (c .before .before) (s .case) (s .laid) (s .source-is) (s .vertices)) (omega (arith, p .goal-below, s .vertices)))
+    (omega (arith, few (c .before .before) .0, p .goal-below, l .long), goal-mark _ _ _ _ _ l (searching (c .before .before) (s .case) (s .laid) (s .source-is) (s .vertices)) (omega (arith, p .goal-below, s .vertices)))
 
 same-length : tie.Need-same-length Inv-loop μ-loop
 same-length c = kept (c .before .before .before .before) .long
@@ -68,7 +69,7 @@ returns : tie.Need-returns Inv-loop μ-loop
 unfolding Searched
 returns c =
     let i = c .before .before .before .before in
-    (kept i, λ q l s n g es r. goal-marked q _ _ _ _ (laid i q l .drawn) (searching i q l s n) _ (omega arith) (c .before .load-below .ensures .0) (c .if1 .taken))
+    (kept i, λ q l s n g es r. goal-marked q _ _ _ _ (laid i q l) (searching i q l s n) _ (omega arith) (c .before .load-below .ensures .0) (c .if1 .taken))
 
 scan-head-requires : tie.Need-scan-head-requires Inv-loop μ-loop
 scan-head-requires c κs =
@@ -94,7 +95,7 @@ same-length-2 c = kept (c .before) .long
 
 returns-2 : tie.Need-returns-2 Inv-loop μ-loop
 unfolding Searched
-returns-2 c = (kept (c .before), λ q l s n g es r. goal-found q _ _ _ _ (laid (c .before) q l .drawn) (searching (c .before) q l s n) (omega arith) es r)
+returns-2 c = (kept (c .before), λ q l s n g es r. goal-found q _ _ _ _ (laid (c .before) q l) (searching (c .before) q l s n) (omega arith) es r)
 
 pub find-stem-spec : {M : Type 1} → statement M
 find-stem-spec =

@@ -15,20 +15,20 @@ add-load-below : tie.Need-add-load-below
 unfolding Parent-is
 add-load-below c =
     let s = c .before .pre in
-    omega (arith, s .lies .real _ _ (c .parent-edge .ensures _ _ (s .lies) (s .chained)), s .lies .drawn .within .edges)
+    omega (arith, s .lies .real _ _ (c .parent-edge .ensures _ _ (s .lies) (s .chained)), s .lies .laid .within .edges)
 
 load-below-requires : tie.Need-load-below-requires
 unfolding Parent-is
 load-below-requires c κs =
     let s = c .before .pre in
     let h = s .lies .real _ _ (c .parent-edge .ensures _ _ (s .lies) (s .chained)) in
-    (omega (arith, h, s .lies .drawn .within .edges, s .lies .drawn .long), from-there _ _ _ (s .lies .drawn) h)
+    (omega (arith, h, s .lies .laid .within .edges, s .lies .laid .long), from-there _ _ _ (s .lies .laid) h)
 
 returns : tie.Need-returns
 unfolding Parent-is One-back-is
 returns c = λ q ps l f.
     let p = c .before .parent-edge .ensures q ps l f in
-    from-is q _ _ (l .drawn) (l .real _ _ p) _ (c .load-below .ensures .0) ∙ sym (one-back-some (q .graph) ps _ _ p)
+    from-is q _ _ (l .laid) (l .real _ _ p) _ (c .load-below .ensures .0) ∙ sym (one-back-some (q .graph) ps _ _ p)
 
 pub one-back-spec : {M : Type 1} → statement M
 one-back-spec =

@@ -7,7 +7,7 @@ use Rattle.search.proofs.show.parent_edge.Statement.{statement}
 use Rattle.search.proofs.show.parent_edge.Tie as tie
 
 add-load-below : tie.Need-add-load-below
-add-load-below c = let s = c .pre in omega (arith, chained-below _ _ _ _ (s .lies) (s .chained), s .lies .drawn .within .vertices)
+add-load-below c = let s = c .pre in omega (arith, chained-below _ _ _ _ (s .lies) (s .chained), s .lies .laid .within .vertices)
 
 add-load-below-2 : tie.Need-add-load-below-2
 add-load-below-2 c = search needs
@@ -15,7 +15,7 @@ add-load-below-2 c = search needs
 load-below-requires : tie.Need-load-below-requires
 load-below-requires c κs =
     let s = c .pre in
-    (omega (arith, chained-below _ _ _ _ (s .lies) (s .chained), s .lies .drawn .within .vertices, s .lies .drawn .long), parent-there _ _ _ _ (s .lies) (s .chained))
+    (omega (arith, chained-below _ _ _ _ (s .lies) (s .chained), s .lies .laid .within .vertices, s .lies .laid .long), parent-there _ _ _ _ (s .lies) (s .chained))
 
 sub-result : tie.Need-sub-result
 sub-result c = let s = c .before .pre in omega (arith, parent-is _ _ _ _ (s .lies) (s .chained) _ (c .load-below .ensures .0) .0)

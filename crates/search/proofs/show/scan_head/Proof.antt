@@ -7,7 +7,8 @@ use lib.ListN.{length}
 use Rattle.model.specs.Graph.{edge as edge-of}
 use Rattle.model.specs.Case.{Case}
 use Rattle.search.specs.Cells.{found-at}
-use Rattle.search.specs.Show.{Laid, Kept, Searching, Scanning, Tried, Scans}
+use Rattle.search.specs.Rep.{Laid}
+use Rattle.search.specs.Show.{Kept, Searching, Scanning, Tried, Scans}
 use Rattle.search.proofs.Frames.{kept-same, kept-more, laid-kept}
 use Rattle.search.proofs.Search.{head-there, first-there, next-there, scan-start, scan-edge, scan-done}
 use Rattle.search.proofs.show.scan_head.Statement.{statement}
@@ -27,7 +28,7 @@ load-below-requires : tie.Need-load-below-requires Inv-loop μ-loop
 load-below-requires c κs =
     let s = c .before .pre in
     let h = head-there _ _ _ _ (s .laid) (s .search) (s .on) in
-    (omega (arith, h .0, s .laid .drawn .long), h .1)
+    (omega (arith, h .0, s .laid .long), h .1)
 
 add-load-below-2 : tie.Need-add-load-below-2 Inv-loop μ-loop
 add-load-below-2 c = omega (arith, c .before .load-below .ensures .1)
@@ -42,7 +43,7 @@ load-below-requires-2 : tie.Need-load-below-requires-2 Inv-loop μ-loop
 load-below-requires-2 c κs =
     let s = c .before .before .before .pre in
     let a = c .before .load-below .ensures in
-    (omega (arith, a .1, s .laid .drawn .long), next-there _ _ _ _ (s .laid) (s .search) (s .on) _ (a .0))
+    (omega (arith, a .1, s .laid .long), next-there _ _ _ _ (s .laid) (s .search) (s .on) _ (a .0))
 
 add-load-below-5 : tie.Need-add-load-below-5 Inv-loop μ-loop
 add-load-below-5 c = omega (arith, c .before .before .before .load-below .ensures .1)
@@ -54,7 +55,7 @@ load-below-requires-3 : tie.Need-load-below-requires-3 Inv-loop μ-loop
 load-below-requires-3 c κs =
     let s = c .before .before .before .before .before .pre in
     let a = c .before .before .before .load-below .ensures in
-    (omega (arith, a .1, s .laid .drawn .long), first-there _ _ _ _ (s .laid) (s .search) (s .on) _ (a .0))
+    (omega (arith, a .1, s .laid .long), first-there _ _ _ _ (s .laid) (s .search) (s .on) _ (a .0))
 
 loop-holds : tie.Need-loop-holds Inv-loop μ-loop
 loop-holds c =
@@ -78,7 +79,7 @@ try-edge-requires c κs =
       case = s .case;
       head = _;
       vertex = _;
-      drawn = laid-kept _ found-at _ _ (omega arith) (i .1) (s .laid) .drawn;
+      laid = laid-kept _ found-at _ _ (omega arith) (i .1) (s .laid);
       scanning = i .2 _ (s .laid) (s .search) (s .on);
       below = b .0;
       leaves = b .1;
@@ -95,7 +96,7 @@ unfolding Tried
 loop-again c =
     let i = c .before .before .before .before .loop .inv in
     let t = c .before .try-edge .ensures in
-    (omega (arith, i .0), kept-more _ _ _ _ (i .1) (t .0), λ q l s h. let b = edge (c .before .before .before) q l s h in t .1 q _ _ (laid-kept q found-at _ _ (omega arith) (i .1) l .drawn) (i .2 q l s h) (b .0) (b .1))
+    (omega (arith, i .0), kept-more _ _ _ _ (i .1) (t .0), λ q l s h. let b = edge (c .before .before .before) q l s h in t .1 q _ _ (laid-kept q found-at _ _ (omega arith) (i .1) l) (i .2 q l s h) (b .0) (b .1))
 
 same-length : tie.Need-same-length Inv-loop μ-loop
 same-length c = c .before .loop .inv .1 .long

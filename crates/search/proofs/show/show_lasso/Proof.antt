@@ -9,8 +9,8 @@ use Rattle.model.specs.Graph.{Reaches}
 use Rattle.model.specs.Case.{Case}
 use Rattle.model.specs.Answer.{cycle-start, stem}
 use Rattle.search.specs.Cells.{found-at, stem-at, cycle-at}
-use Rattle.search.specs.Show.{Lies, Laid, Broke, Chained, Kept, Grown, Written, Backed, Searched, Stem-taken, Cycled, Shows}
-use Rattle.search.proofs.Frames.{kept-more, kept-less, drawn-kept, lies-kept, written-kept}
+use Rattle.search.specs.Show.{Lies, Broke, Chained, Kept, Grown, Written, Backed, Searched, Stem-taken, Cycled, Shows}
+use Rattle.search.proofs.Frames.{kept-more, kept-less, laid-kept, lies-kept, written-kept}
 use Rattle.search.proofs.Cycles.{chained-below, start-is}
 use Rattle.search.proofs.show.show_lasso.Statement.{statement}
 use Rattle.search.proofs.show.show_lasso.Tie as tie
@@ -25,11 +25,11 @@ start c q ps l k n =
 
 grown : (c : tie.After-find-stem) →
     let s = c .before .before .before .before .args in
-    (q : Case) (ps : List (Option ℕ)) → Lies q ps (s .work .now) → Laid q (s .work .now) → Broke q ps (s .broken) → s .source ≡ q .graph .source → s .n ≡ q .graph .vertices → Grown q (c .before .before .go-back .result) (c .find-stem .last .0)
+    (q : Case) (ps : List (Option ℕ)) → Lies q ps (s .work .now) → Broke q ps (s .broken) → s .source ≡ q .graph .source → s .n ≡ q .graph .vertices → Grown q (c .before .before .go-back .result) (c .find-stem .last .0)
 unfolding Searched
-grown c q ps l m k s n =
+grown c q ps l k s n =
     let t = start (c .before .before) q ps l k n in
-    c .find-stem .ensures .1 q m s n (omega (arith, chained-below q ps _ _ l (t .1))) (k .walk) (subst (λ (v : ℕ). Reaches (q .graph) v (k .walk)) (sym (t .0)) (k .reaches))
+    c .find-stem .ensures .1 q (l .laid) s n (omega (arith, chained-below q ps _ _ l (t .1))) (k .walk) (subst (λ (v : ℕ). Reaches (q .graph) v (k .walk)) (sym (t .0)) (k .reaches))
 
 kept : (c : tie.After-take-stem) → Kept found-at (c .before .before .before .before .before .before .before .args .work .now) (c .take-stem .last .0)
 unfolding Searched Stem-taken
@@ -42,20 +42,20 @@ find-stem-requires : tie.Need-find-stem-requires
 find-stem-requires c κs =
     let s = c .before .before .before .pre in
     let t = start (c .before) (s .case) (s .parents) (s .lies) (s .broke) (s .vertices) in
-    record { start = record { case = s .case; laid = s .laid; source-is = s .source-is; vertices = s .vertices }; goal-below = omega (arith, chained-below _ _ _ _ (s .lies) (t .1), s .vertices) }
+    record { start = record { case = s .case; laid = s .lies .laid; source-is = s .source-is; vertices = s .vertices }; goal-below = omega (arith, chained-below _ _ _ _ (s .lies) (t .1), s .vertices) }
 
 take-stem-requires : tie.Need-take-stem-requires
 unfolding Searched
 take-stem-requires c κs =
     let s = c .before .before .before .before .before .before .pre in
     let f = c .before .before in
-    record { case = s .case; drawn = drawn-kept (s .case) found-at _ _ (omega arith) (f .find-stem .ensures .0) (s .lies .drawn); grown = grown f (s .case) (s .parents) (s .lies) (s .laid) (s .broke) (s .source-is) (s .vertices) }
+    record { case = s .case; laid = laid-kept (s .case) found-at _ _ (omega arith) (f .find-stem .ensures .0) (s .lies .laid); grown = grown f (s .case) (s .parents) (s .lies) (s .broke) (s .source-is) (s .vertices) }
 
 take-cycle-requires : tie.Need-take-cycle-requires
 take-cycle-requires c κs =
     let s = c .before .before .before .before .before .before .before .before .before .pre in
     let t = start (c .before .before .before .before .before .before .before) (s .case) (s .parents) (s .lies) (s .broke) (s .vertices) in
-    (omega (arith, s .vertices, s .lies .drawn .within .vertices), record { case = s .case; parents = s .parents; lies = lies-kept _ _ found-at _ _ (omega arith) (kept (c .before .before)) (s .lies); chained = t .1 })
+    (omega (arith, s .vertices, s .lies .laid .within .vertices), record { case = s .case; parents = s .parents; lies = lies-kept _ _ found-at _ _ (omega arith) (kept (c .before .before)) (s .lies); chained = t .1 })
 
 same-length : tie.Need-same-length
 same-length c = search needs
@@ -67,10 +67,10 @@ returns c =
     let a = c .before .before .before .before in
     let f = a .before .before .before in (
       kept-more _ _ _ _ (kept a) (kept-less cycle-at found-at _ _ (omega arith) (y .0)),
-      λ q ps l m k s n.
+      λ q ps l k s n.
           let t = start (f .before .before) q ps l k n in
-          let d = drawn-kept q found-at _ _ (omega arith) (f .find-stem .ensures .0) (l .drawn) in
-          let w = a .take-stem .ensures .1 q d (grown f q ps l m k s n) in
+          let d = laid-kept q found-at _ _ (omega arith) (f .find-stem .ensures .0) (l .laid) in
+          let w = a .take-stem .ensures .1 q d (grown f q ps l k s n) in
           record {
             stem = written-kept q _ _ cycle-at cycle-at _ _ (y .0) (omega arith) (subst (λ (v : ℕ). Written q (stem (q .graph) v) (a .take-stem .result) cycle-at (a .take-stem .last .0)) (t .0) w);
             cycle = y .1 q ps (lies-kept q ps found-at _ _ (omega arith) (kept a) l) (t .1) _ (t .0) n;

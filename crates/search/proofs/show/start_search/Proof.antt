@@ -27,7 +27,7 @@ unfolding Started
 returns c =
     let f = c .before .before .before .before .before .before .before .fill .ensures in
     rw (c .before .store-number2 .ensures, c .before .before .before .before .store-number .ensures)
-    (kept-more _ _ _ _ (kept-filled _ _ _ _ _ _ f (omega arith)) (kept-more _ _ _ _ (kept-set _ _ _ _ (omega arith)) (kept-set _ _ _ _ (omega arith))), λ q l s n. search-start q _ _ _ _ (l .drawn) s n f)
+    (kept-more _ _ _ _ (kept-filled _ _ _ _ _ _ f (omega arith)) (kept-more _ _ _ _ (kept-set _ _ _ _ (omega arith)) (kept-set _ _ _ _ (omega arith))), λ q l s n. search-start q _ _ _ _ l s n f)
 
 pub start-search-spec : {M : Type 1} → statement M
 start-search-spec =

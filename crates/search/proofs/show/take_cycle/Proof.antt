@@ -67,7 +67,7 @@ store-number-requires c κs =
     let i = c .before .before .before .before .loop .inv in
     let r = under (c .before .before .before .before) in
     let e = c .before .parent-edge .ensures _ _ (r .lies) (r .chained) in
-    (omega (arith, i .0, i .1, r .lies .drawn .long), omega (arith, r .lies .real _ _ e, r .lies .drawn .within .edges))
+    (omega (arith, i .0, i .1, r .lies .laid .long), omega (arith, r .lies .real _ _ e, r .lies .laid .within .edges))
 
 one-back-requires : tie.Need-one-back-requires Inv-loop μ-loop
 one-back-requires c κs =

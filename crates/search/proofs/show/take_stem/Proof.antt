@@ -4,26 +4,27 @@ use native.Mathlib.Omega.{arith}
 use borrow.Author.Needs.{needs}
 use Rattle.model.specs.Case.{Case}
 use Rattle.search.specs.Cells.{stem-at}
-use Rattle.search.specs.Show.{Drawn, Kept, Grown, Stemming, Stem-taken}
+use Rattle.search.specs.Rep.{Laid}
+use Rattle.search.specs.Show.{Kept, Grown, Stemming, Stem-taken}
 use Rattle.search.proofs.Frames.{kept-same, kept-more, kept-set, from-there}
 use Rattle.search.proofs.Search.{grown-mark, stem-start, stem-edge, stem-room, stem-mark, stem-step, stem-done}
 use Rattle.search.proofs.show.take_stem.Statement.{statement}
 use Rattle.search.proofs.show.take_stem.Tie as tie
 
 abbrev Inv-loop : tie.InvT-loop
-Inv-loop work₀ goal at₀ mark₀ work at mark = Kept stem-at work₀ work × ((c : Case) → Drawn c work₀ → Grown c goal work₀ → Stemming c goal mark at work)
+Inv-loop work₀ goal at₀ mark₀ work at mark = Kept stem-at work₀ work × ((c : Case) → Laid c work₀ → Grown c goal work₀ → Stemming c goal mark at work)
 
 abbrev μ-loop : tie.MeasureT-loop
 μ-loop work₀ goal at₀ mark₀ work at mark = at
 
 here : (c : tie.At-loop Inv-loop μ-loop) → let s = c .before .before .before .pre in Stemming (s .case) (c .before .before .before .args .goal) (c .loop .mark) (c .loop .at) (c .loop .work)
-here c = let s = c .before .before .before .pre in c .loop .inv .1 (s .case) (s .drawn) (s .grown)
+here c = let s = c .before .before .before .pre in c .loop .inv .1 (s .case) (s .laid) (s .grown)
 
 room : (c : tie.In-loop Inv-loop μ-loop) → stem-at < c .before .loop .at
 room c = stem-room _ _ _ _ _ (here (c .before)) (c .loop-test .taken)
 
 add-load-below : tie.Need-add-load-below Inv-loop μ-loop
-add-load-below c = let s = c .before .pre in omega (arith, grown-mark _ _ _ (s .drawn) (s .grown) .0)
+add-load-below c = let s = c .before .pre in omega (arith, grown-mark _ _ _ (s .laid) (s .grown) .0)
 
 add-load-below-2 : tie.Need-add-load-below-2 Inv-loop μ-loop
 add-load-below-2 c = search needs
@@ -31,8 +32,8 @@ add-load-below-2 c = search needs
 load-below-requires : tie.Need-load-below-requires Inv-loop μ-loop
 load-below-requires c κs =
     let s = c .before .pre in
-    let m = grown-mark _ _ _ (s .drawn) (s .grown) in
-    (omega (arith, m .0, s .drawn .long), m .1)
+    let m = grown-mark _ _ _ (s .laid) (s .grown) in
+    (omega (arith, m .0, s .laid .long), m .1)
 
 loop-holds : tie.Need-loop-holds Inv-loop μ-loop
 loop-holds c = (kept-same _ _, λ q d r. stem-start q _ _ d r _ (c .load-below .ensures .0))
@@ -41,13 +42,13 @@ sub-e : tie.Need-sub-e Inv-loop μ-loop
 sub-e c = omega arith
 
 add-load-below-3 : tie.Need-add-load-below-3 Inv-loop μ-loop
-add-load-below-3 c = let s = here (c .before .before) in omega (arith, stem-edge _ _ _ _ _ s (c .before .loop-test .taken), s .drawn .within .edges)
+add-load-below-3 c = let s = here (c .before .before) in omega (arith, stem-edge _ _ _ _ _ s (c .before .loop-test .taken), s .laid .within .edges)
 
 load-below-requires-2 : tie.Need-load-below-requires-2 Inv-loop μ-loop
 load-below-requires-2 c κs =
     let s = here (c .before .before) in
     let b = stem-edge _ _ _ _ _ s (c .before .loop-test .taken) in
-    (omega (arith, b, s .drawn .within .edges, s .drawn .long), from-there _ _ _ (s .drawn) b)
+    (omega (arith, b, s .laid .within .edges, s .laid .long), from-there _ _ _ (s .laid) b)
 
 add-load-below-4 : tie.Need-add-load-below-4 Inv-loop μ-loop
 add-load-below-4 c = omega (arith, c .before .load-below2 .ensures .1)
@@ -59,7 +60,7 @@ load-below-requires-3 : tie.Need-load-below-requires-3 Inv-loop μ-loop
 load-below-requires-3 c κs =
     let s = here (c .before .before .before .before) in
     let a = c .before .load-below2 .ensures in
-    (omega (arith, a .1, s .drawn .long), stem-mark _ _ _ _ _ s (c .before .before .before .loop-test .taken) _ (a .0))
+    (omega (arith, a .1, s .laid .long), stem-mark _ _ _ _ _ s (c .before .before .before .loop-test .taken) _ (a .0))
 
 sub-at : tie.Need-sub-at Inv-loop μ-loop
 sub-at c = omega (arith, room (c .before .before .before .before))
@@ -68,7 +69,7 @@ store-number-requires : tie.Need-store-number-requires Inv-loop μ-loop
 store-number-requires c κs =
     let i = c .before .before .before .before .before in
     let s = here (i .before) in
-    (omega (arith, room i, s .written .ends, s .drawn .long), omega (arith, stem-edge _ _ _ _ _ s (i .loop-test .taken), s .drawn .within .edges))
+    (omega (arith, room i, s .written .ends, s .laid .long), omega (arith, stem-edge _ _ _ _ _ s (i .loop-test .taken), s .laid .within .edges))
 
 loop-less : tie.Need-loop-less Inv-loop μ-loop
 loop-less c = omega (arith, room (c .before .before .before .before .before .before .before))

@@ -13,13 +13,13 @@ room : (c : tie.Else1) → c .before .before .before .before .before .args .tail
 room c =
     let s = c .before .before .before .before .before .pre in
     let a = c .before .before .before .load-below .ensures .0 in
-    omega (arith, try-room _ _ _ _ _ _ (s .drawn) (s .scanning) (s .below) (s .leaves) _ a _ (c .before .load-below2 .ensures .0) (c .if1 .left), s .drawn .within .vertices)
+    omega (arith, try-room _ _ _ _ _ _ (s .laid) (s .scanning) (s .below) (s .leaves) _ a _ (c .before .load-below2 .ensures .0) (c .if1 .left), s .laid .within .vertices)
 
 add-load-below : tie.Need-add-load-below
 add-load-below c = search needs
 
 load-below-requires : tie.Need-load-below-requires
-load-below-requires c κs = let s = c .before .pre in (omega (arith, s .below, s .drawn .within .edges, s .drawn .long), to-there _ _ _ (s .drawn) (s .below))
+load-below-requires c κs = let s = c .before .pre in (omega (arith, s .below, s .laid .within .edges, s .laid .long), to-there _ _ _ (s .laid) (s .below))
 
 add-load-below-2 : tie.Need-add-load-below-2
 add-load-below-2 c = search needs
@@ -30,7 +30,7 @@ add-load-below-3 c = search needs
 load-below-requires-2 : tie.Need-load-below-requires-2
 load-below-requires-2 c κs =
     let s = c .before .before .before .pre in
-    (omega (arith, s .drawn .long, c .before .load-below .ensures .1), try-mark _ _ _ _ _ _ (s .drawn) (s .scanning) (s .below) (s .leaves) _ (c .before .load-below .ensures .0))
+    (omega (arith, s .laid .long, c .before .load-below .ensures .1), try-mark _ _ _ _ _ _ (s .laid) (s .scanning) (s .below) (s .leaves) _ (c .before .load-below .ensures .0))
 
 same-length : tie.Need-same-length
 same-length c = search needs
@@ -54,7 +54,7 @@ add-store-number-3 c = omega (arith, room (c .before .before .before .before))
 store-number-requires-2 : tie.Need-store-number-requires-2
 store-number-requires-2 c κs =
     let s = c .before .before .before .before .before .before .before .before .before .pre in
-    (omega (arith, room (c .before .before .before .before), s .drawn .long, c .before .before .store-number .kept .0), omega (arith, c .before .before .before .before .before .before .before .load-below .ensures .1))
+    (omega (arith, room (c .before .before .before .before), s .laid .long, c .before .before .store-number .kept .0), omega (arith, c .before .before .before .before .before .before .before .load-below .ensures .1))
 
 add-result : tie.Need-add-result
 add-result c = omega (arith, room (c .before .before .before .before .before .before))
