@@ -11,6 +11,7 @@ pub mod Inserts
 pub mod Sweeps
 pub mod Frames
 pub mod Cycles
+pub mod Breadth
 pub mod Search
 pub mod Loads
 pub mod Ends
