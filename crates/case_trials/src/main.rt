@@ -2,20 +2,32 @@
 // line for each text, with the refusal or 0; the file stdout has what must come.
 use casefile::Judged;
 use casefile::judge;
+use casefile::read_case;
 use text::write::write_byte;
 use text::write::write_bytes;
 use text::write::write_number;
 
-// Prints what was tried and the refusal of the text.
-fn show(name: &[u8], text: &[u8]) {
-    let refusal = match judge(text) {
+const STDOUT: i32 = 1;
+
+fn print_number(n: u32) {
+    io::print_decimal(STDOUT, n as u64);
+}
+
+// Prints what was tried and the refusal.
+fn show_judged(name: &[u8], judged: Judged) {
+    let refusal = match judged {
         Judged::Refused(k) => k,
         Judged::Accepted(_) => 0,
     };
-    io::write_all(1, name);
-    io::write_all(1, b": ");
-    io::print_decimal(1, refusal as u64);
-    io::write_all(1, b"\n");
+    io::write_all(STDOUT, name);
+    io::write_all(STDOUT, b": ");
+    print_number(refusal);
+    io::write_all(STDOUT, b"\n");
+}
+
+// The refusal of a text.
+fn show(name: &[u8], text: &[u8]) {
+    show_judged(name, judge(text));
 }
 
 // The same of a text's first bytes.
@@ -116,8 +128,8 @@ fn try_versions() {
     show(b"version 2 with a carriage return", b"version x\n2\r\n");
 }
 
-// 4 and 5 on the first three lines.
-fn try_heads() {
+// 4 on the first two lines.
+fn try_layouts() {
     show(
         b"K1",
         b"version vertices edges source workers\n1 3 3 0 2\nvertex accepting owner\n0 0 0\n1 1 1\n2 0 0\nfrom to\n0 1\n1 2\n2 1\n",
@@ -142,6 +154,10 @@ fn try_heads() {
         b"a torn line 2 out of range",
         b"version vertices edges source workers\n1 1 0 0 99",
     );
+}
+
+// 5, and 4 on line 3.
+fn try_counts() {
     show(
         b"no vertex",
         b"version vertices edges source workers\n1 0 0 0 1\n",
@@ -164,8 +180,8 @@ fn try_heads() {
     );
 }
 
-// 4, 6, 7 and 8 on the lines after them.
-fn try_lines() {
+// 6, and 4 on the lines up to the edge names.
+fn try_vertex_lines() {
     show(
         b"a vertex out of order",
         b"version vertices edges source workers\n1 1 0 0 1\nvertex accepting owner\n1 0 0\nfrom to\n",
@@ -186,6 +202,10 @@ fn try_lines() {
         b"no edge names",
         b"version vertices edges source workers\n1 1 0 0 1\nvertex accepting owner\n0 0 0\n",
     );
+}
+
+// 7, 8, and 4 on the lines after them.
+fn try_edge_lines() {
     show(
         b"an end not below vertices",
         b"version vertices edges source workers\n1 1 1 0 1\nvertex accepting owner\n0 0 0\nfrom to\n0 1\n",
@@ -216,9 +236,51 @@ fn try_lines() {
     );
 }
 
+fn show_table(name: &[u8], table: &[u32]) {
+    io::write_all(STDOUT, name);
+    for i in 0..table.len() {
+        io::write_all(STDOUT, b" ");
+        print_number(table[i]);
+    }
+    io::write_all(STDOUT, b"\n");
+}
+
+// What a text puts into tables of four entries, all 9 before, and of two for the vertices that edges leave.
+fn show_tables(name: &[u8], text: &[u8]) {
+    let mut marks = [9u32; 4];
+    let mut owners = [9u32; 4];
+    let mut froms = [9u32; 2];
+    let mut tos = [9u32; 4];
+    let judged = read_case(text, &mut marks, &mut owners, &mut froms, &mut tos);
+    show_judged(name, judged);
+    show_table(b"  accepting", &marks);
+    show_table(b"  owner", &owners);
+    show_table(b"  from", &froms);
+    show_table(b"  to", &tos);
+}
+
+// Tables up to the first fault, and as far as they have room.
+fn try_tables() {
+    show_tables(
+        b"K1 in tables",
+        b"version vertices edges source workers\n1 3 3 0 2\nvertex accepting owner\n0 0 0\n1 1 1\n2 0 0\nfrom to\n0 1\n1 2\n2 1\n",
+    );
+    show_tables(
+        b"K1 in tables, with a wrong mark on its second vertex line",
+        b"version vertices edges source workers\n1 3 3 0 2\nvertex accepting owner\n0 0 0\n1 2 1\n2 0 0\nfrom to\n0 1\n1 2\n2 1\n",
+    );
+    show_tables(
+        b"K1 in tables, with its last edge before the others",
+        b"version vertices edges source workers\n1 3 3 0 2\nvertex accepting owner\n0 0 0\n1 1 1\n2 0 0\nfrom to\n2 1\n0 1\n1 2\n",
+    );
+}
+
 fn main() {
     try_limits();
     try_versions();
-    try_heads();
-    try_lines();
+    try_layouts();
+    try_counts();
+    try_vertex_lines();
+    try_edge_lines();
+    try_tables();
 }
