@@ -126,26 +126,30 @@ fn print_short(answer: &[u8]) {
     }
 }
 
-// Ends a run's line: what the buffers hold, what the checker says, and whether all of it is what must come.
-fn judged(
+// A run's line: its outcome, what the buffers hold, what the checker says, and whether all of it is what must come.
+fn told(
     wrong: u32,
+    name: &[u8],
     case: &[u8],
-    same: bool,
+    o: Outcome,
     refusal: u32,
     verdict: u32,
-    shown: &[u8],
+    acts: u32,
     answer: &[u8],
-    rest: bool,
-    left: Work,
+    output: &[u8],
+    work: &[i32],
 ) -> u32 {
+    print_outcome(name, o);
+    let written = o.written as usize;
+    let shown = front(output, written);
+    let rest = untouched(output, written);
+    let left = left_in(work);
     print_work(left);
     print_rest(rest);
     let passed = checked_verdict(case, shown) == verdict;
     let buffers = rest && work_right(left, refusal);
-    let after = counted(
-        wrong,
-        same && passed && buffers && check::same(shown, answer),
-    );
+    let same = same_outcome(o, refusal, verdict, acts) && check::same(shown, answer);
+    let after = counted(wrong, same && passed && buffers);
     print_short(shown);
     after
 }
@@ -163,21 +167,17 @@ pub fn rounds_in(
     work: &mut [i32],
 ) -> u32 {
     let o = run_rounds(case, output, work);
-    print_outcome(name, o);
-    let written = o.written as usize;
-    let same = same_outcome(o, refusal, verdict, acts);
-    let rest = untouched(output, written);
-    let left = left_in(work);
-    judged(
+    told(
         wrong,
+        name,
         case,
-        same,
+        o,
         refusal,
         verdict,
-        front(output, written),
+        acts,
         answer,
-        rest,
-        left,
+        output,
+        work,
     )
 }
 
@@ -195,21 +195,17 @@ pub fn list_in(
     work: &mut [i32],
 ) -> u32 {
     let o = run_list(case, list, output, work);
-    print_outcome(name, o);
-    let written = o.written as usize;
-    let same = same_outcome(o, refusal, verdict, acts);
-    let rest = untouched(output, written);
-    let left = left_in(work);
-    judged(
+    told(
         wrong,
+        name,
         case,
-        same,
+        o,
         refusal,
         verdict,
-        front(output, written),
+        acts,
         answer,
-        rest,
-        left,
+        output,
+        work,
     )
 }
 
