@@ -45,6 +45,10 @@ impl Case {
     pub const LEAST_OUTPUT: usize = 8192;
 
     pub const LEAST_WORK: usize = 16384;
+    // Of an answer: "a count above 500, a distance outside −500 to 500"
+    pub const MOST_LISTED: usize = 500;
+
+    pub const FARTHEST: u32 = 500;
     // The one version that is read and written.
     pub const VERSION: u32 = 1;
 }

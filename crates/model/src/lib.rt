@@ -1,6 +1,6 @@
 // What the entries return. All else of this crate is definitions (specs/) and their proofs (proofs/).
 
-// Of a run: refusal 0 or its number; verdict 1 lasso, 2 empty, 0 none; the acts counted; the answer's length.
+// Of a run: refusal 0 or its number; the verdict; the acts counted; the answer's length.
 #[repr(C)]
 pub struct Outcome {
     pub refusal: u32,
@@ -9,7 +9,16 @@ pub struct Outcome {
     pub written: u32,
 }
 
-// Of a check: refusal 0 or its number; the answer's verdict where it passes, 0 where it does not.
+impl Outcome {
+    // The verdicts, of a run and of a check.
+    pub const NONE: u32 = 0;
+
+    pub const LASSO: u32 = 1;
+
+    pub const EMPTY: u32 = 2;
+}
+
+// Of a check: refusal 0 or its number; the answer's verdict where it passes, else `Outcome::NONE`.
 #[repr(C)]
 pub struct Checked {
     pub refusal: u32,
