@@ -97,7 +97,7 @@ result : (bs : List ℕ) (r : Outcome) (o z : List ℕ) (w v : List ℤ) → Say
 unfolding Says List-says Rounds-say
 result bs r o z w v (inl (xs, s)) e = let x = by-list (case-in bs) xs in says-cases (Result bs r z) (list-refusal bs xs (length o) (length w)) (has-ended x) (case-in bs) x r o z w v s
     (λ j _ t. absurd (omega (arith, t .refusal)))
-    (λ k b t. finished bs x r o z w v (list-accepted bs xs (length o) (length w) k) (record { ended = b; run = inl (xs, refl) }) t)
+    (λ k b t. finished bs x r o z w v (list-accepted bs xs (length o) (length w) k) (record { ended = b; run = inl (record { acts = xs; is = refl }) }) t)
     (λ k b t. absurd (omega (arith, t .refusal)))
 result bs r o z w v (inr s) e = let x = by-rounds (case-in bs) in says-cases (Result bs r z) (rounds-refusal bs (length o) (length w)) (has-ended x) (case-in bs) x r o z w v s
     (λ j _ t. absurd (omega (arith, t .refusal)))

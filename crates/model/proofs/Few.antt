@@ -137,7 +137,7 @@ module _ (c : Case) (ok : Sound c) where
       cells = λ f n. rw (relax-cells c e (d + edge-depth (c .graph) e) y) (p .cells f n);
       count = relax-count c e (d + edge-depth (c .graph) e) y ∙ p .count;
     };
-    other = λ e y b l i p. record {
+    other = λ e y b l i _ p. record {
       shape = shape-cell c ok e _ y (p .shape);
       rooms = λ u. omega (arith, p .rooms u, R-send e (d + edge-depth (c .graph) e) y u);
       cells = λ f n. getD-set-other (y .cells) e f _ none (λ q. n (rw q i)) ∙ p .cells f n;

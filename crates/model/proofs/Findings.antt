@@ -13,7 +13,7 @@ use lib.IntN.{ℤ, pos, negℤ}
 use lib.Signed.{leZ}
 use Rattle.model.specs.Graph.{Graph, is-walk, walk-end, walk-depth, walk-length, Reaches, is-lasso, No-lasso, Has-walk, Fewest}
 use Rattle.model.specs.Case.{Case, most-acts, Sound}
-use Rattle.model.specs.Run.{State, distance, is-some, ended-lasso, has-ended, fresh, by-list, by-rounds}
+use Rattle.model.specs.Run.{State, distance, is-some, ended-lasso, has-ended, fresh, by-list, by-rounds, Moment}
 use Rattle.model.specs.Answer.{cycle-start, cycle, stem, empty-text, answer-of, answer}
 use Rattle.model.specs.Promise.{Ended, Finding, whole-rounds}
 use Rattle.text.proofs.Tests.{Test, test, or-cases, clash, holds, fails}
@@ -27,22 +27,25 @@ use Rattle.model.proofs.Loops.{cycle-closed, start-depth}
 use Rattle.model.proofs.Stems.{stem-fewest, stem-short}
 use Rattle.model.proofs.Signs.{le-parts, low-neg, high-neg, deeper-le}
 
--- every ended run is a run by a list
-pub ended-listed : (c : Case) (x : State) → Ended c x → (xs : List ℕ) × (x ≡ by-list c xs)
+-- every ended run is a moment of a run
+pub ended-listed : (c : Case) (x : State) → Ended c x → Moment c x
 ended-listed c x e = go (e .run)
   where
-    go : ((xs : List ℕ) × (x ≡ by-list c xs)) ⊎ (x ≡ by-rounds c) → (xs : List ℕ) × (x ≡ by-list c xs)
-    go (inl p) = p
-    go (inr q) = (whole-rounds (most-acts c) c, q ∙ (unfold by-rounds by-list in (rounds-listed (most-acts c) c (fresh c))))
+    go : Moment c x ⊎ (x ≡ by-rounds c) → Moment c x
+    go (inl m) = m
+    go (inr q) = record { acts = whole-rounds (most-acts c) c; is = q ∙ (unfold by-rounds by-list in (rounds-listed (most-acts c) c (fresh c))) }
 
--- what holds of every run, ended or not
+-- what holds at every moment, ended or not
 pub record Known (c : Case) (x : State) : Type 0 where
   pub paid : Paid c x
   pub tale : Tale c x
   pub trace : Trace c x
 
+pub moment-known : (c : Case) (ok : Sound c) (x : State) → Moment c x → Known c x
+moment-known c ok x m = subst (λ (y : State). Known c y) (sym (m .is)) (record { paid = paid c ok (m .acts); tale = tale c ok (m .acts); trace = trace c ok (m .acts) })
+
 pub known : (c : Case) (ok : Sound c) (x : State) → Ended c x → Known c x
-known c ok x e = let p = ended-listed c x e in subst (λ (y : State). Known c y) (sym (p .1)) (record { paid = paid c ok (p .0); tale = tale c ok (p .0); trace = trace c ok (p .0) })
+known c ok x e = moment-known c ok x (ended-listed c x e)
 
 pub walk-real : (g : Graph) (v d : ℕ) → Walk g v d → Has-walk g v (distance d)
 unfolding walk-length distance

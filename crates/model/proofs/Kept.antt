@@ -26,6 +26,7 @@ use Rattle.model.proofs.Settled.{tale, relaxed}
 use Rattle.model.proofs.Moments.{never-raised, joins-lower}
 use Rattle.model.proofs.Stems.{fewest-one}
 use Rattle.model.proofs.Findings.{Known, known, walk-real, distances-le, stem-few, lasso-shown, finding, alike}
+use Rattle.model.proofs.ActRules.{rules-kept, counts}
 use Rattle.model.proofs.Accepting.{files-sound}
 use Rattle.model.proofs.Fits.{walk-below, below-append, cycle-few, accepting-few, answer-fits, answers-fit}
 use Rattle.model.proofs.Bounds.{most-acts-small}
@@ -64,6 +65,8 @@ runs-kept c ok = record {
 
 moments-kept : (c : Case) → Sound c → Moments-kept c
 moments-kept c ok = record {
+  rules = rules-kept c ok;
+  counts = counts c;
   real-distances = λ xs v d h. walk-real (c .graph) v d (tale c ok xs .walked .depths v d h);
   real-offers = λ xs e o h. walk-real (c .graph) (edge (c .graph) e .to) o (tale c ok xs .walked .cells e o h);
   never-raised = λ xs ys v d h. let r = never-raised c ok xs ys (tale c ok xs .walked .shape) v d h in (r .0, r .1, distances-le d (r .0) (r .2));

@@ -14,6 +14,7 @@ pub mod Loops
 pub mod Stems
 pub mod Signs
 pub mod Findings
+pub mod ActRules
 pub mod Accepting
 pub mod Refusals
 pub mod Fits

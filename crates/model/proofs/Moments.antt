@@ -40,7 +40,7 @@ module _ (c : Case) (ok : Sound c) (v d : ℕ) where
           halt = λ _ _ _ _ p. p;
           pass = λ _ _ _ p. p;
           own = λ e y b l i p. stays-relax e _ y b l p;
-          other = λ e y b l i p. (shape-cell c ok e _ y (p .0), p .1);
+          other = λ e y b l i _ p. (shape-cell c ok e _ y (p .0), p .1);
         }) (with-queues (set (x .queues) w q) x) (shape-queue c ok w u q x l e (p .0), p .1) in
         (shape-counted c ok _ (r .0), r .1);
     delivery = λ e o x n h p.
@@ -170,7 +170,7 @@ module _ (c : Case) (ok : Sound c) where
           halt = λ _ _ _ _ p. p;
           pass = λ _ _ _ p. p;
           own = λ e y b l i p. (late-relax e (d + edge-depth (c .graph) e) y b l (p .0), scanned-relax v d e (d + edge-depth (c .graph) e) y l (p .0 .shape) (p .1));
-          other = λ e y b l i p. (late-send v d e y l i (p .1) (p .0), record { dv = p .1 .dv; here = p .1 .here; deep = p .1 .deep; newer = λ m. p .1 .newer (unfold waiting in m) });
+          other = λ e y b l i _ p. (late-send v d e y l i (p .1) (p .0), record { dv = p .1 .dv; here = p .1 .here; deep = p .1 .deep; newer = λ m. p .1 .newer (unfold waiting in m) });
         }) (with-queues (set (x .queues) w q) x) (
           late-queue w v q x l e s,
           record {

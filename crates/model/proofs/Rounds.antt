@@ -50,13 +50,13 @@ scan-count c v d x = scan-keeps c v d (λ _ y. y .count ≡ x .count) (record {
   halt = λ _ _ _ _ p. p;
   pass = λ _ _ _ p. p;
   own = λ e y _ _ _ p. relax-count c e (d + edge-depth (c .graph) e) y ∙ p;
-  other = λ _ _ _ _ _ p. p;
+  other = λ _ _ _ _ _ _ p. p;
 }) x refl
 
-turn-count : (c : Case) (w v d : ℕ) (q : List ℕ) (x : State) → counted (scan c v d (with-queues (set (x .queues) w q) x)) .count ≡ suc (x .count)
+pub turn-count : (c : Case) (w v d : ℕ) (q : List ℕ) (x : State) → counted (scan c v d (with-queues (set (x .queues) w q) x)) .count ≡ suc (x .count)
 turn-count c w v d q x = ap suc (scan-count c v d (with-queues (set (x .queues) w q) x))
 
-delivery-count : (c : Case) (e d : ℕ) (x : State) → counted (relax c e d (with-cells (set (x .cells) e none) x)) .count ≡ suc (x .count)
+pub delivery-count : (c : Case) (e d : ℕ) (x : State) → counted (relax c e d (with-cells (set (x .cells) e none) x)) .count ≡ suc (x .count)
 delivery-count c e d x = ap suc (relax-count c e d (with-cells (set (x .cells) e none) x))
 
 -- idle, or counted

@@ -132,7 +132,7 @@ module _ (c : Case) (ok : Sound c) where
     halt = λ e y b h p. (p .0, λ n. some-not-none (y .broken) b h n);
     pass = λ e y m p. (p .0, λ n f du i q. pass e f du m (p .1 n f du i q));
     own = λ e y b l i p. (shape-relax c ok e (d + edge-depth (c .graph) e) y b l (p .0), settle-relax (Owed c v d e) (Owed c v d (suc e)) e (d + edge-depth (c .graph) e) y b l (p .0) (p .1) (λ f du _ q. owed e f du q (same? f e)));
-    other = λ e y b l i p. (shape-cell c ok e _ y (p .0), settle-send e d v y l i (p .0) (p .1));
+    other = λ e y b l i _ p. (shape-cell c ok e _ y (p .0), settle-send e d v y l i (p .0) (p .1));
   }) x (s, a)) .1 n f du i p)
     where
       pass : (e f du : ℕ) {y : State} → (edge (c .graph) e .from ≡ v → ⊥) → Settled c y f du ⊎ Owed c v d e f du → Settled c y f du ⊎ Owed c v d (suc e) f du

@@ -1,13 +1,13 @@
 -- Signs: a signed number as its part above 0 and its part below, so that orders and sums are facts of natural
 -- numbers, which omega reads.
-use mathlib.Core.Path.{_≡_, refl}
+use mathlib.Core.Path.{_≡_, refl, sym, _∙_}
 use mathlib.Core.Bool.{Bool, true, false, cond}
 use Prim.Native.Nat.{ℕ, zero, suc, _+_, _-_, _≤_}
 use native.Mathlib.Omega.{arith}
-use lib.Dec.{ltb}
+use lib.Dec.{ltb, leb·zero, leb·suc-zero, leb·suc-suc}
 use borrow.Author.Tests.{ltb-true, ltb-false, leb-true, le-leb}
 use lib.IntN.{ℤ, pos, negsuc, negℤ, natAbs, _+ℤ_, subℕ}
-use lib.Signed.{leZ}
+use lib.Signed.{leZ, ltZ}
 use Rattle.text.proofs.Tests.{clash}
 
 unfoldable pub high : ℤ → ℕ
@@ -63,3 +63,10 @@ abs-neg (suc d) = refl
 -- deeper is lower
 pub deeper-le : (d k : ℕ) → d ≤ k → leZ (negℤ (pos k)) (negℤ (pos d)) ≡ true
 deeper-le d k h = parts-le (negℤ (pos k)) (negℤ (pos d)) (omega (arith, low-neg d, high-neg d, low-neg k, high-neg k))
+
+-- and strictly
+pub deeper-lt : (a b : ℕ) → ltZ (negℤ (pos a)) (negℤ (pos b)) ≡ ltb b a
+deeper-lt zero zero = refl
+deeper-lt zero (suc b) = sym (leb·suc-zero (suc b))
+deeper-lt (suc a) zero = sym (leb·suc-suc zero a ∙ leb·zero a)
+deeper-lt (suc a) (suc b) = sym (leb·suc-suc (suc b) a)

@@ -29,17 +29,17 @@ pub record Scans (c : Case) (v d : ℕ) (P : ℕ → State → Type 0) : Type 0 
   pub halt : (e : ℕ) (x : State) → (b : ℕ) → x .broken ≡ some b → P e x → P (suc e) x
   pub pass : (e : ℕ) (x : State) → (edge (c .graph) e .from ≡ v → ⊥) → P e x → P (suc e) x
   pub own : (e : ℕ) (x : State) → x .broken ≡ none → e < length (c .graph .edges) → edge (c .graph) e .from ≡ v → P e x → P (suc e) (relax c e (d + edge-depth (c .graph) e) x)
-  pub other : (e : ℕ) (x : State) → x .broken ≡ none → e < length (c .graph .edges) → edge (c .graph) e .from ≡ v → P e x → P (suc e) (send e (d + edge-depth (c .graph) e) x)
+  pub other : (e : ℕ) (x : State) → x .broken ≡ none → e < length (c .graph .edges) → edge (c .graph) e .from ≡ v → (owner c (edge (c .graph) e .to) ≡ owner c v → ⊥) → P e x → P (suc e) (send e (d + edge-depth (c .graph) e) x)
 
 scan-edge-keeps : (c : Case) (v d : ℕ) (P : ℕ → State → Type 0) → Scans c v d P → (e : ℕ) (x : State) → e < length (c .graph .edges) → P e x → P (suc e) (scan-edge c v d e x)
 unfolding scan-edge ended-lasso
-scan-edge-keeps c v d P s e x l p = go (x .broken) refl (eqb (edge (c .graph) e .from) v) refl (eqb (owner c (edge (c .graph) e .to)) (owner c v))
+scan-edge-keeps c v d P s e x l p = go (x .broken) refl (eqb (edge (c .graph) e .from) v) refl (eqb (owner c (edge (c .graph) e .to)) (owner c v)) refl
   where
-    go : (o : Option ℕ) → x .broken ≡ o → (a : Bool) → eqb (edge (c .graph) e .from) v ≡ a → (b : Bool) → P (suc e) (cond (is-some o || not a) x (cond b (relax c e (d + edge-depth (c .graph) e) x) (send e (d + edge-depth (c .graph) e) x)))
-    go (some k) h a q b = unfold is-some in (s .halt e x k h p)
-    go none h false q b = unfold is-some in (s .pass e x (eqb-false (edge (c .graph) e .from) v q) p)
-    go none h true q true = unfold is-some in (s .own e x h l (eqb-true (edge (c .graph) e .from) v q) p)
-    go none h true q false = unfold is-some in (s .other e x h l (eqb-true (edge (c .graph) e .from) v q) p)
+    go : (o : Option ℕ) → x .broken ≡ o → (a : Bool) → eqb (edge (c .graph) e .from) v ≡ a → (b : Bool) → eqb (owner c (edge (c .graph) e .to)) (owner c v) ≡ b → P (suc e) (cond (is-some o || not a) x (cond b (relax c e (d + edge-depth (c .graph) e) x) (send e (d + edge-depth (c .graph) e) x)))
+    go (some k) h a q b r = unfold is-some in (s .halt e x k h p)
+    go none h false q b r = unfold is-some in (s .pass e x (eqb-false (edge (c .graph) e .from) v q) p)
+    go none h true q true r = unfold is-some in (s .own e x h l (eqb-true (edge (c .graph) e .from) v q) p)
+    go none h true q false r = unfold is-some in (s .other e x h l (eqb-true (edge (c .graph) e .from) v q) (eqb-false (owner c (edge (c .graph) e .to)) (owner c v) r) p)
 
 scan-from-keeps : (c : Case) (v d : ℕ) (P : ℕ → State → Type 0) → Scans c v d P → (k e : ℕ) (x : State) → k + e ≡ length (c .graph .edges) → P e x → P (length (c .graph .edges)) (scan-from k e c v d x)
 unfolding scan-from

@@ -251,7 +251,7 @@ module _ (c : Case) (ok : Sound c) where
     halt = λ _ _ _ _ p. p;
     pass = λ _ _ _ p. p;
     own = λ e y b l i p. (trace-relax e (d + edge-depth (c .graph) e) y b l (offer e y i (p .1)) (p .0), after e y l (p .0) (p .1));
-    other = λ e y b l i p. (trace-send e (d + edge-depth (c .graph) e) y l (offer e y i (p .1)) (p .0), p .1);
+    other = λ e y b l i _ p. (trace-send e (d + edge-depth (c .graph) e) y l (offer e y i (p .1)) (p .0), p .1);
   }) x (r, (d, h, omega arith))) .0
     where
       offer : (e : ℕ) (y : State) → edge (c .graph) e .from ≡ v → (j : ℕ) × (getD (y .depths) v none ≡ some j) × (d ≤ j) → Offer (c .graph) (y .depths) e (d + edge-depth (c .graph) e)

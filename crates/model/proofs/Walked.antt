@@ -120,7 +120,7 @@ module _ (c : Case) (ok : Sound c) where
     halt = λ _ _ _ _ p. p;
     pass = λ _ _ _ p. p;
     own = λ e y b l i p. walked-relax e (d + edge-depth (c .graph) e) y b l (walk-on (c .graph) v d e w l i) p;
-    other = λ e y b l i p. walked-send e (d + edge-depth (c .graph) e) y l (walk-on (c .graph) v d e w l i) p;
+    other = λ e y b l i _ p. walked-send e (d + edge-depth (c .graph) e) y l (walk-on (c .graph) v d e w l i) p;
   }) x s
 
   pub walked-acts : Acts c (Walked c)

@@ -7,12 +7,12 @@ use mathlib.Core.Logic.{_⊎_}
 use mathlib.Core.Option.{Option, none, some}
 use Prim.Native.Nat.{ℕ, zero, suc, _+_, _^_, _≤_, _<_}
 use lib.ListN.{length, getD, set, take}
-use lib.IntN.{ℤ}
-use lib.Signed.{leZ}
-use Rattle.model.specs.Graph.{Graph, edge, edge-depth, walk-end, Reaches, is-lasso, Has-lasso, No-lasso, Has-walk, Distance, Fewest}
+use lib.IntN.{ℤ, pos, negℤ}
+use lib.Signed.{leZ, ltZ}
+use Rattle.model.specs.Graph.{Graph, edge, edge-depth, accepting-count, walk-end, Reaches, is-lasso, Has-lasso, No-lasso, Has-walk, Distance, Fewest}
 use Rattle.model.specs.Case.{Case, Sound, Within, owner, most-acts, least-output}
 use Rattle.model.specs.CaseFile.{accepted, case-in}
-use Rattle.model.specs.Run.{State, distance, is-some, ended-lasso, has-ended, with-queues, depth-or, scan-from, round-acts, by-list, by-rounds}
+use Rattle.model.specs.Run.{State, distance, is-some, ended-lasso, has-ended, fresh, with-queues, depth-or, scan-from, no-vertex, no-message, idle, does-something, act, acts-done, round-acts, by-list, by-rounds, Moment}
 use Rattle.model.specs.Answer.{cycle-start, cycle, stem, lasso-text, empty-text, lasso-verdict, empty-verdict, answer}
 use Rattle.model.specs.Passing.{answer-refusal, check-refusal, answer-verdict}
 use Rattle.model.specs.Entry.{List-says, Rounds-say, Check-says, list-refusal, verdict, zeros}
@@ -24,7 +24,7 @@ use Rattle.model.specs.declared.Checked.{Checked}
 -- a run of a case that has ended, by a list or by rounds
 pub record Ended (c : Case) (x : State) : Type 0 where
   pub ended : has-ended x ≡ true
-  pub run : ((xs : List ℕ) × (x ≡ by-list c xs)) ⊎ (x ≡ by-rounds c)
+  pub run : Moment c x ⊎ (x ≡ by-rounds c)
 
 -- demand 2, of an ended run: "says lasso exactly if a cycle through an accepting vertex can be reached from the
 -- source, and shows one; otherwise empty, with each reachable vertex's least walk length". The stem is the one that
@@ -51,10 +51,36 @@ pub record Runs-kept (c : Case) : Type 0 where
   pub rounds-end : has-ended (by-rounds c) ≡ true
   pub rounds-listed : (k : ℕ) → most-acts c ≤ k → by-rounds c ≡ by-list c (whole-rounds k c)
 
--- at every moment, ended or not: each distance and each waiting offer is the length of a real walk; further acts
+-- "A run ends as lasso as soon as a try, done whole, has left a distance below −A": a vertex whose distance is
+pub record Below-floor (c : Case) (x : State) : Type 0 where
+  pub vertex : ℕ
+  pub depth : ℕ
+  pub at : getD (x .depths) vertex none ≡ some depth
+  pub below : ltZ (distance depth) (negℤ (pos (accepting-count (c .graph)))) ≡ true
+
+-- "It ends as empty when, after a whole act, all queues and cells are empty"
+pub record Nothing-waits (x : State) : Type 0 where
+  pub queues : no-vertex (x .queues) ≡ true
+  pub cells : no-message (x .cells) ≡ true
+
+-- the act rules, in their own words, at a moment x of a run: "idle: it changes nothing and isn't counted"; when a run
+-- has ended; "an edge that has no cell", within one owner, never has a message
+pub record Rules-kept (c : Case) (x : State) : Type 0 where
+  pub idle-changes-nothing : (a : ℕ) → idle c a x ≡ true → act c a x ≡ x
+  pub not-done-after-end : (a : ℕ) → has-ended x ≡ true → act c a x ≡ x
+  pub counted-once : (a : ℕ) → does-something c a x ≡ true → act c a x .count ≡ suc (x .count)
+  pub lasso-only : ended-lasso x ≡ true → Below-floor c x
+  pub lasso-always : Below-floor c x → ended-lasso x ≡ true
+  pub empty-only : x .ended-empty ≡ true → (1 ≤ x .count) × Nothing-waits x
+  pub empty-always : Nothing-waits x → has-ended x ≡ true
+  pub no-cell : (e : ℕ) → owner c (edge (c .graph) e .to) ≡ owner c (edge (c .graph) e .from) → getD (x .cells) e none ≡ none
+
+-- at every moment, ended or not: the act rules hold, and the acts counted are those that did something; each distance and each waiting offer is the length of a real walk; further acts
 -- never raise a distance; an offer that joins a waiting message is always the lower of the two, so "the lower
 -- remains" and "the newer remains" agree
 pub record Moments-kept (c : Case) : Type 0 where
+  pub rules : (x : State) → Moment c x → Rules-kept c x
+  pub counts : (xs : List ℕ) → by-list c xs .count ≡ acts-done c xs (fresh c)
   pub real-distances : (xs : List ℕ) (v d : ℕ) → getD (by-list c xs .depths) v none ≡ some d → Has-walk (c .graph) v (distance d)
   pub real-offers : (xs : List ℕ) (e o : ℕ) → getD (by-list c xs .cells) e none ≡ some o → Has-walk (c .graph) (edge (c .graph) e .to) (distance o)
   pub never-raised :

@@ -1,5 +1,6 @@
 -- "The acts": the state of a run, turns, scans, deliveries, lists and rounds. A distance is never above 0 and is kept
 -- as its depth, how far it is below; so a lower offer is a deeper one. Assumes nothing: these are definitions.
+use mathlib.Core.Path.{_≡_}
 use mathlib.Core.Bool.{Bool, true, false, _&&_, _||_, not, cond}
 use mathlib.Core.List.{List, [], _∷_, _++_}
 use mathlib.Core.Option.{Option, none, some}
@@ -167,10 +168,23 @@ delivery c e x = delivery-of c e (getD (x .cells) e none) x
 unfoldable pub act : Case → (a : ℕ) → State → State
 act c a x = cond (has-ended x) x (cond (ltb a (c .workers)) (turn c a x) (delivery c (a - c .workers) x))
 
+-- IDLE: "a turn with an empty queue, a delivery from an empty cell or one on an edge that has no cell"
+unfoldable pub idle : Case → (a : ℕ) → State → Bool
+idle c a x = cond (ltb a (c .workers)) (eqb (length (getD (x .queues) a [])) 0) (not (is-some (getD (x .cells) (a - c .workers) none)))
+
+-- "An act does something if it is done and not idle"
+unfoldable pub does-something : Case → (a : ℕ) → State → Bool
+does-something c a x = not (has-ended x) && not (idle c a x)
+
 -- "Each act gets the distances, parents, queues and cells that the one before it left"
 unfoldable pub acted : Case → (acts : List ℕ) → State → State
 acted c [] x = x
 acted c (a ∷ more) x = acted c more (act c a x)
+
+-- "the acts counted are these": how many acts of a list do something
+unfoldable pub acts-done : Case → (acts : List ℕ) → State → ℕ
+acts-done c [] x = 0
+acts-done c (a ∷ more) x = let k = acts-done c more (act c a x) in cond (does-something c a x) (suc k) k
 
 -- ROUNDS. "A round is every turn by worker number, then every delivery by edge number": the acts 0 to P + m − 1
 unfoldable pub range : (left i : ℕ) → List ℕ
@@ -192,3 +206,8 @@ by-list c xs = acted c xs (fresh c)
 
 unfoldable pub by-rounds : Case → State
 by-rounds c = rounds (most-acts c) c (fresh c)
+
+-- a moment of a run: the state after some list of acts
+pub record Moment (c : Case) (x : State) : Type 0 where
+  pub acts : List ℕ
+  pub is : x ≡ by-list c acts

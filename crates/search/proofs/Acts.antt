@@ -14,11 +14,13 @@ use lib.Seq.{drop-cons}
 use lib.IntN.{ℤ, pos}
 use lib.Signed.{ltZ}
 use Rattle.model.specs.Case.{Case, most-vertices, most-edges, Sound, Within}
-use Rattle.model.specs.Run.{State, is-some, ended-lasso, has-ended, with-queues, with-cells, relax, scan, no-vertex, no-message, counted, depth-or, turn-of, turn, delivery-of, delivery, act, acted}
+use Rattle.model.specs.Run.{State, is-some, ended-lasso, has-ended, with-queues, with-cells, relax, scan, no-vertex, no-message, counted, depth-or, turn-of, turn, delivery-of, delivery, act, acted, Moment}
 use Rattle.model.proofs.Steps.{act-keeps}
 use Rattle.model.proofs.Shapes.{head-depth}
 use Rattle.model.proofs.Fits.{accepting-few}
-use Rattle.model.proofs.Few.{Paid, few, paid-acts}
+use Rattle.model.proofs.Few.{few}
+use Rattle.model.proofs.Findings.{moment-known}
+use Rattle.model.proofs.ActRules.{moment-act}
 use Rattle.model.proofs.Bounds.{most-acts-within}
 use Rattle.search.specs.declared.run.Run.{Run}
 use Rattle.search.specs.Cells.{far, more, message-at}
@@ -28,8 +30,8 @@ use Rattle.search.proofs.Stores.{held-cell}
 use Rattle.search.proofs.Numbers.{tally-set}
 
 -- COUNTS fit 32 bits
-pub count-small : (c : Case) (x : State) → Sound c → Within c → Paid c x → x .count < 2 ^ 32 - 1
-count-small c x ok l p = omega (arith, few c ok x p .0, most-acts-within c most-vertices most-edges ok (l .vertices) (l .edges))
+pub count-small : (c : Case) (x : State) → Sound c → Within c → Moment c x → x .count < 2 ^ 32 - 1
+count-small c x ok l m = omega (arith, few c ok x (moment-known c ok x m .paid) .0, most-acts-within c most-vertices most-edges ok (l .vertices) (l .edges))
 
 -- NOTHING WAITS where the counters are 0
 no-vertex-is : (qs : List (List ℕ)) → eqb (tally busy qs) 0 ≡ no-vertex qs
@@ -165,9 +167,10 @@ unfolding act
 act-delivery c a p x h w l = let k : c .workers ≤ a = omega arith in rw (w, h, le-ltb a (c .workers) k)
 
 -- the depth that a scan reads is not below the floor
-pub depth-low : (c : Case) (x : State) (p v : ℕ) (q : List ℕ) → Sound c → Within c → Paid c x → x .broken ≡ none → getD (x .queues) p [] ≡ v ∷ q → depth-or (getD (x .depths) v none) ≤ most-vertices
-depth-low c x p v q ok l paid whole e =
-    omega (arith, paid .shape .above whole v (depth-or (getD (x .depths) v none)) (head-depth c ok p v q x (paid .shape) e), accepting-few c ok, l .vertices)
+pub depth-low : (c : Case) (x : State) (p v : ℕ) (q : List ℕ) → Sound c → Within c → Moment c x → x .broken ≡ none → getD (x .queues) p [] ≡ v ∷ q → depth-or (getD (x .depths) v none) ≤ most-vertices
+depth-low c x p v q ok l m whole e =
+    let s = moment-known c ok x m .paid .shape in
+    omega (arith, s .above whole v (depth-or (getD (x .depths) v none)) (head-depth c ok p v q x s e), accepting-few c ok, l .vertices)
 
 pub turn-none : (c : Case) (x : State) (p : ℕ) → getD (x .queues) p [] ≡ [] → turn c p x ≡ x
 unfolding turn turn-of
@@ -185,19 +188,19 @@ acted-none c x = refl
 pub record Onward (c : Case) (x : State) (acts : List ℕ) (i : ℕ) (k : Run) (w : List ℤ) : Type 0 where
   pub at : State
   pub rep : Rep c at k w
-  pub paid : Paid c at
+  pub moment : Moment c at
   pub rest : acted c (drop i acts) at ≡ acted c acts x
 
 module _ (c : Case) (x : State) (acts : List ℕ) where
-  pub onward-start : (k : Run) (w : List ℤ) → Rep c x k w → Paid c x → Onward c x acts 0 k w
-  onward-start k w rep p = record { at = x; rep = rep; paid = p; rest = refl }
+  pub onward-start : (k : Run) (w : List ℤ) → Rep c x k w → Moment c x → Onward c x acts 0 k w
+  onward-start k w rep p = record { at = x; rep = rep; moment = p; rest = refl }
 
   pub onward-step : (i : ℕ) (k k′ : Run) (w w′ : List ℤ) → (u : Onward c x acts i k w) → i < length acts → Rep c (act c (getD acts i 0) (u .at)) k′ w′ → Onward c x acts (i + 1) k′ w′
   onward-step i k k′ w w′ u h rep =
       record {
         at = act c (getD acts i 0) (u .at);
         rep = rep;
-        paid = act-keeps c (Paid c) (paid-acts c (rep .held .laid .sound)) (getD acts i 0) (u .at) (u .paid);
+        moment = moment-act c (getD acts i 0) (u .at) (u .moment);
         rest = rw (add-one i) (sym (acted-step c (getD acts i 0) (drop (suc i) acts) (u .at)) ∙ (rw (drop-cons acts i 0 h) at (u .rest)));
       }
 

@@ -12,7 +12,6 @@ use Rattle.model.specs.Case.{Case, least-output}
 use Rattle.model.specs.Run.{State, is-some, ended-lasso, has-ended}
 use Rattle.model.specs.Answer.{stem, cycle, cycle-start, lasso-text, empty-text, answer-of, answer}
 use Rattle.model.specs.Entry.{verdict, zeros, Run-says}
-use Rattle.model.proofs.Findings.{stem-few}
 use Rattle.model.proofs.Fits.{cycle-few, answer-fits}
 use Rattle.search.specs.Cells.{more, cycle-at, cells-end}
 use Rattle.search.specs.Rep.{Rep}
@@ -22,6 +21,7 @@ use Rattle.search.specs.Show.{Lies, Broke, Showable, Shows, Lasso-there,
 use Rattle.search.specs.Writing.{Edges-at, Distances-at, Lasso-asks, Lasso-says, Empty-says, Answers}
 use Rattle.search.specs.Finish.{Gone, Lasso-done, Answer-done, Finish-says, verdict-of}
 use Rattle.search.specs.declared.run.Run.{Run}
+use Rattle.model.proofs.Findings.{Known, moment-known, stem-few}
 use Rattle.search.proofs.Acts.{over-is}
 use Rattle.search.proofs.Cycles.{run-broke, run-real}
 
@@ -42,21 +42,24 @@ module _ {c : Case} {x : State} {k : Run} {w : List ℤ} (r : Rep c x k w) where
   broken-none z = more-none (x .broken) (k .broken) (r .counted .broke) z
 
 module _ {c : Case} {x : State} {k : Run} {n s : ℕ} {w : List ℤ} {o : List ℕ} (g : Gone c x k n s w o) where
+  known : Known c x
+  known = moment-known c (g .rep .held .laid .sound) x (g .moment)
+
   pub lies : Lies c (x .parents) w
-  lies = record { laid = g .rep .held .laid; parents = g .rep .held .parents .region; sized = g .rep .held .parents .sized; real = run-real c x (g .known .trace) }
+  lies = record { laid = g .rep .held .laid; parents = g .rep .held .parents .region; sized = g .rep .held .parents .sized; real = run-real c x (known .trace) }
 
   pub broke : (b : ℕ) → x .broken ≡ some b → Broke c (x .parents) b
-  broke b h = run-broke c x (g .known .trace) (g .known .tale .walked) b h
+  broke b h = run-broke c x (known .trace) (known .tale .walked) b h
 
   pub showable : (b : ℕ) → x .broken ≡ some b → Showable b s n w
   showable b h = record { case = c; parents = x .parents; lies = lies; broke = broke b h; source-is = g .start; vertices = g .vertices }
 
   fits : (q : Option ℕ) → x .broken ≡ q → length (answer-of (c .graph) q (x .parents) (x .depths)) ≤ length o
-  fits q h = let l = g .rep .held .laid in omega (arith, answer-fits c (l .sound) (l .within) x (g .known) q h, g .room)
+  fits q h = let l = g .rep .held .laid in omega (arith, answer-fits c (l .sound) (l .within) x (known) q h, g .room)
 
   pub fits-least : length (answer (c .graph) x) ≤ least-output
   unfolding answer
-  fits-least = let l = g .rep .held .laid in answer-fits c (l .sound) (l .within) x (g .known) (x .broken) refl
+  fits-least = let l = g .rep .held .laid in answer-fits c (l .sound) (l .within) x (known) (x .broken) refl
 
   answer-is : (q : Option ℕ) → x .broken ≡ q → answer-of (c .graph) q (x .parents) (x .depths) ≡ answer (c .graph) x
   unfolding answer
@@ -76,7 +79,7 @@ module _ {c : Case} {x : State} {k : Run} {n s : ℕ} {w : List ℤ} {o : List �
         record {
           stem-edges = written-at (t .stem) (omega arith);
           cycle-edges = written-at (t .cycle) (omega arith);
-          stem-short = omega (arith, stem-few c (ok .sound) x (g .known) b h, ok .within .vertices);
+          stem-short = omega (arith, stem-few c (ok .sound) x (known) b h, ok .within .vertices);
           cycle-short = omega (arith, cycle-few (c .graph) (x .parents) b, ok .within .vertices);
         }
 

@@ -18,10 +18,7 @@ use Rattle.model.specs.Run.{State, fresh, has-ended, by-list, by-rounds}
 use Rattle.model.specs.Entry.{buffer-refusal, any-at-or-above, acts-refusal, list-refusal, rounds-refusal, zeros, Run-says, List-says, Rounds-say}
 use Rattle.model.specs.Promise.{whole-rounds}
 use Rattle.model.specs.declared.Outcome.{Outcome}
-use Rattle.model.proofs.Few.{fresh-paid, paid}
-use Rattle.model.proofs.Settled.{tale}
-use Rattle.model.proofs.Trace.{trace}
-use Rattle.model.proofs.Findings.{Known}
+use Rattle.model.proofs.ActRules.{moment-fresh}
 use Rattle.model.proofs.Kept.{runs-kept}
 use Rattle.casefile.specs.Judging.{header, judged}
 use Rattle.casefile.specs.declared.Case.{Case}
@@ -226,20 +223,17 @@ module _ (s xs : List ℕ) (c : Case) (marks : ℕ) (w w₁ : List ℤ) (l : Cas
     rounds-asks = record { case = case-in s; rep = begun; workers = workers; vertices = vertices; edges = edges }
 
     pub list-asks : List-asks (c .workers) xs k₂ w₂
-    list-asks = record { case = case-in s; state = fresh (case-in s); rep = begun; paid = fresh-paid (case-in s) ok; workers = workers; below = λ i h. rw (← edges) (all-below (c .workers + c .edges) xs (l .in-range) i h) }
+    list-asks = record { case = case-in s; state = fresh (case-in s); rep = begun; moment = moment-fresh (case-in s); workers = workers; below = λ i h. rw (← edges) (all-below (c .workers + c .edges) xs (l .in-range) i h) }
 
     module _ (k₃ : Run) (w₃ : List ℤ) (o : List ℕ) (enough : (ltb (length o) least-output || ltb (length w) least-work) ≡ false) where
       list-gone : List-done (c .workers) xs k₂ k₃ w₂ w₃ → Gone (case-in s) (by-list (case-in s) xs) k₃ (c .vertices) (c .source) w₃ o
-      list-gone d = record { rep = rep; known = known; vertices = vertices; start = source; room = buffers-enough (length o) (length w) enough .0 }
+      list-gone d = record { rep = rep; moment = record { acts = xs; is = refl }; vertices = vertices; start = source; room = buffers-enough (length o) (length w) enough .0 }
         where
           rep : Rep (case-in s) (by-list (case-in s) xs) k₃ w₃
-          rep = unfold List-done by-list in (d (case-in s) (fresh (case-in s)) begun (fresh-paid (case-in s) ok) workers (λ i h. rw (← edges) (all-below (c .workers + c .edges) xs (l .in-range) i h)))
-
-          known : Known (case-in s) (by-list (case-in s) xs)
-          known = record { paid = paid (case-in s) ok xs; tale = tale (case-in s) ok xs; trace = trace (case-in s) ok xs }
+          rep = unfold List-done by-list in (d (case-in s) (fresh (case-in s)) begun (moment-fresh (case-in s)) workers (λ i h. rw (← edges) (all-below (c .workers + c .edges) xs (l .in-range) i h)))
 
       rounds-gone : By-rounds-says (c .workers) (c .vertices) (c .edges) k₂ k₃ w₂ w₃ → Gone (case-in s) (by-rounds (case-in s)) k₃ (c .vertices) (c .source) w₃ o
-      rounds-gone d = record { rep = rep; known = subst (λ (y : State). Known (case-in s) y) (sym listed) known; vertices = vertices; start = source; room = buffers-enough (length o) (length w) enough .0 }
+      rounds-gone d = record { rep = rep; moment = record { acts = acts; is = listed }; vertices = vertices; start = source; room = buffers-enough (length o) (length w) enough .0 }
         where
           rep : Rep (case-in s) (by-rounds (case-in s)) k₃ w₃
           rep = unfold By-rounds-says in (d (case-in s) begun workers vertices edges)
@@ -249,9 +243,6 @@ module _ (s xs : List ℕ) (c : Case) (marks : ℕ) (w w₁ : List ℤ) (l : Cas
 
           listed : by-rounds (case-in s) ≡ by-list (case-in s) acts
           listed = runs-kept (case-in s) ok .rounds-listed (most-acts (case-in s)) (omega arith)
-
-          known : Known (case-in s) (by-list (case-in s) acts)
-          known = record { paid = paid (case-in s) ok acts; tale = tale (case-in s) ok acts; trace = trace (case-in s) ok acts }
 
       pub list-finish : List-done (c .workers) xs k₂ k₃ w₂ w₃ → Answer-asks k₃ (c .vertices) (c .source) w₃ o
       list-finish d = record { case = case-in s; state = by-list (case-in s) xs; gone = list-gone d }

@@ -13,11 +13,14 @@ use lib.Seq.{getD-set-same, getD-set-other, getD-take, length-take-le}
 use lib.IntN.{ℤ}
 use Rattle.model.specs.Graph.{Graph, edge, edge-depth, accepting-count}
 use Rattle.model.specs.Case.{Case, owner, most-acts, Sound}
-use Rattle.model.specs.Run.{State, has-ended, fresh, with-queues, with-cells, scan, no-message, depth-or, delivery, act, acted, range, round-acts, rounds, by-rounds}
+use Rattle.model.specs.Run.{State, has-ended, fresh, with-queues, with-cells, scan, no-message, depth-or, delivery, act, acted, range, round-acts, rounds, by-rounds, Moment}
 use Rattle.text.proofs.Tests.{clash}
 use Rattle.model.proofs.Tools.{member-first, some-not-none, getD-out, getD-replicate-same, no-cell, no-cells}
 use Rattle.model.proofs.Steps.{scan-keeps, act-keeps, acted-keeps}
-use Rattle.model.proofs.Few.{Paid, paid-acts, relax-cells}
+use Rattle.model.proofs.Few.{relax-cells}
+use Rattle.model.proofs.Shapes.{Shape}
+use Rattle.model.proofs.Findings.{moment-known}
+use Rattle.model.proofs.ActRules.{moment-act, moment-acted}
 use Rattle.model.proofs.Rounds.{act-over, acted-over}
 use Rattle.search.specs.declared.run.Run.{Run}
 use Rattle.search.specs.Rep.{Firsts, Rep, link}
@@ -46,12 +49,12 @@ split-range c (suc a) b i x =
 pub record Along (c : Case) (x : State) (s t i : ℕ) (k : Run) (w : List ℤ) : Type 0 where
   pub at : State
   pub rep : Rep c at k w
-  pub paid : Paid c at
+  pub moment : Moment c at
   pub rest : acted c (range (t - i) i) at ≡ acted c (range (t - s) s) x
 
 module _ (c : Case) (x : State) (s t : ℕ) where
-  pub along-start : (k : Run) (w : List ℤ) → Rep c x k w → Paid c x → Along c x s t s k w
-  along-start k w rep p = record { at = x; rep = rep; paid = p; rest = refl }
+  pub along-start : (k : Run) (w : List ℤ) → Rep c x k w → Moment c x → Along c x s t s k w
+  along-start k w rep p = record { at = x; rep = rep; moment = p; rest = refl }
 
   pub along-step : (i : ℕ) (k k′ : Run) (w w′ : List ℤ) → (u : Along c x s t i k w) → i < t → Rep c (act c i (u .at)) k′ w′ → Along c x s t (i + 1) k′ w′
   along-step i k k′ w w′ u h rep =
@@ -59,7 +62,7 @@ module _ (c : Case) (x : State) (s t : ℕ) where
       record {
         at = act c i (u .at);
         rep = rep;
-        paid = act-keeps c (Paid c) (paid-acts c (rep .held .laid .sound)) i (u .at) (u .paid);
+        moment = moment-act c i (u .at) (u .moment);
         rest = rw (add-one i) (sym (step-range c (t - suc i) i (u .at)) ∙ (rw (j, add-one i) at (u .rest)));
       }
 
@@ -142,32 +145,29 @@ module _ (c : Case) (e : ℕ) (y : State) (l : e < length (y .cells)) where
       go false o (inr n) = sym (others-kept f n) ∙ subst (λ (z : State). getD (z .cells) f none ≡ some d) (delivered o) h
 
 module _ (c : Case) (ok : Sound c) where
-  paid-act : (a : ℕ) (y : State) → Paid c y → Paid c (act c a y)
-  paid-act a y p = act-keeps c (Paid c) (paid-acts c ok) a y p
+  cells-many : (y : State) → Moment c y → length (y .cells) ≡ length (c .graph .edges)
+  cells-many y m = moment-known c ok y m .paid .shape .cells
 
-  pub paid-acted : (xs : List ℕ) (y : State) → Paid c y → Paid c (acted c xs y)
-  paid-acted xs y p = acted-keeps c (Paid c) (paid-acts c ok) xs y p
-
-  acts-left : (k e : ℕ) (y : State) → Paid c y → e + k ≤ length (c .graph .edges) → (f d : ℕ)
+  acts-left : (k e : ℕ) (y : State) → Moment c y → e + k ≤ length (c .graph .edges) → (f d : ℕ)
       → getD (acted c (range k (c .workers + e)) y .cells) f none ≡ some d → getD (y .cells) f none ≡ some d
   acts-left zero e y p h f d g = subst (λ (z : State). getD (z .cells) f none ≡ some d) (none-range c (c .workers + e) y) g
   acts-left (suc k) e y p h f d g =
-      let l : e < length (y .cells) = omega (arith, p .shape .cells) in
+      let l : e < length (y .cells) = omega (arith, cells-many y p) in
       act-left c e y l f d
-      (acts-left k (suc e) (act c (c .workers + e) y) (paid-act (c .workers + e) y p) (omega arith) f d
+      (acts-left k (suc e) (act c (c .workers + e) y) (moment-act c (c .workers + e) y p) (omega arith) f d
       (subst (λ (z : State). getD (z .cells) f none ≡ some d) (next-delivery c k e y) g))
 
   -- all deliveries empty all cells, unless the run ends
-  clears : (k e : ℕ) (y : State) → Paid c y → e + k ≡ length (c .graph .edges) → ((f : ℕ) → f < e → getD (y .cells) f none ≡ none)
+  clears : (k e : ℕ) (y : State) → Moment c y → e + k ≡ length (c .graph .edges) → ((f : ℕ) → f < e → getD (y .cells) f none ≡ none)
       → has-ended (acted c (range k (c .workers + e)) y) ≡ false → (f : ℕ) → getD (acted c (range k (c .workers + e)) y .cells) f none ≡ none
   clears zero e y p h g o f = ap (λ (z : State). getD (z .cells) f none) (none-range c (c .workers + e) y) ∙ go (below-or f e)
     where
       go : (f < e) ⊎ (e ≤ f) → getD (y .cells) f none ≡ none
       go (inl l) = g f l
-      go (inr l) = getD-out (y .cells) f none (omega (arith, p .shape .cells))
+      go (inr l) = getD-out (y .cells) f none (omega (arith, cells-many y p))
   clears (suc k) e y p h g o f =
       go (has-ended y) refl
-      (λ b. clears k (suc e) (act c (c .workers + e) y) (paid-act (c .workers + e) y p) (omega arith) (λ i l. below b i (same-or i e) l (omega (arith, p .shape .cells))) (ap has-ended (sym (next-delivery c k e y)) ∙ o) f)
+      (λ b. clears k (suc e) (act c (c .workers + e) y) (moment-act c (c .workers + e) y p) (omega arith) (λ i l. below b i (same-or i e) l (omega (arith, cells-many y p))) (ap has-ended (sym (next-delivery c k e y)) ∙ o) f)
     where
       below : has-ended y ≡ false → (i : ℕ) → (i ≡ e) ⊎ (i ≡ e → ⊥) → i < suc e → e < length (y .cells) → getD (act c (c .workers + e) y .cells) i none ≡ none
       below b i (inl q) l m = ap (λ (z : State). getD (z .cells) i none) (delivered c e y m b) ∙ rw q (emptied c e y m)
@@ -182,7 +182,7 @@ module _ (c : Case) (ok : Sound c) where
   unfolding round-acts
   round-is x = split-range c (c .workers) (length (c .graph .edges)) 0 x ∙ rw (zero-add (c .workers))
 
-  pub round-clears : (x : State) → Paid c x → has-ended (acted c (round-acts c) x) ≡ false → no-message (acted c (round-acts c) x .cells) ≡ true
+  pub round-clears : (x : State) → Moment c x → has-ended (acted c (round-acts c) x) ≡ false → no-message (acted c (round-acts c) x .cells) ≡ true
   round-clears x p o =
       let m = length (c .graph .edges) in
       let y = acted c (range (c .workers) 0) x in
@@ -190,7 +190,7 @@ module _ (c : Case) (ok : Sound c) where
       no-cells (acted c (round-acts c) x .cells)
       (λ f.
       ap (λ (z : State). getD (z .cells) f none) e
-      ∙ clears m 0 y (paid-acted (range (c .workers) 0) x p) (zero-add m) (λ i l. absurd (omega arith)) (ap has-ended (sym e) ∙ o) f)
+      ∙ clears m 0 y (moment-acted c (range (c .workers) 0) x p) (zero-add m) (λ i l. absurd (omega arith)) (ap has-ended (sym e) ∙ o) f)
 
 -- TURNS
 scan-leaves : (c : Case) (v d : ℕ) (z : State) (f : ℕ) → (edge (c .graph) f .from ≡ v → ⊥) → getD (scan c v d z .cells) f none ≡ getD (z .cells) f none
@@ -200,7 +200,7 @@ scan-leaves c v d z f n =
       halt = λ _ _ _ _ p. p;
       pass = λ _ _ _ p. p;
       own = λ e u _ _ _ p. ap (λ (os : List (Option ℕ)). getD os f none) (relax-cells c e (d + edge-depth (c .graph) e) u) ∙ p;
-      other = λ e u _ _ i p. getD-set-other (u .cells) e f _ none (λ q. n (rw q i)) ∙ p;
+      other = λ e u _ _ i _ p. getD-set-other (u .cells) e f _ none (λ q. n (rw q i)) ∙ p;
     })
     z refl
 
@@ -245,10 +245,10 @@ pub record Turning (c : Case) (x : State) (p : ℕ) (H : List ℕ) (scanned w : 
   pub only : Only c H scanned (along .at)
 
 module _ (c : Case) (x : State) (p : ℕ) (e : p ≡ c .workers) where
-  pub turns-start : (H : List ℕ) (k : Run) (cells : List ℤ) → Rep c x k cells → Paid c x → no-message (x .cells) ≡ true → Turning c x p H 0 0 k cells
-  turns-start H k cells rep paid i =
+  pub turns-start : (H : List ℕ) (k : Run) (cells : List ℤ) → Rep c x k cells → Moment c x → no-message (x .cells) ≡ true → Turning c x p H 0 0 k cells
+  turns-start H k cells rep m i =
       record {
-        along = record { at = x; rep = rep; paid = paid; rest = refl };
+        along = record { at = x; rep = rep; moment = m; rest = refl };
         listed = record { rising = λ i j l m. absurd (omega arith); low = λ j m. absurd (omega arith); high = λ j m. absurd (omega arith) };
         theirs = λ j m. absurd (omega arith);
         only = only-none c H x i;
@@ -339,7 +339,7 @@ edges-rep c x k w p a b a′ b′ e q r rep =
 pub record Swept (c : Case) (x : State) (F H : List ℕ) (i : ℕ) (k : Run) (w : List ℤ) : Type 0 where
   pub state : State
   pub rep : Rep c state k w
-  pub paid : Paid c state
+  pub moment : Moment c state
   pub only : Only c H (length H) state
   pub at : ℕ
   pub two : 2 ≤ at
@@ -349,7 +349,7 @@ pub record Swept (c : Case) (x : State) (F H : List ℕ) (i : ℕ) (k : Run) (w 
   pub rest : acted c (range (length (c .graph .edges) - getD F (at - 2) 0) (c .workers + getD F (at - 2) 0)) state ≡ acted c (range (length (c .graph .edges)) (c .workers)) x
 
 module _ (c : Case) (ok : Sound c) (F H : List ℕ) (f : Firsts (c .graph) F) (l : Listed (c .graph .vertices) H (length H)) where
-  only-left : (k e : ℕ) (y : State) → Paid c y → e + k ≤ length (c .graph .edges) → Only c H (length H) y → Only c H (length H) (acted c (range k (c .workers + e)) y)
+  only-left : (k e : ℕ) (y : State) → Moment c y → e + k ≤ length (c .graph .edges) → Only c H (length H) y → Only c H (length H) (acted c (range k (c .workers + e)) y)
   unfolding Only
   only-left k e y p h only i d g = only i d (acts-left c ok k e y p h i d g)
 
@@ -360,7 +360,7 @@ module _ (c : Case) (ok : Sound c) (F H : List ℕ) (f : Firsts (c .graph) F) (l
       go (inl b) = absurd (omega (arith, f .before 0 0 (omega arith) b))
       go (inr b) = omega arith
 
-  pub sweep-start : (x : State) (k : Run) (w : List ℤ) → Rep c x k w → Paid c x → Only c H (length H) x → Swept c x F H 0 k w
+  pub sweep-start : (x : State) (k : Run) (w : List ℤ) → Rep c x k w → Moment c x → Only c H (length H) x → Swept c x F H 0 k w
   sweep-start x k w rep p only =
       let m = length (c .graph .edges) in
       let i : 2 - 2 ≡ 0 = omega arith in
@@ -368,7 +368,7 @@ module _ (c : Case) (ok : Sound c) (F H : List ℕ) (f : Firsts (c .graph) F) (l
       record {
         state = x;
         rep = rep;
-        paid = p;
+        moment = p;
         only = only;
         at = 2;
         two = omega arith;
@@ -429,8 +429,8 @@ module _ (c : Case) (ok : Sound c) (F H : List ℕ) (f : Firsts (c .graph) F) (l
         record {
           state = y;
           rep = rep;
-          paid = paid-acted c ok (range (b - a) (c .workers + a)) (s .state) (s .paid);
-          only = only-left (b - a) a (s .state) (s .paid) (omega arith) (s .only);
+          moment = moment-acted c (range (b - a) (c .workers + a)) (s .state) (s .moment);
+          only = only-left (b - a) a (s .state) (s .moment) (omega arith) (s .only);
           at = getD H i 0 + 1;
           two = omega arith;
           top = omega (arith, l .high i h);
@@ -487,13 +487,13 @@ rounds-none c x = refl
 pub record Left (c : Case) (x : State) (many left : ℕ) (k : Run) (w : List ℤ) : Type 0 where
   pub at : State
   pub rep : Rep c at k w
-  pub paid : Paid c at
+  pub moment : Moment c at
   pub empty : has-ended at ≡ false → no-message (at .cells) ≡ true
   pub rest : rounds left c at ≡ rounds many c x
 
 module _ (c : Case) (x : State) (many : ℕ) where
-  pub left-start : (k : Run) (w : List ℤ) → Rep c x k w → Paid c x → no-message (x .cells) ≡ true → Left c x many many k w
-  left-start k w rep p e = record { at = x; rep = rep; paid = p; empty = λ _. e; rest = refl }
+  pub left-start : (k : Run) (w : List ℤ) → Rep c x k w → Moment c x → no-message (x .cells) ≡ true → Left c x many many k w
+  left-start k w rep p e = record { at = x; rep = rep; moment = p; empty = λ _. e; rest = refl }
 
   pub left-step : (left : ℕ) (k k′ : Run) (w w′ : List ℤ) → (u : Left c x many left k w) → 0 < left → has-ended (u .at) ≡ false → Rep c (acted c (round-acts c) (u .at)) k′ w′ → Left c x many (left - 1) k′ w′
   left-step left k k′ w w′ u h o rep =
@@ -502,8 +502,8 @@ module _ (c : Case) (x : State) (many : ℕ) where
       record {
         at = acted c (round-acts c) (u .at);
         rep = rep;
-        paid = paid-acted c ok (round-acts c) (u .at) (u .paid);
-        empty = round-clears c ok (u .at) (u .paid);
+        moment = moment-acted c (round-acts c) (u .at) (u .moment);
+        empty = round-clears c ok (u .at) (u .moment);
         rest = sym (rounds-step (left - 1) c (u .at) o) ∙ ap (λ (j : ℕ). rounds j c (u .at)) (sym i) ∙ u .rest;
       }
 

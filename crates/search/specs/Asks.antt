@@ -9,8 +9,7 @@ use lib.ListN.{length, getD, set}
 use lib.IntN.{ℤ, pos, negℤ}
 use Rattle.model.specs.Graph.{edge, edge-depth, accepting-count}
 use Rattle.model.specs.Case.{Case, owner, most-vertices}
-use Rattle.model.specs.Run.{State, fresh, with-queues, enqueue, send, relax, scan-edge, scan, no-message, turn, delivery, act, acted, range, round-acts, rounds, by-rounds}
-use Rattle.model.proofs.Few.{Paid}
+use Rattle.model.specs.Run.{State, fresh, with-queues, enqueue, send, relax, scan-edge, scan, no-message, turn, delivery, act, acted, range, round-acts, rounds, by-rounds, Moment}
 use Rattle.search.specs.declared.run.Run.{Run}
 use Rattle.search.specs.declared.rounds.Turned.{Turned}
 use Rattle.search.specs.Rep.{Firsts, Laid, Rep}
@@ -93,18 +92,18 @@ pub record Turn-asks (p : ℕ) (k : Run) (w : List ℤ) : Type 0 where
   pub case : Case
   pub state : State
   pub rep : Rep case state k w
-  pub paid : Paid case state
+  pub moment : Moment case state
   pub whole : state .broken ≡ none
   pub worker : p < case .workers
 
 unfoldable pub Turn-says : (p : ℕ) → (k k′ : Run) → (w w′ : List ℤ) → Type 0
-Turn-says p k k′ w w′ = (c : Case) (x : State) → Rep c x k w → Paid c x → x .broken ≡ none → p < c .workers → Rep c (turn c p x) k′ w′
+Turn-says p k k′ w w′ = (c : Case) (x : State) → Rep c x k w → Moment c x → x .broken ≡ none → p < c .workers → Rep c (turn c p x) k′ w′
 
 pub record Deliver-asks (e : ℕ) (k : Run) (w : List ℤ) : Type 0 where
   pub case : Case
   pub state : State
   pub rep : Rep case state k w
-  pub paid : Paid case state
+  pub moment : Moment case state
   pub whole : state .broken ≡ none
   pub below : e < length (case .graph .edges)
 
@@ -115,13 +114,13 @@ pub record Act-asks (a p : ℕ) (k : Run) (w : List ℤ) : Type 0 where
   pub case : Case
   pub state : State
   pub rep : Rep case state k w
-  pub paid : Paid case state
+  pub moment : Moment case state
   pub workers : p ≡ case .workers
   pub below : a < p + length (case .graph .edges)
 
 unfoldable pub Act-says : (a p : ℕ) → (k k′ : Run) → (w w′ : List ℤ) → Type 0
 Act-says a p k k′ w w′ =
-    (c : Case) (x : State) → Rep c x k w → Paid c x → p ≡ c .workers → a < p + length (c .graph .edges) → Rep c (act c a x) k′ w′
+    (c : Case) (x : State) → Rep c x k w → Moment c x → p ≡ c .workers → a < p + length (c .graph .edges) → Rep c (act c a x) k′ w′
 
 -- A FRESH RUN
 pub record Begin-asks (source marks : ℕ) (w : List ℤ) : Type 0 where
@@ -141,13 +140,13 @@ pub record List-asks (p : ℕ) (acts : List ℕ) (k : Run) (w : List ℤ) : Type
   pub case : Case
   pub state : State
   pub rep : Rep case state k w
-  pub paid : Paid case state
+  pub moment : Moment case state
   pub workers : p ≡ case .workers
   pub below : (i : ℕ) → i < length acts → getD acts i 0 < p + length (case .graph .edges)
 
 unfoldable pub List-done : (p : ℕ) → (acts : List ℕ) → (k k′ : Run) → (w w′ : List ℤ) → Type 0
 List-done p acts k k′ w w′ =
-    (c : Case) (x : State) → Rep c x k w → Paid c x → p ≡ c .workers → ((i : ℕ) → i < length acts → getD acts i 0 < p + length (c .graph .edges)) → Rep c (acted c acts x) k′ w′
+    (c : Case) (x : State) → Rep c x k w → Moment c x → p ≡ c .workers → ((i : ℕ) → i < length acts → getD acts i 0 < p + length (c .graph .edges)) → Rep c (acted c acts x) k′ w′
 
 -- ROUNDS. A number goes to its place among the first of a list, and those from there on move up by one
 pub record Inserted (many h : ℕ) (l l′ : List ℕ) : Type 0 where
@@ -179,7 +178,7 @@ pub record Turns-ask (p : ℕ) (k : Run) (w : List ℤ) (size : ℕ) : Type 0 wh
   pub case : Case
   pub state : State
   pub rep : Rep case state k w
-  pub paid : Paid case state
+  pub moment : Moment case state
   pub workers : p ≡ case .workers
   pub room : p ≤ size
   pub empty : no-message (state .cells) ≡ true
@@ -193,51 +192,51 @@ pub record Turns-leave (c : Case) (y : State) (t : Turned) (w : List ℤ) (heads
 
 unfoldable pub Turns-say : (p : ℕ) → (k : Run) → (t : Turned) → (w w′ : List ℤ) → (heads : List ℕ) → Type 0
 Turns-say p k t w w′ H =
-    (c : Case) (x : State) → Rep c x k w → Paid c x → p ≡ c .workers → p ≤ length H → no-message (x .cells) ≡ true →
+    (c : Case) (x : State) → Rep c x k w → Moment c x → p ≡ c .workers → p ≤ length H → no-message (x .cells) ≡ true →
     Turns-leave c (acted c (range (c .workers) 0) x) t w′ H
 
 pub record Edges-ask (v p : ℕ) (k : Run) (w : List ℤ) : Type 0 where
   pub case : Case
   pub state : State
   pub rep : Rep case state k w
-  pub paid : Paid case state
+  pub moment : Moment case state
   pub workers : p ≡ case .workers
   pub below : v < case .graph .vertices
 
 unfoldable pub Edges-say : (v p : ℕ) → (k k′ : Run) → (w w′ : List ℤ) → Type 0
 Edges-say v p k k′ w w′ =
-    (c : Case) (x : State) (F : List ℕ) → Rep c x k w → Paid c x → p ≡ c .workers → v < c .graph .vertices → Firsts (c .graph) F →
+    (c : Case) (x : State) (F : List ℕ) → Rep c x k w → Moment c x → p ≡ c .workers → v < c .graph .vertices → Firsts (c .graph) F →
     Rep c (acted c (range (getD F (v + 1) 0 - getD F v 0) (c .workers + getD F v 0)) x) k′ w′
 
 pub record Sweep-asks (p : ℕ) (heads : List ℕ) (k : Run) (w : List ℤ) : Type 0 where
   pub case : Case
   pub state : State
   pub rep : Rep case state k w
-  pub paid : Paid case state
+  pub moment : Moment case state
   pub workers : p ≡ case .workers
   pub listed : Listed (case .graph .vertices) heads (length heads)
   pub only : Only case heads (length heads) state
 
 unfoldable pub Sweep-says : (p : ℕ) → (heads : List ℕ) → (k k′ : Run) → (w w′ : List ℤ) → Type 0
 Sweep-says p H k k′ w w′ =
-    (c : Case) (x : State) → Rep c x k w → Paid c x → p ≡ c .workers → Listed (c .graph .vertices) H (length H) → Only c H (length H) x →
+    (c : Case) (x : State) → Rep c x k w → Moment c x → p ≡ c .workers → Listed (c .graph .vertices) H (length H) → Only c H (length H) x →
     Rep c (acted c (range (length (c .graph .edges)) (c .workers)) x) k′ w′
 
 pub record Round-asks (p : ℕ) (k : Run) (w : List ℤ) : Type 0 where
   pub case : Case
   pub state : State
   pub rep : Rep case state k w
-  pub paid : Paid case state
+  pub moment : Moment case state
   pub workers : p ≡ case .workers
   pub empty : no-message (state .cells) ≡ true
 
 unfoldable pub Round-says : (p : ℕ) → (k k′ : Run) → (w w′ : List ℤ) → Type 0
 Round-says p k k′ w w′ =
-    (c : Case) (x : State) → Rep c x k w → Paid c x → p ≡ c .workers → no-message (x .cells) ≡ true → Rep c (acted c (round-acts c) x) k′ w′
+    (c : Case) (x : State) → Rep c x k w → Moment c x → p ≡ c .workers → no-message (x .cells) ≡ true → Rep c (acted c (round-acts c) x) k′ w′
 
 unfoldable pub Rounds-done : (many p : ℕ) → (k k′ : Run) → (w w′ : List ℤ) → Type 0
 Rounds-done many p k k′ w w′ =
-    (c : Case) (x : State) → Rep c x k w → Paid c x → p ≡ c .workers → no-message (x .cells) ≡ true → Rep c (rounds many c x) k′ w′
+    (c : Case) (x : State) → Rep c x k w → Moment c x → p ≡ c .workers → no-message (x .cells) ≡ true → Rep c (rounds many c x) k′ w′
 
 pub record By-rounds-asks (p n m : ℕ) (k : Run) (w : List ℤ) : Type 0 where
   pub case : Case

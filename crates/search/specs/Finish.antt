@@ -8,11 +8,10 @@ use lib.Dec.{eqb}
 use lib.ListN.{length}
 use lib.IntN.{ℤ}
 use Rattle.model.specs.Case.{Case, least-output}
-use Rattle.model.specs.Run.{State, has-ended}
+use Rattle.model.specs.Run.{State, has-ended, Moment}
 use Rattle.model.specs.Answer.{answer}
 use Rattle.model.specs.Entry.{Run-says}
 use Rattle.model.specs.declared.Outcome.{Outcome}
-use Rattle.model.proofs.Findings.{Known}
 use Rattle.search.specs.Rep.{Rep}
 use Rattle.search.specs.Writing.{Answers}
 use Rattle.search.specs.declared.run.Run.{Run}
@@ -20,7 +19,7 @@ use Rattle.search.specs.declared.run.Run.{Run}
 -- a run stands in the cells, with its source and its number of vertices, and the output is long enough
 pub record Gone (c : Case) (x : State) (k : Run) (n source : ℕ) (w : List ℤ) (o : List ℕ) : Type 0 where
   pub rep : Rep c x k w
-  pub known : Known c x
+  pub moment : Moment c x
   pub vertices : n ≡ c .graph .vertices
   pub start : source ≡ c .graph .source
   pub room : least-output ≤ length o

@@ -5,8 +5,7 @@ use Prim.Native.Nat.{ℕ, _+_, _-_, _≤_, _<_}
 use native.Mathlib.Omega.{arith}
 use lib.ListN.{length, getD}
 use Rattle.model.specs.Case.{Case}
-use Rattle.model.specs.Run.{State, has-ended}
-use Rattle.model.proofs.Few.{Paid}
+use Rattle.model.specs.Run.{State, has-ended, Moment}
 use Rattle.search.specs.Asks.{Deliver-says, Edges-say}
 use Rattle.search.specs.Rep.{Firsts, Laid, Rep}
 use Rattle.search.proofs.Ranges.{first-there, first-is}
@@ -24,7 +23,7 @@ use Rattle.search.proofs.run.is_over.Reads as is-over-reads
 
 abbrev Inv-loop : tie.InvT-loop
 Inv-loop work₀ v p end e₀ r₀ work e r = (length work ≡ length work₀)
-    × ((c : Case) (x : State) → Rep c x r₀ work₀ → Paid c x → p ≡ c .workers → end ≤ length (c .graph .edges) → Along c x (p + e₀) (p + end) (p + e) r work)
+    × ((c : Case) (x : State) → Rep c x r₀ work₀ → Moment c x → p ≡ c .workers → end ≤ length (c .graph .edges) → Along c x (p + e₀) (p + end) (p + e) r work)
 
 abbrev μ-loop : tie.MeasureT-loop
 μ-loop work₀ v p end e₀ r₀ work e r = end - e
@@ -69,7 +68,7 @@ load-below-requires-2 c κs = let s = c .before .before .before .pre in
     (omega arith, first-there (s .case) _ _ (s .rep .held .laid) (omega (arith, s .below)))
 
 loop-holds : tie.Need-loop-holds Inv-loop μ-loop
-loop-holds c = (refl, λ q x rep paid w l. along-start q x _ _ _ _ rep paid)
+loop-holds c = (refl, λ q x rep m w l. along-start q x _ _ _ _ rep m)
 
 is-over-requires : tie.Need-is-over-requires Inv-loop μ-loop
 is-over-requires c κs = search needs
@@ -79,9 +78,9 @@ same-length c = c .before .before .before .loop .inv .0
 
 returns : tie.Need-returns Inv-loop μ-loop
 unfolding Edges-say
-returns c = λ q x F rep paid w h f.
+returns c = λ q x F rep m w h f.
     let laid = rep .held .laid in
-    let u = c .before .before .before .loop .inv .1 q x rep paid w (end-low (c .before .before .before .before .before .before) q laid h) in
+    let u = c .before .before .before .loop .inv .1 q x rep m w (end-low (c .before .before .before .before .before .before) q laid h) in
     edges-rep q x _ _ (c .before .before .before .before .before .before .before .before .args .p) (c .before .before .before .before .load-below2 .result) (c .before .before .before .before .before .before .load-below .result) _ _ w (start-is (c .before .before .before .before) q F laid h f) (end-is (c .before .before .before .before .before .before) q F laid h f)
     (along-over q x _ _ _ _ _ u (over-is q (u .at) _ _ (u .rep) ∙ sym (c .before .is-over .ensures) ∙ c .if1 .taken))
 
@@ -92,8 +91,8 @@ goes c q x rep = over-is q x _ _ rep ∙ sym (c .before .is-over .ensures) ∙ c
 deliver-requires : tie.Need-deliver-requires Inv-loop μ-loop
 deliver-requires c κs = let s = c .before .before .before .before .before .before .before .before .before .pre in
     let l = end-low (c .before .before .before .before .before .before .before) (s .case) (s .rep .held .laid) (s .below) in
-    let u = c .before .before .before .before .loop .inv .1 (s .case) (s .state) (s .rep) (s .paid) (s .workers) l in
-    record { case = s .case; state = u .at; rep = u .rep; paid = u .paid; whole = not-broken (u .at) (goes (c .before) (s .case) (u .at) (u .rep)); below = omega (arith, l, c .before .before .before .loop-test .taken) }
+    let u = c .before .before .before .before .loop .inv .1 (s .case) (s .state) (s .rep) (s .moment) (s .workers) l in
+    record { case = s .case; state = u .at; rep = u .rep; moment = u .moment; whole = not-broken (u .at) (goes (c .before) (s .case) (u .at) (u .rep)); below = omega (arith, l, c .before .before .before .loop-test .taken) }
 
 add-e : tie.Need-add-e Inv-loop μ-loop
 add-e c = omega (arith, c .before .before .before .before .before .loop-test .taken)
@@ -105,12 +104,12 @@ loop-again : tie.Need-loop-again Inv-loop μ-loop
 unfolding Deliver-says
 loop-again c = (
   omega (arith, c .before .deliver .kept .0, c .before .before .before .before .before .before .loop .inv .0),
-  λ q x rep paid w l.
+  λ q x rep m w l.
       let p = c .before .before .before .before .before .before .before .before .before .before .before .args .p in
       let e = c .before .before .before .before .before .before .loop .e in
       let z : p + (e + 1) ≡ p + e + 1 = omega arith in
       let t = c .before .before .before .before .before .loop-test .taken in
-      let u = c .before .before .before .before .before .before .loop .inv .1 q x rep paid w l in
+      let u = c .before .before .before .before .before .before .loop .inv .1 q x rep m w l in
       let o = goes (c .before .before .before) q (u .at) (u .rep) in
       rw z (along-step q x _ _ (p + e) _ _ _ _ u (omega arith) (act-rep q e p (u .at) _ _ w o (c .before .deliver .ensures q (u .at) (u .rep) (not-broken (u .at) o) (omega arith)))),
 )
@@ -120,10 +119,10 @@ same-length-2 c = c .before .loop .inv .0
 
 returns-2 : tie.Need-returns-2 Inv-loop μ-loop
 unfolding Edges-say
-returns-2 c = λ q x F rep paid w h f.
+returns-2 c = λ q x F rep m w h f.
     let laid = rep .held .laid in
     edges-rep q x _ _ (c .before .before .before .before .before .before .args .p) (c .before .before .load-below2 .result) (c .before .before .before .before .load-below .result) _ _ w (start-is (c .before .before) q F laid h f) (end-is (c .before .before .before .before) q F laid h f)
-    (along-done q x _ _ _ _ _ (c .before .loop .inv .1 q x rep paid w (end-low (c .before .before .before .before) q laid h)) (omega (arith, c .loop-test .left)))
+    (along-done q x _ _ _ _ _ (c .before .loop .inv .1 q x rep m w (end-low (c .before .before .before .before) q laid h)) (omega (arith, c .loop-test .left)))
 
 pub deliver-edges-spec : {M : Type 1} → statement M
 deliver-edges-spec =

@@ -6,11 +6,11 @@ use native.Mathlib.Omega.{arith}
 use lib.ListN.{length}
 use lib.Seq.{length-take-le}
 use Rattle.model.specs.Case.{Case}
-use Rattle.model.specs.Run.{State, no-message, acted, range}
-use Rattle.model.proofs.Few.{Paid}
+use Rattle.model.specs.Run.{State, no-message, acted, range, Moment}
 use Rattle.search.specs.Asks.{Turns-leave, Turns-say, Sweep-says, Round-says}
 use Rattle.search.specs.Rep.{Rep}
-use Rattle.search.proofs.Sweeps.{paid-acted, listed-front, only-front, round-rep}
+use Rattle.model.proofs.ActRules.{moment-acted}
+use Rattle.search.proofs.Sweeps.{listed-front, only-front, round-rep}
 use borrow.Author.Needs.{needs}
 use Rattle.search.proofs.rounds.round.Statement.{statement}
 use Rattle.search.proofs.rounds.round.Tie as tie
@@ -20,22 +20,22 @@ use Rattle.search.proofs.rounds.sweep.Reads as sweep-reads
 use Rattle.search.proofs.rounds.turns.Reads as turns-reads
 
 -- what the turns leave
-turned : (c : tie.After-turns) (q : Case) (x : State) → Rep q x (c .before .before .before .args .run) (c .before .before .before .args .work .now) → Paid q x → c .before .before .before .args .p ≡ q .workers → no-message (x .cells) ≡ true
+turned : (c : tie.After-turns) (q : Case) (x : State) → Rep q x (c .before .before .before .args .run) (c .before .before .before .args .work .now) → Moment q x → c .before .before .before .args .p ≡ q .workers → no-message (x .cells) ≡ true
     → Turns-leave q (acted q (range (q .workers) 0) x) (c .turns .result) (c .turns .last .0) (c .turns .last .1 .1 .1 .0)
 unfolding Turns-say
-turned c q x rep paid w e = c .turns .ensures q x rep paid w (omega (arith, rep .held .laid .within .workers, c .turns .kept .1)) e
+turned c q x rep m w e = c .turns .ensures q x rep m w (omega (arith, rep .held .laid .within .workers, c .turns .kept .1)) e
 
 -- the list has room for them
 room : (c : tie.After-turns) → c .turns .result .scanned ≤ length (c .turns .last .1 .1 .1 .0)
 room c = let s = c .before .before .before .pre in
-    omega (arith, turned c (s .case) (s .state) (s .rep) (s .paid) (s .workers) (s .empty) .few, s .rep .held .laid .within .workers, c .turns .kept .1)
+    omega (arith, turned c (s .case) (s .state) (s .rep) (s .moment) (s .workers) (s .empty) .few, s .rep .held .laid .within .workers, c .turns .kept .1)
 
 slice-aggregate-turns : tie.Need-slice-aggregate-turns
 slice-aggregate-turns c = search needs
 
 turns-requires : tie.Need-turns-requires
 turns-requires c κs = let s = c .before .before .pre in
-    record { case = s .case; state = s .state; rep = s .rep; paid = s .paid; workers = s .workers; room = omega (arith, s .workers, s .rep .held .laid .within .workers); empty = s .empty }
+    record { case = s .case; state = s .state; rep = s .rep; moment = s .moment; workers = s .workers; room = omega (arith, s .workers, s .rep .held .laid .within .workers); empty = s .empty }
 
 array-share-prefix-heads : tie.Need-array-share-prefix-heads
 array-share-prefix-heads c = room (c .before .before .before)
@@ -45,12 +45,12 @@ slice-aggregate-sweep c = sym (length-take-le _ _ (room (c .before .before .befo
 
 sweep-requires : tie.Need-sweep-requires
 sweep-requires c κs = let s = c .before .before .before .before .before .before .before .pre in
-    let t = turned (c .before .before .before .before) (s .case) (s .state) (s .rep) (s .paid) (s .workers) (s .empty) in
+    let t = turned (c .before .before .before .before) (s .case) (s .state) (s .rep) (s .moment) (s .workers) (s .empty) in
     record {
       case = s .case;
       state = acted (s .case) (range (s .case .workers) 0) (s .state);
       rep = t .rep;
-      paid = paid-acted (s .case) (s .rep .held .laid .sound) (range (s .case .workers) 0) (s .state) (s .paid);
+      moment = moment-acted (s .case) (range (s .case .workers) 0) (s .state) (s .moment);
       workers = s .workers;
       listed = listed-front _ _ (room (c .before .before .before .before)) _ (t .listed);
       only = only-front _ _ (room (c .before .before .before .before)) (s .case) _ (t .only);
@@ -61,11 +61,11 @@ same-length c = search needs
 
 returns : tie.Need-returns
 unfolding Round-says Sweep-says
-returns c = λ q x rep paid w e.
+returns c = λ q x rep m w e.
     let a = c .before .before .before .before .before .before in
-    let t = turned a q x rep paid w e in
+    let t = turned a q x rep m w e in
     round-rep q x _ _ (rep .held .laid .sound)
-    (c .before .sweep .ensures q (acted q (range (q .workers) 0) x) (t .rep) (paid-acted q (rep .held .laid .sound) (range (q .workers) 0) x paid) w (listed-front _ _ (room a) _ (t .listed)) (only-front _ _ (room a) q _ (t .only)))
+    (c .before .sweep .ensures q (acted q (range (q .workers) 0) x) (t .rep) (moment-acted q (range (q .workers) 0) x m) w (listed-front _ _ (room a) _ (t .listed)) (only-front _ _ (room a) q _ (t .only)))
 
 pub round-spec : {M : Type 1} → statement M
 round-spec =

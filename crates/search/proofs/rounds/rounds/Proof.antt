@@ -1,11 +1,10 @@
-use Rattle.model.specs.Run.{no-message}
+use Rattle.model.specs.Run.{no-message, Moment}
 use mathlib.Core.Path.{_≡_, refl, sym, _∙_}
 use mathlib.Core.Bool.{true}
 use native.Mathlib.Omega.{arith}
 use lib.ListN.{length}
 use Rattle.model.specs.Case.{Case}
 use Rattle.model.specs.Run.{State}
-use Rattle.model.proofs.Few.{Paid}
 use Rattle.search.specs.Asks.{Round-says, Rounds-done}
 use Rattle.search.specs.Rep.{Rep}
 use Rattle.search.proofs.Acts.{over-is}
@@ -20,13 +19,13 @@ use Rattle.search.proofs.run.is_over.Reads as is-over-reads
 
 abbrev Inv-loop : tie.InvT-loop
 Inv-loop work₀ many p r₀ left₀ work r left = (length work ≡ length work₀)
-    × ((c : Case) (x : State) → Rep c x r₀ work₀ → Paid c x → p ≡ c .workers → no-message (x .cells) ≡ true → Left c x many left r work)
+    × ((c : Case) (x : State) → Rep c x r₀ work₀ → Moment c x → p ≡ c .workers → no-message (x .cells) ≡ true → Left c x many left r work)
 
 abbrev μ-loop : tie.MeasureT-loop
 μ-loop work₀ many p r₀ left₀ work r left = left
 
 loop-holds : tie.Need-loop-holds Inv-loop μ-loop
-loop-holds c = (refl, λ q x rep paid w e. left-start q x _ _ _ rep paid e)
+loop-holds c = (refl, λ q x rep m w e. left-start q x _ _ _ rep m e)
 
 is-over-requires : tie.Need-is-over-requires Inv-loop μ-loop
 is-over-requires c κs = search needs
@@ -36,18 +35,18 @@ same-length c = c .before .before .before .loop .inv .0
 
 returns : tie.Need-returns Inv-loop μ-loop
 unfolding Rounds-done
-returns c = λ q x rep paid w e.
-    let u = c .before .before .before .loop .inv .1 q x rep paid w e in
+returns c = λ q x rep m w e.
+    let u = c .before .before .before .loop .inv .1 q x rep m w e in
     left-over q x _ _ _ _ u (over-is q (u .at) _ _ (u .rep) ∙ sym (c .before .is-over .ensures) ∙ c .if1 .taken)
 
 round-requires : tie.Need-round-requires Inv-loop μ-loop
 round-requires c κs = let s = c .before .before .before .before .before .pre in
-    let u = c .before .before .before .before .loop .inv .1 (s .case) (s .state) (s .rep) (s .paid) (s .workers) (s .empty) in
+    let u = c .before .before .before .before .loop .inv .1 (s .case) (s .state) (s .rep) (s .moment) (s .workers) (s .empty) in
     record {
       case = s .case;
       state = u .at;
       rep = u .rep;
-      paid = u .paid;
+      moment = u .moment;
       workers = s .workers;
       empty = u .empty (over-is (s .case) (u .at) _ _ (u .rep) ∙ sym (c .before .before .is-over .ensures) ∙ c .before .if1 .left);
     }
@@ -62,10 +61,10 @@ loop-again : tie.Need-loop-again Inv-loop μ-loop
 unfolding Round-says
 loop-again c = (
   omega (arith, c .before .round .kept .0, c .before .before .before .before .before .before .loop .inv .0),
-  λ q x rep paid w e.
-      let u = c .before .before .before .before .before .before .loop .inv .1 q x rep paid w e in
+  λ q x rep m w e.
+      let u = c .before .before .before .before .before .before .loop .inv .1 q x rep m w e in
       let o = over-is q (u .at) _ _ (u .rep) ∙ sym (c .before .before .before .before .is-over .ensures) ∙ c .before .before .before .if1 .left in
-      left-step q x _ _ _ _ _ _ u (c .before .before .before .before .before .loop-test .taken) o (c .before .round .ensures q (u .at) (u .rep) (u .paid) w (u .empty o)),
+      left-step q x _ _ _ _ _ _ u (c .before .before .before .before .before .loop-test .taken) o (c .before .round .ensures q (u .at) (u .rep) (u .moment) w (u .empty o)),
 )
 
 same-length-2 : tie.Need-same-length-2 Inv-loop μ-loop
@@ -73,7 +72,7 @@ same-length-2 c = c .before .loop .inv .0
 
 returns-2 : tie.Need-returns-2 Inv-loop μ-loop
 unfolding Rounds-done
-returns-2 c = λ q x rep paid w e. left-done q x _ _ _ _ (c .before .loop .inv .1 q x rep paid w e) (c .loop-test .left)
+returns-2 c = λ q x rep m w e. left-done q x _ _ _ _ (c .before .loop .inv .1 q x rep m w e) (c .loop-test .left)
 
 pub rounds-spec : {M : Type 1} → statement M
 rounds-spec =

@@ -1,5 +1,5 @@
 use Rattle.model.specs.Case.{most-vertices, most-edges}
-use Rattle.model.proofs.Few.{fresh-paid}
+use Rattle.model.proofs.ActRules.{moment-fresh}
 use Rattle.model.proofs.Bounds.{most-acts-within}
 use native.Mathlib.Omega.{arith}
 use Rattle.model.specs.Run.{fresh}
@@ -32,7 +32,7 @@ rounds-requires c κs = let s = c .before .before .pre in
       case = s .case;
       state = fresh (s .case);
       rep = s .rep;
-      paid = fresh-paid (s .case) (s .rep .held .laid .sound);
+      moment = moment-fresh (s .case);
       workers = s .workers;
       empty = fresh-empty (s .case);
     }
@@ -44,7 +44,7 @@ returns : tie.Need-returns
 unfolding By-rounds-says Rounds-done
 returns c = λ q rep w v e.
     by-rounds-rep q _ _ _ (many-is q (c .before .before .before .before .args .n) (c .before .before .before .before .args .m) (c .before .before .before .before .args .run .marks) v e (rep .counted .marks))
-    (c .before .rounds .ensures q (fresh q) rep (fresh-paid q (rep .held .laid .sound)) w (fresh-empty q))
+    (c .before .rounds .ensures q (fresh q) rep (moment-fresh q) w (fresh-empty q))
 
 pub run-by-rounds-spec : {M : Type 1} → statement M
 run-by-rounds-spec =

@@ -5,8 +5,7 @@ use Prim.Native.Nat.{ℕ, _-_, _≤_}
 use native.Mathlib.Omega.{arith}
 use lib.ListN.{length}
 use Rattle.model.specs.Case.{Case}
-use Rattle.model.specs.Run.{State}
-use Rattle.model.proofs.Few.{Paid}
+use Rattle.model.specs.Run.{State, Moment}
 use Rattle.search.specs.Asks.{Listed, Only, Edges-say, Sweep-says}
 use Rattle.search.specs.Rep.{Firsts, Rep}
 use Rattle.search.proofs.Sweeps.{Swept, sweep-start, sweep-step, sweep-empty, sweep-done}
@@ -16,22 +15,22 @@ use Rattle.search.proofs.rounds.sweep.Tie as tie
 
 abbrev Inv-loop : tie.InvT-loop
 Inv-loop work₀ p heads r₀ i₀ work r i = (i ≤ length heads) × (length work ≡ length work₀)
-    × ((c : Case) (x : State) (F : List ℕ) → Rep c x r₀ work₀ → Paid c x → p ≡ c .workers → Listed (c .graph .vertices) heads (length heads) → Only c heads (length heads) x → Firsts (c .graph) F → Swept c x F heads i r work)
+    × ((c : Case) (x : State) (F : List ℕ) → Rep c x r₀ work₀ → Moment c x → p ≡ c .workers → Listed (c .graph .vertices) heads (length heads) → Only c heads (length heads) x → Firsts (c .graph) F → Swept c x F heads i r work)
 
 abbrev μ-loop : tie.MeasureT-loop
 μ-loop work₀ p heads r₀ i₀ work r i = length heads - i
 
 loop-holds : tie.Need-loop-holds Inv-loop μ-loop
-loop-holds c = (omega arith, refl, λ q x F rep paid e l only f. sweep-start q (rep .held .laid .sound) F _ f l x _ _ rep paid only)
+loop-holds c = (omega arith, refl, λ q x F rep m e l only f. sweep-start q (rep .held .laid .sound) F _ f l x _ _ rep m only)
 
 same-length : tie.Need-same-length Inv-loop μ-loop
 same-length c = c .before .before .before .loop .inv .1
 
 returns : tie.Need-returns Inv-loop μ-loop
 unfolding Sweep-says
-returns c = λ q x rep paid e l only.
+returns c = λ q x rep m e l only.
     let f = rep .held .laid .firsts in
-    sweep-empty q (rep .held .laid .sound) (rep .held .laid .first) _ f l (c .before .before .before .loop .inv .2 q x _ rep paid e l only f) (c .if1 .taken)
+    sweep-empty q (rep .held .laid .sound) (rep .held .laid .first) _ f l (c .before .before .before .loop .inv .2 q x _ rep m e l only f) (c .if1 .taken)
 
 mul-deliver-edges : tie.Need-mul-deliver-edges Inv-loop μ-loop
 mul-deliver-edges c = search needs
@@ -44,9 +43,9 @@ sub-deliver-edges c = c .before .before .before .before .before .before .before 
 
 deliver-edges-requires : tie.Need-deliver-edges-requires Inv-loop μ-loop
 deliver-edges-requires c κs = let s = c .before .before .before .before .before .before .before .pre in
-    let u = c .before .before .before .before .before .loop .inv .2 (s .case) (s .state) (s .rep .held .laid .first) (s .rep) (s .paid) (s .workers) (s .listed) (s .only) (s .rep .held .laid .firsts) in
+    let u = c .before .before .before .before .before .loop .inv .2 (s .case) (s .state) (s .rep .held .laid .first) (s .rep) (s .moment) (s .workers) (s .listed) (s .only) (s .rep .held .laid .firsts) in
     let t = c .before .before .before .before .loop-test .taken in
-    record { case = s .case; state = u .state; rep = u .rep; paid = u .paid; workers = s .workers; below = omega (arith, s .listed .low _ t, s .listed .high _ t) }
+    record { case = s .case; state = u .state; rep = u .rep; moment = u .moment; workers = s .workers; below = omega (arith, s .listed .low _ t, s .listed .high _ t) }
 
 add-i : tie.Need-add-i Inv-loop μ-loop
 add-i c = omega (arith, c .before .before .before .before .before .before .loop-test .taken)
@@ -60,9 +59,9 @@ loop-again c = let v = c .before .before .before .before .before .before .before
     let t = c .before .before .before .before .before .before .loop-test .taken in (
       omega arith,
       omega (arith, c .before .deliver-edges .kept .0, v .1),
-      λ q x F rep paid e l only f.
-          let u = v .2 q x F rep paid e l only f in
-          sweep-step q (rep .held .laid .sound) F _ f l u t (c .before .deliver-edges .ensures q (u .state) F (u .rep) (u .paid) e (omega (arith, l .low _ t, l .high _ t)) f),
+      λ q x F rep m e l only f.
+          let u = v .2 q x F rep m e l only f in
+          sweep-step q (rep .held .laid .sound) F _ f l u t (c .before .deliver-edges .ensures q (u .state) F (u .rep) (u .moment) e (omega (arith, l .low _ t, l .high _ t)) f),
     )
 
 same-length-2 : tie.Need-same-length-2 Inv-loop μ-loop
@@ -70,9 +69,9 @@ same-length-2 c = c .before .loop .inv .1
 
 returns-2 : tie.Need-returns-2 Inv-loop μ-loop
 unfolding Sweep-says
-returns-2 c = λ q x rep paid e l only.
+returns-2 c = λ q x rep m e l only.
     let f = rep .held .laid .firsts in
-    sweep-done q (rep .held .laid .sound) (rep .held .laid .first) _ f l (c .before .loop .inv .2 q x _ rep paid e l only f) (c .loop-test .left)
+    sweep-done q (rep .held .laid .sound) (rep .held .laid .first) _ f l (c .before .loop .inv .2 q x _ rep m e l only f) (c .loop-test .left)
 
 pub sweep-spec : {M : Type 1} → statement M
 sweep-spec =

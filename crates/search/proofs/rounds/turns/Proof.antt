@@ -5,8 +5,7 @@ use Prim.Native.Nat.{_-_, _≤_}
 use native.Mathlib.Omega.{arith}
 use lib.ListN.{length}
 use Rattle.model.specs.Case.{Case}
-use Rattle.model.specs.Run.{State, no-message}
-use Rattle.model.proofs.Few.{Paid}
+use Rattle.model.specs.Run.{State, no-message, Moment}
 use Rattle.search.specs.Asks.{Act-says, Turns-say}
 use Rattle.search.specs.Rep.{Rep}
 use Rattle.search.proofs.Steps.{head-there, head-is}
@@ -21,17 +20,17 @@ use Rattle.search.proofs.run.act.Reads as act-reads
 
 abbrev Inv-loop : tie.InvT-loop
 Inv-loop work₀ p heads₀ r₀ scanned₀ w₀ work heads r scanned w = (w ≤ p) × (scanned ≤ w) × (length work ≡ length work₀) × (length heads ≡ length heads₀)
-    × ((c : Case) (x : State) → Rep c x r₀ work₀ → Paid c x → p ≡ c .workers → no-message (x .cells) ≡ true → p ≤ length heads₀ → Turning c x p heads scanned w r work)
+    × ((c : Case) (x : State) → Rep c x r₀ work₀ → Moment c x → p ≡ c .workers → no-message (x .cells) ≡ true → p ≤ length heads₀ → Turning c x p heads scanned w r work)
 
 abbrev μ-loop : tie.MeasureT-loop
 μ-loop work₀ p heads₀ r₀ scanned₀ w₀ work heads r scanned w = p - w
 
 -- what the loop's invariant says of the run that is asked for
 asked : (c : tie.At-loop Inv-loop μ-loop) → Turning (c .before .before .pre .case) (c .before .before .pre .state) (c .before .before .args .p) (c .loop .heads) (c .loop .scanned) (c .loop .w) (c .loop .r) (c .loop .work)
-asked c = let s = c .before .before .pre in c .loop .inv .4 (s .case) (s .state) (s .rep) (s .paid) (s .workers) (s .empty) (s .room)
+asked c = let s = c .before .before .pre in c .loop .inv .4 (s .case) (s .state) (s .rep) (s .moment) (s .workers) (s .empty) (s .room)
 
 loop-holds : tie.Need-loop-holds Inv-loop μ-loop
-loop-holds c = (omega arith, omega arith, refl, refl, λ q x rep paid e empty room. turns-start q x _ e _ _ _ rep paid empty)
+loop-holds c = (omega arith, omega arith, refl, refl, λ q x rep m e empty room. turns-start q x _ e _ _ _ rep m empty)
 
 add-load-below : tie.Need-add-load-below Inv-loop μ-loop
 add-load-below c = let s = c .before .before .before .before .pre in
@@ -60,8 +59,8 @@ loop-again c = let i = c .before .before .before .before .loop .inv in
       omega (arith, i .1),
       i .2,
       i .3,
-      λ q x rep paid e empty room.
-          let u = i .4 q x rep paid e empty room in
+      λ q x rep m e empty room.
+          let u = i .4 q x rep m e empty room in
           turns-idle q x _ e _ _ _ _ _ u t (head-is q (u .along .at) _ _ _ (u .along .rep) (omega arith) _ (rw (c .if1 .taken) at (c .before .load-below .ensures .0))),
     )
 
@@ -75,7 +74,7 @@ add-scanned c = omega (arith, c .before .before .before .before .before .before 
 act-requires : tie.Need-act-requires Inv-loop μ-loop
 act-requires c κs = let s = c .before .before .before .before .before .before .before .before .before .before .before .pre in
     let u = asked (c .before .before .before .before .before .before .before .before .before) in
-    record { case = s .case; state = u .along .at; rep = u .along .rep; paid = u .along .paid; workers = s .workers; below = omega (arith, c .before .before .before .before .before .before .before .before .loop-test .taken) }
+    record { case = s .case; state = u .along .at; rep = u .along .rep; moment = u .along .moment; workers = s .workers; below = omega (arith, c .before .before .before .before .before .before .before .before .loop-test .taken) }
 
 add-w-2 : tie.Need-add-w-2 Inv-loop μ-loop
 add-w-2 c = omega (arith, c .before .before .before .before .before .before .before .before .before .before .loop-test .taken)
@@ -91,10 +90,10 @@ loop-again-2 c = let i = c .before .before .before .before .before .before .befo
       omega (arith, i .1),
       omega (arith, c .before .act .kept .0, i .2),
       omega (arith, c .before .before .before .before .before .insert .kept .0, i .3),
-      λ q x rep paid e empty room.
-          let u = i .4 q x rep paid e empty room in
+      λ q x rep m e empty room.
+          let u = i .4 q x rep m e empty room in
           turns-step q x _ e _ _ _ _ _ _ _ _ _ u t (c .before .before .before .before .before .insert .ensures) (head-is q (u .along .at) _ _ _ (u .along .rep) (omega arith) _ (c .before .before .before .before .before .before .before .before .load-below .ensures .0)) (c .before .before .before .before .before .before .before .if1 .left)
-          (c .before .act .ensures q (u .along .at) (u .along .rep) (u .along .paid) e (omega arith)),
+          (c .before .act .ensures q (u .along .at) (u .along .rep) (u .along .moment) e (omega arith)),
     )
 
 same-length : tie.Need-same-length Inv-loop μ-loop
@@ -106,7 +105,7 @@ same-length-2 c = c .before .loop .inv .3
 returns : tie.Need-returns Inv-loop μ-loop
 unfolding Turns-say
 returns c = let i = c .before .loop .inv in
-    λ q x rep paid e room empty. turns-done q x _ e _ _ _ _ _ (i .4 q x rep paid e empty (omega (arith, i .3))) (c .loop-test .left) (omega (arith, i .0, i .1))
+    λ q x rep m e room empty. turns-done q x _ e _ _ _ _ _ (i .4 q x rep m e empty (omega (arith, i .3))) (c .loop-test .left) (omega (arith, i .0, i .1))
 
 pub turns-spec : {M : Type 1} → statement M
 turns-spec =

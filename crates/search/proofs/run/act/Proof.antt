@@ -26,32 +26,32 @@ is-over-requires c κs = search needs
 
 returns : tie.Need-returns
 unfolding Act-says
-returns c = λ q x rep paid w l. rw (act-over q (c .before .before .args .a) x (ended (c .before) q x rep ∙ c .if1 .taken)) rep
+returns c = λ q x rep m w l. rw (act-over q (c .before .before .args .a) x (ended (c .before) q x rep ∙ c .if1 .taken)) rep
 
 turn-requires : tie.Need-turn-requires
 turn-requires c κs = let s = c .before .before .before .before .pre in
-    record { case = s .case; state = s .state; rep = s .rep; paid = s .paid; whole = unbroken (s .state) (ended (c .before .before .before) (s .case) (s .state) (s .rep) ∙ c .before .before .if1 .left); worker = omega (arith, s .workers, c .before .if2 .taken) }
+    record { case = s .case; state = s .state; rep = s .rep; moment = s .moment; whole = unbroken (s .state) (ended (c .before .before .before) (s .case) (s .state) (s .rep) ∙ c .before .before .if1 .left); worker = omega (arith, s .workers, c .before .if2 .taken) }
 
 same-length : tie.Need-same-length
 same-length c = search needs
 
 returns-2 : tie.Need-returns-2
 unfolding Act-says Turn-says
-returns-2 c = λ q x rep paid w l.
+returns-2 c = λ q x rep m w l.
     let o = ended (c .before .before .before .before .before) q x rep ∙ c .before .before .before .before .if1 .left in
     let b : c .before .before .before .before .before .before .args .a < q .workers = omega (arith, c .before .before .before .if2 .taken) in
-    rw (act-turn q (c .before .before .before .before .before .before .args .a) x o b) (c .before .turn .ensures q x rep paid (unbroken x o) b)
+    rw (act-turn q (c .before .before .before .before .before .before .args .a) x o b) (c .before .turn .ensures q x rep m (unbroken x o) b)
 
 deliver-requires : tie.Need-deliver-requires
 deliver-requires c κs = let s = c .before .before .before .before .pre in
-    record { case = s .case; state = s .state; rep = s .rep; paid = s .paid; whole = unbroken (s .state) (ended (c .before .before .before) (s .case) (s .state) (s .rep) ∙ c .before .before .if1 .left); below = omega (arith, s .workers, s .below, c .before .if2 .left) }
+    record { case = s .case; state = s .state; rep = s .rep; moment = s .moment; whole = unbroken (s .state) (ended (c .before .before .before) (s .case) (s .state) (s .rep) ∙ c .before .before .if1 .left); below = omega (arith, s .workers, s .below, c .before .if2 .left) }
 
 same-length-2 : tie.Need-same-length-2
 same-length-2 c = search needs
 
 returns-3 : tie.Need-returns-3
 unfolding Act-says Deliver-says
-returns-3 c = λ q x rep paid w l.
+returns-3 c = λ q x rep m w l.
     let o = ended (c .before .before .before .before .before) q x rep ∙ c .before .before .before .before .if1 .left in
     let b : c .before .before .before .before .before .before .args .p ≤ c .before .before .before .before .before .before .args .a = omega (arith, c .before .before .before .if2 .left) in
     rw (act-delivery q (c .before .before .before .before .before .before .args .a) (c .before .before .before .before .before .before .args .p) x o w b) (c .before .deliver .ensures q x rep (unbroken x o) (omega arith))

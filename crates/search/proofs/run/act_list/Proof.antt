@@ -3,8 +3,7 @@ use Prim.Native.Nat.{ℕ, _+_, _-_, _≤_, _<_}
 use native.Mathlib.Omega.{arith}
 use lib.ListN.{length, getD}
 use Rattle.model.specs.Case.{Case}
-use Rattle.model.specs.Run.{State}
-use Rattle.model.proofs.Few.{Paid}
+use Rattle.model.specs.Run.{State, Moment}
 use Rattle.search.specs.Asks.{Act-says, List-done}
 use Rattle.search.specs.Rep.{Rep}
 use Rattle.search.proofs.Acts.{Onward, onward-start, onward-step, onward-done}
@@ -17,13 +16,13 @@ use Rattle.search.proofs.run.act.Reads as act-reads
 
 abbrev Inv-loop : tie.InvT-loop
 Inv-loop work₀ acts p r₀ i₀ work r i = (i ≤ length acts) × (length work ≡ length work₀)
-    × ((c : Case) (x : State) → Rep c x r₀ work₀ → Paid c x → p ≡ c .workers → ((j : ℕ) → j < length acts → getD acts j 0 < p + length (c .graph .edges)) → Onward c x acts i r work)
+    × ((c : Case) (x : State) → Rep c x r₀ work₀ → Moment c x → p ≡ c .workers → ((j : ℕ) → j < length acts → getD acts j 0 < p + length (c .graph .edges)) → Onward c x acts i r work)
 
 abbrev μ-loop : tie.MeasureT-loop
 μ-loop work₀ acts p r₀ i₀ work r i = length acts - i
 
 loop-holds : tie.Need-loop-holds Inv-loop μ-loop
-loop-holds c = (omega arith, refl, λ q x rep paid w l. onward-start q x _ _ _ rep paid)
+loop-holds c = (omega arith, refl, λ q x rep m w l. onward-start q x _ _ _ rep m)
 
 mul-a : tie.Need-mul-a Inv-loop μ-loop
 mul-a c = search needs
@@ -36,8 +35,8 @@ cast-a c = omega (arith, c .shared-slice-known2 .given (c .before .before .loop 
 
 act-requires : tie.Need-act-requires Inv-loop μ-loop
 act-requires c κs = let s = c .before .before .before .before .before .pre in
-    let u = c .before .before .before .loop .inv .2 (s .case) (s .state) (s .rep) (s .paid) (s .workers) (s .below) in
-    record { case = s .case; state = u .at; rep = u .rep; paid = u .paid; workers = s .workers; below = s .below (c .before .before .before .loop .i) (omega arith) }
+    let u = c .before .before .before .loop .inv .2 (s .case) (s .state) (s .rep) (s .moment) (s .workers) (s .below) in
+    record { case = s .case; state = u .at; rep = u .rep; moment = u .moment; workers = s .workers; below = s .below (c .before .before .before .loop .i) (omega arith) }
 
 add-i : tie.Need-add-i Inv-loop μ-loop
 add-i c = omega arith
@@ -50,9 +49,9 @@ unfolding Act-says
 loop-again c = (
   omega arith,
   omega (arith, c .before .act .kept .0),
-  λ q x rep paid w l.
-      let u = c .before .before .before .before .before .loop .inv .2 q x rep paid w l in
-      onward-step q x _ _ _ _ _ _ u (omega arith) (c .before .act .ensures q (u .at) (u .rep) (u .paid) w (l (c .before .before .before .before .before .loop .i) (omega arith))),
+  λ q x rep m w l.
+      let u = c .before .before .before .before .before .loop .inv .2 q x rep m w l in
+      onward-step q x _ _ _ _ _ _ u (omega arith) (c .before .act .ensures q (u .at) (u .rep) (u .moment) w (l (c .before .before .before .before .before .loop .i) (omega arith))),
 )
 
 same-length : tie.Need-same-length Inv-loop μ-loop
@@ -60,7 +59,7 @@ same-length c = c .before .loop .inv .1
 
 returns : tie.Need-returns Inv-loop μ-loop
 unfolding List-done
-returns c = λ q x rep paid w l. onward-done q x _ _ _ _ (c .before .loop .inv .2 q x rep paid w l) (c .loop-test .left)
+returns c = λ q x rep m w l. onward-done q x _ _ _ _ (c .before .loop .inv .2 q x rep m w l) (c .loop-test .left)
 
 pub act-list-spec : {M : Type 1} → statement M
 act-list-spec =

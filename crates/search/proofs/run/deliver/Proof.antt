@@ -111,7 +111,7 @@ counted-requires c κs = let s = c .before .before .before .before .before .befo
       arith,
       relaxed (c .before) (s .case) (s .state) (s .rep) (s .whole) (s .below) .counted .acts,
       relax-count (s .case) e (waits (c .before .before .before .before .before .before .before) (s .case) (s .state) (s .rep) (s .below) .0) (with-cells (set (s .state .cells) e none) (s .state)),
-      count-small (s .case) (s .state) (s .rep .held .laid .sound) (s .rep .held .laid .within) (s .paid),
+      count-small (s .case) (s .state) (s .rep .held .laid .sound) (s .rep .held .laid .within) (s .moment),
     )
 
 same-length-2 : tie.Need-same-length-2

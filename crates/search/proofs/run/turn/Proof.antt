@@ -10,8 +10,8 @@ use mir.Syntax.{w32}
 use mir.Val.{SFits}
 use mir.Facts.{toZ-ofZ}
 use Rattle.model.specs.Case.{Case}
-use Rattle.model.specs.Run.{State, with-queues, scan, depth-or}
-use Rattle.model.proofs.Few.{Paid}
+use Rattle.model.specs.Run.{State, with-queues, scan, depth-or, Moment}
+use Rattle.model.proofs.Findings.{moment-known}
 use Rattle.model.proofs.Rounds.{scan-count}
 use Rattle.search.specs.Asks.{Pop-says, Scan-says, Turn-says}
 use Rattle.search.specs.Cells.{far}
@@ -42,23 +42,23 @@ unfolding Pop-says
 popped c q x rep pw = c .pop .ensures q x (split (c .before .before) q x rep pw .0) rep pw (split (c .before .before) q x rep pw .1)
 
 -- its distance is the depth that the model reads
-read-is : (c : tie.After-load) (q : Case) (x : State) → Rep q x (c .before .before .before .before .before .before .before .before .args .run) (c .before .before .before .before .before .before .before .before .args .work .now) → c .before .before .before .before .before .before .before .before .args .p < q .workers → Paid q x
+read-is : (c : tie.After-load) (q : Case) (x : State) → Rep q x (c .before .before .before .before .before .before .before .before .args .run) (c .before .before .before .before .before .before .before .before .args .work .now) → c .before .before .before .before .before .before .before .before .args .p < q .workers → Moment q x
     → let v = c .before .before .before .before .before .before .load-below .result - 2 in c .load .result ≡ negℤ (pos (depth-or (getD (x .depths) v none)))
-read-is c q x rep pw paid =
+read-is c q x rep pw m =
     let v = c .before .before .before .before .before .before .load-below .result - 2 in
     let s = split (c .before .before .before .before .before) q x rep pw in
-    c .load .ensures ∙ there (popped (c .before .before .before) q x rep pw .held .depths) v (head-below q x _ _ _ v (s .0) rep pw (s .1)) ∙ ap far (head-depth q (rep .held .laid .sound) _ v (s .0) x (paid .shape) (s .1))
+    c .load .ensures ∙ there (popped (c .before .before .before) q x rep pw .held .depths) v (head-below q x _ _ _ v (s .0) rep pw (s .1)) ∙ ap far (head-depth q (rep .held .laid .sound) _ v (s .0) x (moment-known q (rep .held .laid .sound) x m .paid .shape) (s .1))
 
 -- the cells after the scan
-done : (c : tie.After-scan) (q : Case) (x : State) → (rep : Rep q x (c .before .before .before .before .before .before .before .before .before .before .args .run) (c .before .before .before .before .before .before .before .before .before .before .args .work .now)) → (pw : c .before .before .before .before .before .before .before .before .before .before .args .p < q .workers) → Paid q x
+done : (c : tie.After-scan) (q : Case) (x : State) → (rep : Rep q x (c .before .before .before .before .before .before .before .before .before .before .args .run) (c .before .before .before .before .before .before .before .before .before .before .args .work .now)) → (pw : c .before .before .before .before .before .before .before .before .before .before .args .p < q .workers) → Moment q x
     → let v = c .before .before .before .before .before .before .before .before .load-below .result - 2 in
     Rep q (scan q v (depth-or (getD (x .depths) v none)) (with-queues (set (x .queues) (c .before .before .before .before .before .before .before .before .before .before .args .p) (split (c .before .before .before .before .before .before .before) q x rep pw .0)) x)) (c .scan .result) (c .scan .last .0)
 unfolding Scan-says
-done c q x rep pw paid =
+done c q x rep pw m =
     let v = c .before .before .before .before .before .before .before .before .load-below .result - 2 in
     let f : SFits w32 (c .before .before .load .result) = record { sfits = c .before .before .load .ok } in
     let t = split (c .before .before .before .before .before .before .before) q x rep pw in
-    c .scan .ensures q (with-queues (set (x .queues) (c .before .before .before .before .before .before .before .before .before .before .args .p) (t .0)) x) (depth-or (getD (x .depths) v none)) (popped (c .before .before .before .before .before) q x rep pw) (head-below q x _ _ _ v (t .0) rep pw (t .1)) (toZ-ofZ f ∙ read-is (c .before .before) q x rep pw paid)
+    c .scan .ensures q (with-queues (set (x .queues) (c .before .before .before .before .before .before .before .before .before .before .args .p) (t .0)) x) (depth-or (getD (x .depths) v none)) (popped (c .before .before .before .before .before) q x rep pw) (head-below q x _ _ _ v (t .0) rep pw (t .1)) (toZ-ofZ f ∙ read-is (c .before .before) q x rep pw m)
 
 add-load-below : tie.Need-add-load-below
 add-load-below c = search needs
@@ -75,7 +75,7 @@ same-length c = search needs
 
 returns : tie.Need-returns
 unfolding Turn-says
-returns c = λ q x rep paid whole pw. turn-idle q x _ _ (c .before .before .before .args .p) rep _ refl (head-is q x _ _ _ rep pw _ (c .before .load-below .ensures .0) ∙ c .if1 .taken)
+returns c = λ q x rep m whole pw. turn-idle q x _ _ (c .before .before .before .args .p) rep _ refl (head-is q x _ _ _ rep pw _ (c .before .load-below .ensures .0) ∙ c .if1 .taken)
 
 sub-v : tie.Need-sub-v
 sub-v c = let s = c .before .before .before .pre in
@@ -103,8 +103,8 @@ scan-requires c κs = let s = c .before .before .before .before .before .before 
       depth = depth-or (getD (s .state .depths) v none);
       rep = popped (c .before .before .before .before) (s .case) (s .state) (s .rep) (s .worker);
       below = head-below (s .case) (s .state) _ _ _ v (t .0) (s .rep) (s .worker) (t .1);
-      is = toZ-ofZ f ∙ read-is (c .before) (s .case) (s .state) (s .rep) (s .worker) (s .paid);
-      low = depth-low (s .case) (s .state) _ v (t .0) (s .rep .held .laid .sound) (s .rep .held .laid .within) (s .paid) (s .whole) (t .1);
+      is = toZ-ofZ f ∙ read-is (c .before) (s .case) (s .state) (s .rep) (s .worker) (s .moment);
+      low = depth-low (s .case) (s .state) _ v (t .0) (s .rep .held .laid .sound) (s .rep .held .laid .within) (s .moment) (s .whole) (t .1);
     }
 
 counted-requires : tie.Need-counted-requires
@@ -113,9 +113,9 @@ counted-requires c κs = let s = c .before .before .before .before .before .befo
     let t = split (c .before .before .before .before .before .before .before .before) (s .case) (s .state) (s .rep) (s .worker) in
     omega (
       arith,
-      done (c .before) (s .case) (s .state) (s .rep) (s .worker) (s .paid) .counted .acts,
+      done (c .before) (s .case) (s .state) (s .rep) (s .worker) (s .moment) .counted .acts,
       scan-count (s .case) v (depth-or (getD (s .state .depths) v none)) (with-queues (set (s .state .queues) (c .before .before .before .before .before .before .before .before .before .before .before .args .p) (t .0)) (s .state)),
-      count-small (s .case) (s .state) (s .rep .held .laid .sound) (s .rep .held .laid .within) (s .paid),
+      count-small (s .case) (s .state) (s .rep .held .laid .sound) (s .rep .held .laid .within) (s .moment),
     )
 
 same-length-2 : tie.Need-same-length-2
@@ -123,9 +123,9 @@ same-length-2 c = search needs
 
 returns-2 : tie.Need-returns-2
 unfolding Turn-says
-returns-2 c = λ q x rep paid whole pw.
+returns-2 c = λ q x rep m whole pw.
     let t = split (c .before .before .before .before .before .before .before .before .before) q x rep pw in
-    rw (c .counted .ensures, turn-is q x (c .before .before .before .before .before .before .before .before .before .before .before .before .args .p) (c .before .before .before .before .before .before .before .before .before .before .load-below .result - 2) (t .0) (t .1)) (counted-rep q _ _ _ (done (c .before .before) q x rep pw paid))
+    rw (c .counted .ensures, turn-is q x (c .before .before .before .before .before .before .before .before .before .before .before .before .args .p) (c .before .before .before .before .before .before .before .before .before .before .load-below .result - 2) (t .0) (t .1)) (counted-rep q _ _ _ (done (c .before .before) q x rep pw m))
 
 pub turn-spec : {M : Type 1} → statement M
 turn-spec =
