@@ -10,11 +10,13 @@ use lib.ListN.{length, getD}
 use Rattle.text.specs.Lines.{text, joined, fields, put-first}
 use Rattle.text.specs.Numbers as N
 use Rattle.model.specs.Graph.{edge}
-use Rattle.model.specs.Case.{Case}
-use Rattle.model.specs.Run.{State, distance}
+use Rattle.model.specs.Case.{Case, Sound, most-acts}
+use Rattle.model.specs.Run.{State, distance, by-list, by-rounds}
 use Rattle.model.specs.Answer as A
-use Rattle.model.proofs.Trace.{Traced}
+use Rattle.model.specs.Promise.{whole-rounds}
+use Rattle.model.proofs.Trace.{Traced, trace}
 use Rattle.model.proofs.Loops.{Alive, alive-parent, alive-up, back-alive, broken-alive, up-is}
+use Rattle.model.proofs.Kept.{runs-kept}
 use Rattle.first_draft.specs.File as D
 use Rattle.first_draft.specs.Run as O
 use Rattle.first_draft.specs.Answer as B
@@ -172,16 +174,16 @@ module _ (c : Case) (x : State) (t : ℕ → ℕ) (T : ℕ) (a : Traced c x t T)
       at : B.broken-at (x .broken) ≡ b
       at = unfold B.broken-at in (rw h refl)
 
-  cycle-same : (b : ℕ) → x .broken ≡ some b → B.cycle (old-case c) (old-state x) ≡ A.cycle (c .graph) (x .parents) b
+  pub cycle-same : (b : ℕ) → x .broken ≡ some b → B.cycle (old-case c) (old-state x) ≡ A.cycle (c .graph) (x .parents) b
   unfolding B.cycle A.cycle old-case old-state
   cycle-same b h = ap (λ (s : ℕ). B.cycle-from (c .graph .vertices) (old-case c) (old-state x) s s []) (broken-same b h)
       ∙ cycle-from-same (c .graph .vertices) (A.cycle-start (c .graph) (x .parents) b) (A.cycle-start (c .graph) (x .parents) b) [] (unfold A.cycle-start in (back-alive (c .graph .vertices) (c .graph) (x .parents) b (broken-alive c x t T a b h)))
 
-  stem-same : (b : ℕ) → x .broken ≡ some b → B.stem (old-case c) (old-state x) ≡ A.stem (c .graph) (A.cycle-start (c .graph) (x .parents) b)
+  pub stem-same : (b : ℕ) → x .broken ≡ some b → B.stem (old-case c) (old-state x) ≡ A.stem (c .graph) (A.cycle-start (c .graph) (x .parents) b)
   unfolding B.stem A.stem old-case old-state
   stem-same b h = ap (λ (s : ℕ). B.stem-from (c .graph .vertices) 0 (old-case c) s) (broken-same b h) ∙ stem-from-same (c .graph .vertices) 0 c (A.cycle-start (c .graph) (x .parents) b)
 
-  pub answer-same : B.answer (old-case c) (old-state x) ≡ A.answer (c .graph) x
+  answer-same : B.answer (old-case c) (old-state x) ≡ A.answer (c .graph) x
   unfolding B.answer A.answer old-case old-state
   answer-same = go (x .broken) refl
     where
@@ -194,3 +196,10 @@ module _ (c : Case) (x : State) (t : ℕ → ℕ) (T : ℕ) (a : Traced c x t T)
       go : (o : Option ℕ) → x .broken ≡ o → cond (O.is-some o) lasso empty ≡ A.answer-of (c .graph) o (x .parents) (x .depths)
       go none h = unfold O.is-some A.answer-of in (empty-same (x .depths))
       go (some b) h = unfold O.is-some A.answer-of in (rw (stem-same b h, cycle-same b h) (lasso-same (A.stem (c .graph) (A.cycle-start (c .graph) (x .parents) b)) (A.cycle (c .graph) (x .parents) b)))
+
+-- of every run of a sound case
+pub list-answer-same : (c : Case) (ok : Sound c) (xs : List ℕ) → B.answer (old-case c) (old-state (by-list c xs)) ≡ A.answer (c .graph) (by-list c xs)
+list-answer-same c ok xs = let t = trace c ok xs in answer-same c (by-list c xs) (t .t) (t .T) (t .traced)
+
+pub rounds-answer-same : (c : Case) (ok : Sound c) → B.answer (old-case c) (old-state (by-rounds c)) ≡ A.answer (c .graph) (by-rounds c)
+rounds-answer-same c ok = subst (λ (x : State). B.answer (old-case c) (old-state x) ≡ A.answer (c .graph) x) (sym (runs-kept c ok .rounds-listed (most-acts c) (omega arith))) (list-answer-same c ok (whole-rounds (most-acts c) c))

@@ -114,7 +114,7 @@ unfolding F.first-of F.refuse
 first-refuse true k ks = rw (ne-eqb (suc k) 0 (λ e. omega arith)) refl
 first-refuse false k ks = refl
 
-first-last : (k : ℕ) → F.first-of (k ∷ []) ≡ k
+pub first-last : (k : ℕ) → F.first-of (k ∷ []) ≡ k
 unfolding F.first-of
 first-last zero = refl
 first-last (suc k) = rw (ne-eqb (suc k) 0 (λ e. omega arith)) refl

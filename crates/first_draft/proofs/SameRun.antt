@@ -41,7 +41,7 @@ from-same c e l = ap (λ (f : D.Edge). f .from) (edge-same c e l) ∙ (unfold ol
 pub to-same : (c : Case) (e : ℕ) → e < length (c .graph .edges) → O.edge (old-case c) e .to ≡ edge (c .graph) e .to
 to-same c e l = ap (λ (f : D.Edge). f .to) (edge-same c e l) ∙ (unfold old-edge in refl)
 
-step-same : (c : Case) (e : ℕ) → e < length (c .graph .edges) → O.step-down (old-case c) e ≡ edge-depth (c .graph) e
+pub step-same : (c : Case) (e : ℕ) → e < length (c .graph .edges) → O.step-down (old-case c) e ≡ edge-depth (c .graph) e
 unfolding O.step-down edge-depth old-case
 step-same c e l = ap (λ (v : ℕ). getD (c .graph .accepting) v 0) (from-same c e l)
 
@@ -172,7 +172,7 @@ delivery-same c e (some d) x b l = ap O.counted (emptied ∙ relax-same c e d (R
     emptied : O.try (old-case c) e d (O.with-cell (old-state x) e none) ≡ O.try (old-case c) e d (old-state (R.with-cells (set (x .cells) e none) x))
     emptied = unfold O.with-cell old-state in refl
 
-over-same : (x : R.State) → O.over (old-state x) ≡ R.has-ended x
+pub over-same : (x : R.State) → O.over (old-state x) ≡ R.has-ended x
 unfolding O.over R.has-ended R.ended-lasso old-state
 over-same x = rw (some-same (x .broken)) refl
 
@@ -191,7 +191,7 @@ unfolding O.acted R.acted
 acted-same c ok [] x p = refl
 acted-same c ok (a ∷ xs) x p = ap (O.acted (old-case c) xs) (act-same c ok a x (p .shape)) ∙ acted-same c ok xs (R.act c a x) (act-keeps c (Paid c) (paid-acts c ok) a x p)
 
-fresh-same : (c : Case) → O.fresh (old-case c) ≡ old-state (R.fresh c)
+pub fresh-same : (c : Case) → O.fresh (old-case c) ≡ old-state (R.fresh c)
 unfolding O.fresh R.fresh old-state old-case owner
 fresh-same c = rw (many-same c, owner-same c (c .graph .source)) refl
 
@@ -205,7 +205,7 @@ unfolding O.numbers R.range
 numbers-same zero i = refl
 numbers-same (suc k) i = ap (λ (l : List ℕ). i ∷ l) (numbers-same k (suc i))
 
-list-same : (c : Case) → O.numbers (old-case c .workers + length (old-case c .edges)) 0 ≡ R.round-acts c
+pub list-same : (c : Case) → O.numbers (old-case c .workers + length (old-case c .edges)) 0 ≡ R.round-acts c
 unfolding R.round-acts old-case
 list-same c = rw (edges-many (c .graph .edges)) (numbers-same (c .workers + length (c .graph .edges)) 0)
 
@@ -223,7 +223,7 @@ rounds-same (suc k) c ok x p = rw (over-same x, round-same c ok x p) (go (R.has-
     go true ih = refl
     go false ih = ih
 
-most-same : (c : Case) → O.most-acts (old-case c) ≡ most-acts c
+pub most-same : (c : Case) → O.most-acts (old-case c) ≡ most-acts c
 unfolding O.most-acts most-acts old-case
 most-same c =
     let z : suc (O.A-of (old-case c)) ≡ accepting-count (c .graph) + 1 = omega (arith, marked) in
@@ -232,6 +232,10 @@ most-same c =
     marked : O.A-of (old-case c) ≡ accepting-count (c .graph)
     marked = unfold O.A-of accepting-count old-case in (total-same (c .graph .accepting))
 
+-- so many rounds of a fresh run, ended by then or not
+pub rounds-fresh-same : (k : ℕ) (c : Case) (ok : Sound c) → O.rounds k (old-case c) (O.fresh (old-case c)) ≡ old-state (R.rounds k c (R.fresh c))
+rounds-fresh-same k c ok = rw (fresh-same c) (rounds-same k c ok (R.fresh c) (fresh-paid c ok))
+
 pub by-rounds-same : (c : Case) (ok : Sound c) → O.rounds (O.most-acts (old-case c)) (old-case c) (O.fresh (old-case c)) ≡ old-state (R.by-rounds c)
 unfolding R.by-rounds
-by-rounds-same c ok = rw (most-same c, fresh-same c) (rounds-same (most-acts c) c ok (R.fresh c) (fresh-paid c ok))
+by-rounds-same c ok = rw (most-same c) (rounds-fresh-same (most-acts c) c ok)
