@@ -148,7 +148,7 @@ unfolding P.run
 of-run T bs xs e f = of-sound (λ d. T d (O.acted d xs (O.fresh d))) bs e (λ c ok w. subst (λ (y : O.Running). T (old-case c) y) (sym (by-list-same c ok xs)) (f c ok w))
 
 ended : (c : C.Case) (xs : List ℕ) → O.over (old-state (R.by-list c xs)) ≡ true → M.Ended c (R.by-list c xs)
-ended c xs o = record { ended = sym (over-same (R.by-list c xs)) ∙ o; run = inl (xs, refl) }
+ended c xs o = record { ended = sym (over-same (R.by-list c xs)) ∙ o; run = inl (record { acts = xs; is = refl }) }
 
 pub finds : P.Finds
 unfolding P.Finds
