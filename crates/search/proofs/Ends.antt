@@ -124,8 +124,8 @@ module _ {c : Case} {x : State} {k : Run} {n s : ℕ} {w : List ℤ} {o : List �
   finished u e a z l = rw (over-is c x k w (g .rep) ∙ e) (record { refusal = refl; verdict = verdict-is; acts = g .rep .counted .acts; written = a .written; output = a .output; work = zeros-kept u _ z l })
 
 -- THE FUNCTIONS of src/finish.rt: the lasso is shown, then written
-pub lasso-none : (k : Run) {n s r : ℕ} {w : List ℤ} {o z : List ℕ} → k .broken ≡ 0 → Lasso-done k n s r w o z
-lasso-none k e = record { answers = λ c x b g h. absurd (omega (arith, g .rep .counted .broke ∙ ap more h)) }
+pub above-none : (k : ℕ) → (k ≡ 0 → ⊥) → 1 ≤ k
+above-none k n = omega (arith, n)
 
 module _ {c : Case} {x : State} {k : Run} {n s : ℕ} {w : List ℤ} {o : List ℕ} (g : Gone c x k n s w o) (broken : k .broken ≡ 0 → ⊥) where
   pub asked-shown : Showable (k .broken - 1) s n w

@@ -29,7 +29,7 @@ use Rattle.casefile.proofs.Refusals.{first-decides, first-one}
 use Rattle.casefile.proofs.Whole.{turned, taken}
 use Rattle.casefile.proofs.Tables.{held}
 use Rattle.search.specs.Rep.{Rep}
-use Rattle.search.specs.Asks.{Begin-asks, Begin-says, List-asks, List-done, By-rounds-asks, By-rounds-says}
+use Rattle.search.specs.Asks.{Fresh-asks, Fresh-says, List-asks, List-done, By-rounds-asks, By-rounds-says}
 use Rattle.search.specs.Loading.{Load-asks, Load-says}
 use Rattle.search.specs.Finish.{Gone, Answer-asks, Finish-says}
 use Rattle.search.specs.Entries.{refused-by, load-refusal, Case-laid, Loads}
@@ -211,12 +211,12 @@ module _ (s xs : List ℕ) (c : Case) (marks : ℕ) (w w₁ : List ℤ) (l : Cas
   ok : Sound (case-in s)
   ok = sound-in s (l .taken)
 
-  pub begin-asks : Begin-asks (c .source) marks w₁
-  begin-asks = record { case = case-in s; laid = l .laid; starts = source; counts = l .counted }
+  pub fresh-asks : Fresh-asks (c .source) marks w₁
+  fresh-asks = record { case = case-in s; laid = l .laid; starts = source; counts = l .counted }
 
-  module _ (k₂ : Run) (w₂ : List ℤ) (b : Begin-says (c .source) marks k₂ w₁ w₂) where
+  module _ (k₂ : Run) (w₂ : List ℤ) (b : Fresh-says (c .source) marks k₂ w₁ w₂) where
     begun : Rep (case-in s) (fresh (case-in s)) k₂ w₂
-    unfolding Begin-says
+    unfolding Fresh-says
     begun = b (case-in s) (l .laid) source (l .counted)
 
     pub rounds-asks : By-rounds-asks (c .workers) (c .vertices) (c .edges) k₂ w₂

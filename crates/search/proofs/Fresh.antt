@@ -14,7 +14,7 @@ use Rattle.model.proofs.Tools.{getD-replicate-same}
 use Rattle.search.specs.declared.run.Run.{Run}
 use Rattle.search.specs.Cells.{Region, Filled, far, by-more, distance-at, parent-at, link-at, message-at, head-at, tail-at}
 use Rattle.search.specs.Rep.{Laid, Table, Lined, Rep, busy, one-if, tally}
-use Rattle.search.specs.Asks.{blank-run}
+use Rattle.search.specs.Asks.{blank, blank-run}
 use Rattle.search.proofs.Stores.{held-depth}
 
 region-same : {A : Type 0} (code : A → ℤ) (d : A) (base : ℕ) (l : List A) (w v : List ℤ) → Region code d base l w → ((i : ℕ) → i < length l → getD v (base + i) (pos 0) ≡ getD w (base + i) (pos 0)) → Region code d base l v
@@ -59,43 +59,37 @@ lined-blank c =
     never : (v : ℕ) → member v [] ≡ true → ⊥
     never v m = let e = sym m ∙ no-member v in let y : _≡_ {A = ℕ} 0 1 = cc in omega arith
 
--- nothing has a distance, a parent, a message or a place in a queue
-abbrev pub blank : Case → State
-blank c =
-    record {
-      depths = replicate (c .graph .vertices) none;
-      parents = replicate (c .graph .vertices) none;
-      queues = replicate (c .workers) [];
-      cells = replicate (length (c .graph .edges)) none;
-      broken = none;
-      ended-empty = false;
-      count = 0;
-    }
+module _ (c : Case) (w w1 w2 w3 w4 w5 w6 : List ℤ) (laid : Laid c w) (f1 : Filled distance-at most-vertices (pos 1) w w1) (f2 : Filled parent-at most-vertices (pos 0) w1 w2)
+    (f3 : Filled link-at most-vertices (pos 0) w2 w3) (f4 : Filled message-at most-edges (pos 1) w3 w4) (f5 : Filled head-at most-workers (pos 1) w4 w5) (f6 : Filled tail-at most-workers (pos 0) w5 w6) where
+  -- a cell before a table is as it was before the table was filled
+  before-heads : (j : ℕ) → j < head-at → getD w6 j (pos 0) ≡ getD w4 j (pos 0)
+  before-heads j h = f6 .before j (omega arith) ∙ f5 .before j h
 
-module _ (c : Case) (w w1 w2 w3 w4 w5 : List ℤ) (laid : Laid c w) (f1 : Filled distance-at most-vertices (pos 1) w w1) (f2 : Filled parent-at (most-vertices + most-vertices) (pos 0) w1 w2)
-    (f3 : Filled message-at most-edges (pos 1) w2 w3) (f4 : Filled head-at most-workers (pos 1) w3 w4) (f5 : Filled tail-at most-workers (pos 0) w4 w5) where
-  kept : (j : ℕ) → j < distance-at → getD w5 j (pos 0) ≡ getD w j (pos 0)
-  kept j h = f5 .before j (omega arith) ∙ f4 .before j (omega arith) ∙ f3 .before j (omega arith) ∙ f2 .before j (omega arith) ∙ f1 .before j h
+  before-links : (j : ℕ) → j < link-at → getD w6 j (pos 0) ≡ getD w2 j (pos 0)
+  before-links j h = before-heads j (omega arith) ∙ f4 .before j (omega arith) ∙ f3 .before j h
 
-  laid-still : Laid c w5
+  kept : (j : ℕ) → j < distance-at → getD w6 j (pos 0) ≡ getD w j (pos 0)
+  kept j h = before-links j (omega arith) ∙ f2 .before j (omega arith) ∙ f1 .before j h
+
+  laid-still : Laid c w6
   laid-still =
       let s = laid .sound in
       let l = laid .within in
       record {
         sound = s;
         within = l;
-        long = omega (arith, laid .long, f1 .long, f2 .long, f3 .long, f4 .long, f5 .long);
+        long = omega (arith, laid .long, f1 .long, f2 .long, f3 .long, f4 .long, f5 .long, f6 .long);
         first = laid .first;
         firsts = laid .firsts;
-        mark-cells = region-same _ _ _ _ w w5 (laid .mark-cells) (λ i h. kept _ (omega (arith, s .marks, l .vertices)));
-        owner-cells = region-same _ _ _ _ w w5 (laid .owner-cells) (λ i h. kept _ (omega (arith, s .owned, l .vertices)));
-        from-cells = region-same _ _ _ _ w w5 (laid .from-cells) (λ i h. kept _ (omega (arith, l .edges)));
-        to-cells = region-same _ _ _ _ w w5 (laid .to-cells) (λ i h. kept _ (omega (arith, l .edges)));
-        first-cells = region-same _ _ _ _ w w5 (laid .first-cells) (λ i h. kept _ (omega (arith, laid .firsts .sized, l .vertices)));
+        mark-cells = region-same _ _ _ _ w w6 (laid .mark-cells) (λ i h. kept _ (omega (arith, s .marks, l .vertices)));
+        owner-cells = region-same _ _ _ _ w w6 (laid .owner-cells) (λ i h. kept _ (omega (arith, s .owned, l .vertices)));
+        from-cells = region-same _ _ _ _ w w6 (laid .from-cells) (λ i h. kept _ (omega (arith, l .edges)));
+        to-cells = region-same _ _ _ _ w w6 (laid .to-cells) (λ i h. kept _ (omega (arith, l .edges)));
+        first-cells = region-same _ _ _ _ w w6 (laid .first-cells) (λ i h. kept _ (omega (arith, laid .firsts .sized, l .vertices)));
       }
 
-  pub rep-blank : (a : ℕ) → a ≡ accepting-count (c .graph) → Rep c (blank c) (blank-run a) w5
-  rep-blank a e =
+  pub rep-blank : Rep c (blank c) (blank-run (accepting-count (c .graph))) w6
+  rep-blank =
       let l = laid .within in
       let n = c .graph .vertices in
       record {
@@ -104,14 +98,12 @@ module _ (c : Case) (w w1 w2 w3 w4 w5 : List ℤ) (laid : Laid c w) (f1 : Filled
         tails = replicate (c .workers) 0;
         held = record {
           laid = laid-still;
-          depths = table-blank far none none distance-at n w5
-              (λ i h. f5 .before _ (omega arith) ∙ f4 .before _ (omega arith) ∙ f3 .before _ (omega arith) ∙ f2 .before _ (omega arith) ∙ f1 .inside _ (omega arith) (omega arith));
-          parents = table-blank by-more none none parent-at n w5
-              (λ i h. f5 .before _ (omega arith) ∙ f4 .before _ (omega arith) ∙ f3 .before _ (omega arith) ∙ f2 .inside _ (omega arith) (omega arith));
-          links = table-blank pos 0 0 link-at n w5 (λ i h. f5 .before _ (omega arith) ∙ f4 .before _ (omega arith) ∙ f3 .before _ (omega arith) ∙ f2 .inside _ (omega arith) (omega arith));
-          cells = table-blank far none none message-at (length (c .graph .edges)) w5 (λ i h. f5 .before _ (omega arith) ∙ f4 .before _ (omega arith) ∙ f3 .inside _ (omega arith) (omega arith));
-          heads = table-blank pos 0 1 head-at (c .workers) w5 (λ i h. f5 .before _ (omega arith) ∙ f4 .inside _ (omega arith) (omega arith));
-          tails = table-blank pos 0 0 tail-at (c .workers) w5 (λ i h. f5 .inside _ (omega arith) (omega arith));
+          depths = table-blank far none none distance-at n w6 (λ i h. before-links _ (omega arith) ∙ f2 .before _ (omega arith) ∙ f1 .inside _ (omega arith) (omega arith));
+          parents = table-blank by-more none none parent-at n w6 (λ i h. before-links _ (omega arith) ∙ f2 .inside _ (omega arith) (omega arith));
+          links = table-blank pos 0 0 link-at n w6 (λ i h. before-heads _ (omega arith) ∙ f4 .before _ (omega arith) ∙ f3 .inside _ (omega arith) (omega arith));
+          cells = table-blank far none none message-at (length (c .graph .edges)) w6 (λ i h. before-heads _ (omega arith) ∙ f4 .inside _ (omega arith) (omega arith));
+          heads = table-blank pos 0 1 head-at (c .workers) w6 (λ i h. f6 .before _ (omega arith) ∙ f5 .inside _ (omega arith) (omega arith));
+          tails = table-blank pos 0 0 tail-at (c .workers) w6 (λ i h. f6 .inside _ (omega arith) (omega arith));
         };
         lined = lined-blank c;
         counted = record {
@@ -119,7 +111,7 @@ module _ (c : Case) (w w1 w2 w3 w4 w5 : List ℤ) (laid : Laid c w) (f1 : Filled
           full = sym (tally-none one-if none (length (c .graph .edges)) one-none);
           acts = refl;
           broke = refl;
-          marks = e;
+          marks = refl;
           over = refl;
         };
       }

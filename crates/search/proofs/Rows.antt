@@ -11,6 +11,7 @@ use lib.Seq.{take-suc, take-all, length-take-le}
 use Rattle.text.specs.Ascii.{ascii}
 use Rattle.text.specs.Lines.{put-first, fields, joined, text}
 use Rattle.text.specs.Numbers.{digits, decimal, signed-decimal}
+use Rattle.model.specs.Case.{known-version}
 use Rattle.model.specs.Run.{distance}
 use Rattle.model.specs.Answer.{answer-names, lasso-names, empty-names, lasso-word, empty-word, head-row, edge-rows, lasso-text, vertex-rows, empty-text}
 use Rattle.search.specs.Writing.{head-text}
@@ -106,7 +107,7 @@ head-joined : (w s a b r t : List ℕ) → w ++ s ++ (a ++ s) ++ (b ++ s) ++ (r 
 head-joined w s a b r t = simp append-assoc
 
 pub head-parts : (w : List ℕ) (s k r : ℕ)
-    → ascii "version verdict stem cycle reached\n1 " ++ w ++ (32 ∷ []) ++ (decimal s ++ (32 ∷ [])) ++ (decimal k ++ (32 ∷ [])) ++ (decimal r ++ (10 ∷ [])) ≡ head-text w s k r
+    → ascii "version verdict stem cycle reached\n" ++ (decimal known-version ++ (32 ∷ [])) ++ w ++ (32 ∷ []) ++ (decimal s ++ (32 ∷ [])) ++ (decimal k ++ (32 ∷ [])) ++ (decimal r ++ (10 ∷ [])) ≡ head-text w s k r
 unfolding head-text text joined fields put-first head-row
 head-parts w s k r =
     rw decimal-one (ap (λ (l : List ℕ). ascii "version verdict stem cycle reached\n1 " ++ l) (head-joined w (32 ∷ []) (decimal s) (decimal k) (decimal r) (10 ∷ [])))

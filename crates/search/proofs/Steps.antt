@@ -11,15 +11,16 @@ use borrow.Author.Tests.{eq-eqb, ne-eqb}
 use lib.Dec.{ltb}
 use lib.ListN.{length, getD, set}
 use lib.Seq.{set-getD}
-use lib.IntN.{ℤ, pos, negℤ, _-ℤ_, negℤ-+ℤ, pos-+ℤ-pos}
+use lib.IntN.{ℤ, pos, negℤ, _+ℤ_, negℤ-+ℤ, pos-+ℤ-pos}
 use lib.Signed.{mag}
-use Rattle.model.specs.Graph.{edge, edge-depth, mark, accepting-count}
+use Rattle.model.specs.Graph.{edge, edge-depth, edge-length, mark, accepting-count}
 use Rattle.model.specs.Case.{Case, owner, most-vertices, most-workers}
 use Rattle.model.specs.Run.{State, is-some, ended-lasso, with-queues, takes, member, enqueue, below-floor, relax, lower, send, scan-edge}
 use Rattle.model.proofs.Tools.{member-first}
 use Rattle.search.specs.declared.run.Run.{Run}
 use Rattle.search.specs.Cells.{Below, more, accepting-at, owner-at, to-at, distance-at, parent-at, link-at, message-at, head-at, tail-at}
 use Rattle.search.specs.Rep.{Table, Laid, Rep, link, busy, one-if}
+use Rattle.search.specs.Asks.{Length-is}
 use Rattle.search.proofs.Stores.{there, held-depth, held-parent, held-link, held-cell, held-head, held-tail}
 use Rattle.search.proofs.Queues.{join-first, join-next, leave, chain-marked, true-or, link-one, link-low, links-low, last-below}
 use Rattle.search.proofs.Numbers.{tally-set, busy-snoc}
@@ -43,8 +44,11 @@ module _ (c : Case) (w : List ℤ) (v : ℕ) (laid : Laid c w) (below : v < c .g
   unfolding owner
   owner-is p e = let z : pos (owner c v) ≡ pos p = sym (laid .owner-cells .each v (omega (arith, laid .sound .owned))) ∙ e in cc
 
-  pub mark-is : getD w (accepting-at + v) (pos 0) ≡ pos (mark (c .graph) v)
-  mark-is = laid .mark-cells .each v (omega (arith, laid .sound .marks))
+  pub mark-there : Below 2 (getD w (accepting-at + v) (pos 0))
+  mark-there = record { number = mark (c .graph) v; is = laid .mark-cells .each v (omega (arith, laid .sound .marks)); less = laid .sound .mark v below }
+
+  pub mark-is : (m : ℕ) → getD w (accepting-at + v) (pos 0) ≡ pos m → mark (c .graph) v ≡ m
+  mark-is m e = let z : pos (mark (c .graph) v) ≡ pos m = sym (laid .mark-cells .each v (omega (arith, laid .sound .marks))) ∙ e in cc
 
 -- PUSH
 none-busy : busy [] ≡ 0
@@ -344,10 +348,15 @@ module _ (c : Case) (x : State) (e v o : ℕ) (whole : x .broken ≡ none) (from
   unfolding scan-edge ended-lasso
   edge-other p = rw (is-none (x .broken) whole, eq-eqb (edge (c .graph) e .from) v from, ne-eqb (owner c (edge (c .graph) e .to)) (owner c v) p)
 
--- a distance lowered by a mark
-pub lowered-is : (o b : ℕ) → negℤ (pos o) -ℤ pos b ≡ negℤ (pos (o + b))
+-- a distance and a length
+pub lowered-is : (o b : ℕ) → negℤ (pos o) +ℤ negℤ (pos b) ≡ negℤ (pos (o + b))
 lowered-is o b = sym (negℤ-+ℤ (pos o) (pos b)) ∙ ap negℤ (pos-+ℤ-pos o b)
 
 pub mag-neg : (o : ℕ) → mag (negℤ (pos o)) ≤ o
 mag-neg zero = omega arith
 mag-neg (suc o) = omega arith
+
+-- the length of an edge, by the mark alone: of an edge that a graph of one vertex has
+pub length-of : (m : ℕ) (r : ℤ) → Length-is m r → r ≡ negℤ (pos m)
+unfolding Length-is edge-length edge-depth edge
+length-of m r l = l (record { vertices = 1; source = 0; accepting = m ∷ []; edges = record { from = 0; to = 0 } ∷ [] }) 0 refl

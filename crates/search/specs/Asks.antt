@@ -5,14 +5,14 @@ use mathlib.Core.List.{List, [], _∷_}
 use mathlib.Core.Option.{none, some}
 use Prim.Native.Nat.{ℕ, _+_, _-_, _≤_, _<_}
 use lib.Dec.{eqb}
-use lib.ListN.{length, getD, set}
+use lib.ListN.{length, getD, set, replicate}
 use lib.IntN.{ℤ, pos, negℤ}
-use Rattle.model.specs.Graph.{edge, edge-depth, accepting-count}
+use Rattle.model.specs.Graph.{Graph, edge, mark, edge-depth, edge-length, accepting-count}
 use Rattle.model.specs.Case.{Case, owner, most-vertices}
 use Rattle.model.specs.Run.{State, fresh, with-queues, enqueue, send, relax, scan-edge, scan, no-message, turn, delivery, act, acted, range, round-acts, rounds, by-rounds, Moment}
 use Rattle.search.specs.declared.run.Run.{Run}
 use Rattle.search.specs.declared.rounds.Turned.{Turned}
-use Rattle.search.specs.Rep.{Firsts, Laid, Rep}
+use Rattle.search.specs.Rep.{Firsts, Laid, coded, Rep}
 
 -- PUSH: a vertex joins the tail of its owner's queue unless it is there
 pub record Push-asks (v : ℕ) (k : Run) (w : List ℤ) : Type 0 where
@@ -122,18 +122,49 @@ unfoldable pub Act-says : (a p : ℕ) → (k k′ : Run) → (w w′ : List ℤ)
 Act-says a p k k′ w w′ =
     (c : Case) (x : State) → Rep c x k w → Moment c x → p ≡ c .workers → a < p + length (c .graph .edges) → Rep c (act c a x) k′ w′
 
--- A FRESH RUN
-pub record Begin-asks (source marks : ℕ) (w : List ℤ) : Type 0 where
+-- LENGTHS: r is the length of each edge that leaves a vertex of this mark
+unfoldable pub Length-is : (mark : ℕ) → (r : ℤ) → Type 0
+Length-is m r = (g : Graph) (e : ℕ) → mark g (edge g e .from) ≡ m → r ≡ edge-length g e
+
+-- what a vertex v at the distance d, which is not below the floor, offers along its edges
+pub record Offered-asks (v : ℕ) (d : ℤ) (w : List ℤ) : Type 0 where
+  pub case : Case
+  pub depth : ℕ
+  pub laid : Laid case w
+  pub below : v < case .graph .vertices
+  pub is : d ≡ negℤ (pos depth)
+  pub low : depth ≤ most-vertices
+
+unfoldable pub Offered-is : (v : ℕ) → (d r : ℤ) → (w : List ℤ) → Type 0
+Offered-is v d r w = (c : Case) (o : ℕ) → Laid c w → v < c .graph .vertices → d ≡ negℤ (pos o) → r ≡ negℤ (pos (o + mark (c .graph) v))
+
+-- A FRESH RUN. Before the source has its distance and its place: nothing has a distance, a parent, a message or a place in a queue
+abbrev pub blank : Case → State
+blank c =
+    record {
+      depths = replicate (c .graph .vertices) none;
+      parents = replicate (c .graph .vertices) none;
+      queues = replicate (c .workers) [];
+      cells = replicate (length (c .graph .edges)) none;
+      broken = none;
+      ended-empty = false;
+      count = 0;
+    }
+
+abbrev pub blank-run : (marks : ℕ) → Run
+blank-run a = record { queued = 0; full = 0; acts = 0; broken = 0; marks = a; ended = false }
+
+unfoldable pub Blank-says : (w w′ : List ℤ) → Type 0
+Blank-says w w′ = (c : Case) → Laid c w → Rep c (blank c) (blank-run (accepting-count (c .graph))) w′
+
+pub record Fresh-asks (source marks : ℕ) (w : List ℤ) : Type 0 where
   pub case : Case
   pub laid : Laid case w
   pub starts : source ≡ case .graph .source
   pub counts : marks ≡ accepting-count (case .graph)
 
-unfoldable pub Begin-says : (source marks : ℕ) → (k′ : Run) → (w w′ : List ℤ) → Type 0
-Begin-says s a k′ w w′ = (c : Case) → Laid c w → s ≡ c .graph .source → a ≡ accepting-count (c .graph) → Rep c (fresh c) k′ w′
-
-abbrev pub blank-run : (marks : ℕ) → Run
-blank-run a = record { queued = 0; full = 0; acts = 0; broken = 0; marks = a; ended = false }
+unfoldable pub Fresh-says : (source marks : ℕ) → (k′ : Run) → (w w′ : List ℤ) → Type 0
+Fresh-says s a k′ w w′ = (c : Case) → Laid c w → s ≡ c .graph .source → a ≡ accepting-count (c .graph) → Rep c (fresh c) k′ w′
 
 -- A LIST OF ACTS, of any length
 pub record List-asks (p : ℕ) (acts : List ℕ) (k : Run) (w : List ℤ) : Type 0 where
@@ -166,13 +197,13 @@ pub record Among (l : List ℕ) (many h : ℕ) : Type 0 where
 
 -- each message stands on an edge of a vertex that is among the first of a list, coded as in a head's cell
 unfoldable pub Only : Case → (heads : List ℕ) → (many : ℕ) → State → Type 0
-Only c H k x = (e d : ℕ) → getD (x .cells) e none ≡ some d → Among H k (edge (c .graph) e .from + 2)
+Only c H k x = (e d : ℕ) → getD (x .cells) e none ≡ some d → Among H k (coded (edge (c .graph) e .from))
 
 -- the first of a list rise and are vertices, coded so
 pub record Listed (n : ℕ) (heads : List ℕ) (many : ℕ) : Type 0 where
   pub rising : (i j : ℕ) → i < j → j < many → getD heads i 0 < getD heads j 0
-  pub low : (j : ℕ) → j < many → 2 ≤ getD heads j 0
-  pub high : (j : ℕ) → j < many → getD heads j 0 < n + 2
+  pub low : (j : ℕ) → j < many → coded 0 ≤ getD heads j 0
+  pub high : (j : ℕ) → j < many → getD heads j 0 < coded n
 
 pub record Turns-ask (p : ℕ) (k : Run) (w : List ℤ) (size : ℕ) : Type 0 where
   pub case : Case

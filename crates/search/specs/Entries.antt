@@ -7,6 +7,7 @@ use lib.ListN.{length}
 use lib.IntN.{ℤ}
 use Rattle.model.specs.Graph.{accepting-count}
 use Rattle.model.specs.CaseFile.{first-of, case-refusal, accepted, case-in}
+use Rattle.model.specs.Answer.{no-verdict}
 use Rattle.model.specs.Entry.{any-at-or-above, acts-refusal}
 use Rattle.model.specs.declared.Outcome.{Outcome}
 use Rattle.casefile.specs.Judging.{header}
@@ -17,7 +18,7 @@ use Rattle.search.specs.Rep as rep
 
 -- "A refusal returns its number, answer length 0 and 0 acts"
 abbrev pub refused-by : (number : ℕ) → Outcome
-refused-by k = record { refusal = k; verdict = 0; acts = 0; written = 0 }
+refused-by k = record { refusal = k; verdict = no-verdict; acts = 0; written = 0 }
 
 -- LOADING: refusals 1 to 8, then 9, which change no cell
 unfoldable pub load-refusal : (case acts : List ℕ) → ℕ

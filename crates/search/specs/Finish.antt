@@ -9,7 +9,7 @@ use lib.ListN.{length}
 use lib.IntN.{ℤ}
 use Rattle.model.specs.Case.{Case, least-output}
 use Rattle.model.specs.Run.{State, has-ended, Moment}
-use Rattle.model.specs.Answer.{answer}
+use Rattle.model.specs.Answer.{empty-verdict, lasso-verdict, answer}
 use Rattle.model.specs.Entry.{Run-says}
 use Rattle.model.specs.declared.Outcome.{Outcome}
 use Rattle.search.specs.Rep.{Rep}
@@ -37,7 +37,7 @@ pub record Answer-done (k : Run) (n source r : ℕ) (w : List ℤ) (o z : List �
   pub answers : (c : Case) (x : State) → Gone c x k n source w o → has-ended x ≡ true → Answers (answer (c .graph) x) r o z
 
 abbrev pub verdict-of : Run → ℕ
-verdict-of k = cond (eqb (k .broken) 0) 2 1
+verdict-of k = cond (eqb (k .broken) 0) empty-verdict lasso-verdict
 
 -- the outcome and what is left in every buffer, as `Entry` says of a case without a refusal
 pub record Finish-says (k : Run) (n source : ℕ) (r : Outcome) (w v : List ℤ) (o z : List ℕ) : Type 0 where

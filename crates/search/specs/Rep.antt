@@ -63,10 +63,13 @@ pub record Held (c : Case) (t : Tables) (w : List ℤ) : Type 0 where
   pub heads : Table pos 0 head-at (c .workers) (t .heads) w
   pub tails : Table pos 0 tail-at (c .workers) (t .tails) w
 
--- QUEUES BY LINKS: a vertex's link is 0 if it is in no queue, 1 if it is the last, v + 2 if v is next; a worker's head is 1 if its queue is empty, else v + 2
+-- QUEUES BY LINKS: a vertex's link is 0 if it is in no queue, 1 if it is the last, else the next vertex, coded; a worker's head is 1 if its queue is empty, else its first vertex, coded
+abbrev pub coded : (v : ℕ) → ℕ
+coded v = v + 2
+
 abbrev pub link : List ℕ → ℕ
 link [] = 1
-link (v ∷ q) = v + 2
+link (v ∷ q) = coded v
 
 abbrev pub Chain : (links queue : List ℕ) → Type 0
 Chain N [] = Unit {0}

@@ -76,10 +76,13 @@ Less p q = Le q p → ⊥
 abbrev pub tip : Graph → List ℕ → ℕ
 tip g t = walk-end g (g .source) t
 
--- THE SEARCH TREE: the walks by which vertices were found, in the order in which they were, and by vertex 0 while it is not found, 1 for the source, else its walk's last edge and 2
+-- THE SEARCH TREE: the walks by which vertices were found, in the order in which they were, and by vertex 0 while it is not found, 1 for the source, else its walk's last edge, coded
+abbrev pub found-by : (e : ℕ) → ℕ
+found-by e = e + 2
+
 pub data Made (g : Graph) (ts : List (List ℕ)) (ms : List ℕ) (j : ℕ) : Type 0 where
   at-source : getD ts j [] ≡ [] → getD ms (g .source) 0 ≡ 1 → Made g ts ms j
-  by-edge : (i e : ℕ) → i < j → e < length (g .edges) → edge g e .from ≡ tip g (getD ts i []) → getD ts j [] ≡ getD ts i [] ++ (e ∷ []) → getD ms (edge g e .to) 0 ≡ e + 2 → Made g ts ms j
+  by-edge : (i e : ℕ) → i < j → e < length (g .edges) → edge g e .from ≡ tip g (getD ts i []) → getD ts j [] ≡ getD ts i [] ++ (e ∷ []) → getD ms (edge g e .to) 0 ≡ found-by e → Made g ts ms j
 
 pub record Tree (g : Graph) (ts : List (List ℕ)) (ms : List ℕ) : Type 0 where
   pub sized : length ms ≡ g .vertices

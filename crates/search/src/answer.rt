@@ -27,7 +27,8 @@ fn write_head(output: &mut [u8], verdict: &[u8], stem: usize, cycle: usize, reac
     requires { ⌜ (stem ≤ most-vertices) × (cycle ≤ most-vertices) × (reached ≤ most-vertices) ⌝ }
     ensures { λ r. ⌜ Puts 0 (head-text (now (verdict .entry)) stem cycle reached) r (now (output .entry)) (now (output .exit)) ⌝ }
 {
-    let mut at = write_bytes(output, 0, b"version verdict stem cycle reached\n1 ");
+    let mut at = write_bytes(output, 0, b"version verdict stem cycle reached\n");
+    at = write_field(output, at, Case::VERSION as usize, b' ');
     at = write_bytes(output, at, verdict);
     at = write_byte(output, at, b' ');
     at = write_field(output, at, stem, b' ');

@@ -43,6 +43,30 @@ impl Cells {
     pub const CYCLE: usize = Cells::STEM + Case::MOST_VERTICES;
 }
 
+// How the cells code what may be missing (specs/Cells.antt, specs/Rep.antt). A distance or a message that is not there is above
+// every one that is.
+pub(crate) const NO_DISTANCE: i32 = 1;
+
+// A parent edge, and the vertex that broke the floor: NONE, or its number and SOME.
+pub(crate) const NONE: usize = 0;
+
+pub(crate) const SOME: usize = 1;
+
+// A vertex's link: NOT_QUEUED, or QUEUE_END, or the next vertex and QUEUED. A worker's head: QUEUE_END, or the first vertex and
+// QUEUED.
+pub(crate) const NOT_QUEUED: usize = 0;
+
+pub(crate) const QUEUE_END: usize = 1;
+
+pub(crate) const QUEUED: usize = 2;
+
+// How the search for the stem found a vertex: NOT_FOUND, or AT_SOURCE, or the edge that found it and BY_EDGE.
+pub(crate) const NOT_FOUND: usize = 0;
+
+pub(crate) const AT_SOURCE: usize = 1;
+
+pub(crate) const BY_EDGE: usize = 2;
+
 // The signed number in a cell.
 pub(crate) fn load(work: &[i32], i: usize) -> i32
     requires { ⌜ i < length (now work) ⌝ }

@@ -4,6 +4,8 @@ ghost use mathlib.Core.Path.{_≡_};
 use crate::answer::write_empty;
 use crate::answer::write_lasso;
 use crate::cells::Cells;
+use crate::cells::NONE;
+use crate::cells::SOME;
 use crate::cells::clear;
 use crate::run::Run;
 use crate::run::is_over;
@@ -11,15 +13,12 @@ use crate::show::show_lasso;
 use casefile::Case;
 use model::Outcome;
 
-// The answer "lasso" of a run whose floor the vertex `broken` broke.
+// The answer "lasso" of a run that broke the floor.
 fn lasso_answer(output: &mut [u8], work: &mut [i32], run: Run, n: usize, source: usize) -> usize
-    requires { ⌜ Answer-asks run n source (now work) (now output) ⌝ }
+    requires { ⌜ Answer-asks run n source (now work) (now output) × (run .broken ≡ 0 → ⊥) ⌝ }
     ensures { λ r. ⌜ Lasso-done run n source r (now (work .entry)) (now (output .entry)) (now (output .exit)) ⌝ }
 {
-    if run.broken == 0 {
-        return 0;
-    }
-    let shown = show_lasso(work, run.broken - 1, source, n);
+    let shown = show_lasso(work, run.broken - SOME, source, n);
     let stem = shown.stem;
     let cycle = shown.cycle;
     let end = Cells::CYCLE + Case::MOST_VERTICES;
@@ -31,7 +30,7 @@ fn write_answer(output: &mut [u8], work: &mut [i32], run: Run, n: usize, source:
     requires { ⌜ Answer-asks run n source (now work) (now output) ⌝ }
     ensures { λ r. ⌜ Answer-done run n source r (now (work .entry)) (now (output .entry)) (now (output .exit)) ⌝ }
 {
-    if run.broken != 0 {
+    if run.broken != NONE {
         return lasso_answer(output, work, run, n, source);
     }
     write_empty(output, work, n)
@@ -41,10 +40,10 @@ fn write_answer(output: &mut [u8], work: &mut [i32], run: Run, n: usize, source:
 fn verdict(run: Run) -> u32
     ensures { λ r. ⌜ r ≡ verdict-of run ⌝ }
 {
-    if run.broken != 0 {
-        return 1;
+    if run.broken != NONE {
+        return Outcome::LASSO;
     }
-    2
+    Outcome::EMPTY
 }
 
 // Ends a run: with a result if it is over, else by refusal 10.
@@ -62,7 +61,7 @@ pub(crate) fn finish(
         clear(work);
         return Outcome {
             refusal: 10,
-            verdict: 0,
+            verdict: Outcome::NONE,
             acts: run.acts,
             written: 0,
         };

@@ -24,8 +24,8 @@ use finish::finish;
 use load::load_case;
 use model::Outcome;
 use rounds::run_by_rounds;
+use run::Run;
 use run::act_list;
-use run::begin;
 
 // The outcome of a refused call.
 fn refused(k: u32) -> Outcome
@@ -33,7 +33,7 @@ fn refused(k: u32) -> Outcome
 {
     Outcome {
         refusal: k,
-        verdict: 0,
+        verdict: Outcome::NONE,
         acts: 0,
         written: 0,
     }
@@ -105,7 +105,7 @@ pub fn run_list(case: &[u8], acts: &[u32], output: &mut [u8], work: &mut [i32]) 
     match load_text(case, acts, work) {
         Loaded::Refused(k) => refused(k),
         Loaded::Laid(c, marks) => {
-            let fresh = begin(work, c.source, marks);
+            let fresh = Run::fresh(work, c.source, marks);
             let run = act_list(work, fresh, acts, c.workers);
             finish(output, work, run, c.vertices, c.source)
         }
@@ -122,7 +122,7 @@ pub fn run_rounds(case: &[u8], output: &mut [u8], work: &mut [i32]) -> Outcome
     match load_text(case, &[], work) {
         Loaded::Refused(k) => refused(k),
         Loaded::Laid(c, marks) => {
-            let fresh = begin(work, c.source, marks);
+            let fresh = Run::fresh(work, c.source, marks);
             let run = run_by_rounds(work, fresh, c.workers, c.vertices, c.edges);
             finish(output, work, run, c.vertices, c.source)
         }

@@ -4,6 +4,8 @@ ghost use Prim.Native.Nat.{_<_};
 ghost use lib.ListN.{length};
 ghost use Rattle.search.specs.Asks.{Inserted, Turns-ask, Turns-say, Edges-ask, Edges-say, Sweep-asks, Sweep-says, Round-asks, Round-says, Rounds-done, By-rounds-asks, By-rounds-says};
 use super::cells::Cells;
+use super::cells::QUEUE_END;
+use super::cells::QUEUED;
 use super::cells::load_below;
 use super::run::Run;
 use super::run::act;
@@ -43,8 +45,8 @@ pub(crate) fn turns(work: &mut [i32], run: Run, p: usize, heads: &mut [usize]) -
     let mut r = run;
     let mut scanned: usize = 0;
     for w in 0..p {
-        let head = load_below(work, Cells::HEAD + w, Case::MOST_VERTICES + 2);
-        if head == 1 {
+        let head = load_below(work, Cells::HEAD + w, Case::MOST_VERTICES + QUEUED);
+        if head == QUEUE_END {
             continue;
         }
         insert(heads, scanned, head);
@@ -87,7 +89,7 @@ pub(crate) fn sweep(work: &mut [i32], run: Run, p: usize, heads: &[usize]) -> Ru
         if r.full == 0 {
             return r;
         }
-        r = deliver_edges(work, r, heads[i] - 2, p);
+        r = deliver_edges(work, r, heads[i] - QUEUED, p);
         i += 1;
     }
     r

@@ -2,12 +2,20 @@
 // function keeps the cells and the counters equal to a run of the model (specs/Rep.antt).
 ghost use mathlib.Core.Path.{_≡_};
 ghost use Prim.Native.Nat.{_<_, _≤_, _^_, _-_};
-ghost use lib.IntN.{pos, negℤ, _-ℤ_};
-ghost use lib.Signed.{ltZ, mag};
-ghost use Rattle.model.specs.Case.{most-vertices};
-ghost use Rattle.search.specs.Asks.{Offer-asks, Send-says, Relax-says, Edge-says, Scan-asks, Scan-says, counted-run, over, Turn-asks, Turn-says, Deliver-asks, Deliver-says, Act-asks, Act-says, blank-run, Begin-asks, Begin-says, List-asks, List-done};
+ghost use lib.IntN.{pos, negℤ};
+ghost use lib.Signed.{ltZ};
+ghost use lib.ListN.{length};
+ghost use Rattle.model.specs.Case.{most-vertices, least-work};
+ghost use Rattle.search.specs.Asks.{Offer-asks, Send-says, Relax-says, Edge-says, Scan-asks, Scan-says, counted-run, over, Turn-asks, Turn-says, Deliver-asks, Deliver-says, Act-asks, Act-says, Length-is, Offered-asks, Offered-is, Blank-says, Fresh-asks, Fresh-says, List-asks, List-done};
 use super::cells::Cells;
+use super::cells::NO_DISTANCE;
+use super::cells::NONE;
+use super::cells::NOT_QUEUED;
+use super::cells::QUEUE_END;
+use super::cells::QUEUED;
+use super::cells::SOME;
 use super::cells::fill;
+use super::cells::fill_number;
 use super::cells::load;
 use super::cells::load_below;
 use super::cells::store;
@@ -16,8 +24,8 @@ use super::queue::pop;
 use super::queue::push;
 use casefile::Case;
 
-// What a run counts: queues that have a vertex, cells that have a message, acts, the vertex that broke the floor and 1
-// (0: none), accepting vertices; and whether it ended as "empty".
+// What a run counts: queues that have a vertex, cells that have a message, acts, the vertex that broke the floor (NONE, or
+// its number and SOME), accepting vertices; and whether it ended as "empty".
 pub(crate) struct Run {
     pub queued: usize,
     pub full: usize,
@@ -28,19 +36,37 @@ pub(crate) struct Run {
 }
 
 impl Run {
-    // A run before its first vertex is queued.
-    pub fn fresh(marks: usize) -> Run
-        ensures { λ r. ⌜ r ≡ blank-run marks ⌝ }
+    // The fresh run of a case that stands in the cells: the source has distance 0 and waits in its owner's queue; all else is
+    // without distance, parent or message.
+    pub(crate) fn fresh(work: &mut [i32], source: usize, marks: usize) -> Run
+        requires { ⌜ Fresh-asks source marks (now work) ⌝ }
+        ensures { λ r. ⌜ Fresh-says source marks r (now (work .entry)) (now (work .exit)) ⌝ }
     {
-        Run {
+        blank(work);
+        store(work, Cells::DISTANCE + source, 0);
+        let run = Run {
             queued: 0,
             full: 0,
             acts: 0,
-            broken: 0,
+            broken: NONE,
             marks: marks,
             ended: false,
-        }
+        };
+        push(work, run, source)
     }
+}
+
+// Cells of a run without any distance, parent, place in a queue or message.
+pub(crate) fn blank(work: &mut [i32])
+    requires { ⌜ least-work ≤ length (now work) ⌝ }
+    ensures { λ r. ⌜ Blank-says (now (work .entry)) (now (work .exit)) ⌝ }
+{
+    fill(work, Cells::DISTANCE, Case::MOST_VERTICES, NO_DISTANCE);
+    fill_number(work, Cells::PARENT, Case::MOST_VERTICES, NONE);
+    fill_number(work, Cells::LINK, Case::MOST_VERTICES, NOT_QUEUED);
+    fill(work, Cells::MESSAGE, Case::MOST_EDGES, NO_DISTANCE);
+    fill_number(work, Cells::HEAD, Case::MOST_WORKERS, QUEUE_END);
+    fill_number(work, Cells::TAIL, Case::MOST_WORKERS, 0);
 }
 
 // Whether a distance is below another.
@@ -50,20 +76,27 @@ pub(crate) fn lower(a: i32, b: i32) -> bool
     a < b
 }
 
-// A distance and the length of an edge: lower by the mark of the vertex that the edge leaves.
-pub(crate) fn lowered(d: i32, mark: i32) -> i32
-    requires { ⌜ mag (d -ℤ mark) < 2 ^ 31 ⌝ }
-    ensures { λ r. ⌜ r ≡ d -ℤ mark ⌝ }
+// So far below 0.
+pub(crate) fn negated(n: usize) -> i32
+    requires { ⌜ n ≤ most-vertices ⌝ }
+    ensures { λ r. ⌜ r ≡ negℤ (pos n) ⌝ }
 {
-    d - mark
+    -(n as i32)
 }
 
-// The lowest distance that does not break the floor.
-pub(crate) fn floor(marks: usize) -> i32
-    requires { ⌜ marks ≤ most-vertices ⌝ }
-    ensures { λ r. ⌜ r ≡ negℤ (pos marks) ⌝ }
+// The length of an edge by the mark of the vertex that it leaves: −1 where that is accepting, else 0.
+pub(crate) fn edge_length(mark: usize) -> i32
+    requires { ⌜ mark < 2 ⌝ }
+    ensures { λ r. ⌜ Length-is mark r ⌝ }
 {
-    -(marks as i32)
+    negated(mark)
+}
+
+// Whether a cell has no distance or message.
+pub(crate) fn missing(d: i32) -> bool
+    ensures { λ r. ⌜ r ≡ ltZ (pos 0) d ⌝ }
+{
+    0 < d
 }
 
 // Puts an offer into the cell of an edge: the lower of two remains.
@@ -75,7 +108,7 @@ pub(crate) fn send(work: &mut [i32], run: Run, e: usize, d: i32) -> Run
     let mut r = run;
     if lower(d, old) {
         store(work, Cells::MESSAGE + e, d);
-        if lower(0, old) {
+        if missing(old) {
             r.full = run.full + 1;
         }
     }
@@ -91,10 +124,10 @@ pub(crate) fn relax(work: &mut [i32], run: Run, e: usize, d: i32) -> Run
     let old = load(work, Cells::DISTANCE + v);
     if lower(d, old) {
         store(work, Cells::DISTANCE + v, d);
-        store_number(work, Cells::PARENT + v, e + 1);
+        store_number(work, Cells::PARENT + v, e + SOME);
         let mut r = push(work, run, v);
-        if lower(d, floor(run.marks)) {
-            r.broken = v + 1;
+        if lower(d, negated(run.marks)) {
+            r.broken = v + SOME;
         }
         return r;
     }
@@ -114,18 +147,27 @@ pub(crate) fn scan_edge(work: &mut [i32], run: Run, e: usize, own: usize, d: i32
     send(work, run, e, d)
 }
 
+// What a vertex at this distance offers along each of its edges: that distance plus the edge's length.
+pub(crate) fn offered(work: &[i32], v: usize, d: i32) -> i32
+    requires { ⌜ Offered-asks v d (now work) ⌝ }
+    ensures { λ r. ⌜ Offered-is v d r (now (work .entry)) ⌝ }
+{
+    let length = edge_length(load_below(work, Cells::ACCEPTING + v, 2));
+    d + length
+}
+
 // The edges of a vertex in number order, each offering the distance read at the start; nothing once the floor is broken.
 pub(crate) fn scan(work: &mut [i32], run: Run, v: usize, d: i32) -> Run
     requires { ⌜ Scan-asks v d run (now work) ⌝ }
     ensures { λ r. ⌜ Scan-says v d run r (now (work .entry)) (now (work .exit)) ⌝ }
 {
     let own = load_below(work, Cells::OWNER + v, Case::MOST_WORKERS);
-    let offer = lowered(d, load(work, Cells::ACCEPTING + v));
+    let offer = offered(work, v, d);
     let end = load_below(work, Cells::FIRST + (v + 1), Case::MOST_EDGES + 1);
     let mut e = load_below(work, Cells::FIRST + v, Case::MOST_EDGES + 1);
     let mut r = run;
     while e < end {
-        if r.broken != 0 {
+        if r.broken != NONE {
             return r;
         }
         r = scan_edge(work, r, e, own, offer);
@@ -139,7 +181,7 @@ pub(crate) fn counted(run: Run) -> Run
     requires { ⌜ run .acts < 2 ^ 32 - 1 ⌝ }
     ensures { λ r. ⌜ r ≡ counted-run run ⌝ }
 {
-    let none_broken = run.broken == 0;
+    let none_broken = run.broken == NONE;
     let none_queued = run.queued == 0;
     let none_full = run.full == 0;
     Run {
@@ -156,7 +198,7 @@ pub(crate) fn counted(run: Run) -> Run
 pub(crate) fn is_over(run: Run) -> bool
     ensures { λ r. ⌜ r ≡ over run ⌝ }
 {
-    let broken = run.broken != 0;
+    let broken = run.broken != NONE;
     broken || run.ended
 }
 
@@ -165,11 +207,11 @@ pub(crate) fn turn(work: &mut [i32], run: Run, p: usize) -> Run
     requires { ⌜ Turn-asks p run (now work) ⌝ }
     ensures { λ r. ⌜ Turn-says p run r (now (work .entry)) (now (work .exit)) ⌝ }
 {
-    let head = load_below(work, Cells::HEAD + p, Case::MOST_VERTICES + 2);
-    if head == 1 {
+    let head = load_below(work, Cells::HEAD + p, Case::MOST_VERTICES + QUEUED);
+    if head == QUEUE_END {
         return run;
     }
-    let v = head - 2;
+    let v = head - QUEUED;
     let taken = pop(work, run, p, v);
     let d = load(work, Cells::DISTANCE + v);
     let done = scan(work, taken, v, d);
@@ -182,10 +224,10 @@ pub(crate) fn deliver(work: &mut [i32], run: Run, e: usize) -> Run
     ensures { λ r. ⌜ Deliver-says e run r (now (work .entry)) (now (work .exit)) ⌝ }
 {
     let d = load(work, Cells::MESSAGE + e);
-    if lower(0, d) {
+    if missing(d) {
         return run;
     }
-    store(work, Cells::MESSAGE + e, 1);
+    store(work, Cells::MESSAGE + e, NO_DISTANCE);
     let mut r = run;
     r.full = run.full - 1;
     let done = relax(work, r, e, d);
@@ -204,27 +246,6 @@ pub(crate) fn act(work: &mut [i32], run: Run, a: usize, p: usize) -> Run
         return turn(work, run, a);
     }
     deliver(work, run, a - p)
-}
-
-// A fresh run beside a case that stands in the cells: the source has distance 0 and waits in its owner's queue; all else is
-// without distance, parent (and link, one table behind) or message.
-pub(crate) fn begin(work: &mut [i32], source: usize, marks: usize) -> Run
-    requires { ⌜ Begin-asks source marks (now work) ⌝ }
-    ensures { λ r. ⌜ Begin-says source marks r (now (work .entry)) (now (work .exit)) ⌝ }
-{
-    fill(work, Cells::DISTANCE, Case::MOST_VERTICES, 1);
-    fill(
-        work,
-        Cells::PARENT,
-        Case::MOST_VERTICES + Case::MOST_VERTICES,
-        0,
-    );
-    fill(work, Cells::MESSAGE, Case::MOST_EDGES, 1);
-    fill(work, Cells::HEAD, Case::MOST_WORKERS, 1);
-    fill(work, Cells::TAIL, Case::MOST_WORKERS, 0);
-    store(work, Cells::DISTANCE + source, 0);
-    let run = Run::fresh(marks);
-    push(work, run, source)
 }
 
 // A list of acts, each below P + m; those after the end are not done.

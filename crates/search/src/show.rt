@@ -4,8 +4,12 @@ ghost use Prim.Native.Nat.{_≤_};
 ghost use Rattle.model.specs.Case.{most-vertices};
 ghost use Rattle.search.specs.Show.{Backable, Parent-is, One-back-is, Backed, Cycled};
 ghost use Rattle.search.specs.Show.{Triable, Tried, Scannable, Scans, Startable, Started, Searchable, Searched, Stemmable, Stem-taken, Showable, Shows};
+use crate::cells::AT_SOURCE;
+use crate::cells::BY_EDGE;
 use crate::cells::Cells;
-use crate::cells::fill;
+use crate::cells::NOT_FOUND;
+use crate::cells::SOME;
+use crate::cells::fill_number;
 use crate::cells::load_below;
 use crate::cells::store_number;
 use casefile::Case;
@@ -15,8 +19,8 @@ pub(crate) fn parent_edge(work: &[i32], v: usize) -> usize
     requires { ⌜ Backable v (now work) ⌝ }
     ensures { λ r. ⌜ Parent-is v r (now (work .entry)) ⌝ }
 {
-    let code = load_below(work, Cells::PARENT + v, Case::MOST_EDGES + 1);
-    code - 1
+    let code = load_below(work, Cells::PARENT + v, Case::MOST_EDGES + SOME);
+    code - SOME
 }
 
 // The vertex that its parent edge comes from.
@@ -70,11 +74,11 @@ pub(crate) fn try_edge(work: &mut [i32], e: usize, tail: usize) -> usize
     ensures { λ r. ⌜ Tried e tail r (now (work .entry)) (now (work .exit)) ⌝ }
 {
     let v = load_below(work, Cells::TO + e, Case::MOST_VERTICES);
-    let mark = load_below(work, Cells::FOUND + v, Case::MOST_EDGES + 2);
-    if mark != 0 {
+    let found = load_below(work, Cells::FOUND + v, Case::MOST_EDGES + BY_EDGE);
+    if found != NOT_FOUND {
         return tail;
     }
-    store_number(work, Cells::FOUND + v, e + 2);
+    store_number(work, Cells::FOUND + v, e + BY_EDGE);
     store_number(work, Cells::QUEUE + tail, v);
     tail + 1
 }
@@ -100,8 +104,8 @@ pub(crate) fn start_search(work: &mut [i32], source: usize, n: usize)
     requires { ⌜ Startable source n (now work) ⌝ }
     ensures { λ r. ⌜ Started source n (now (work .entry)) (now (work .exit)) ⌝ }
 {
-    fill(work, Cells::FOUND, n, 0);
-    store_number(work, Cells::FOUND + source, 1);
+    fill_number(work, Cells::FOUND, n, NOT_FOUND);
+    store_number(work, Cells::FOUND + source, AT_SOURCE);
     store_number(work, Cells::QUEUE, source);
 }
 
@@ -114,7 +118,7 @@ pub(crate) fn find_stem(work: &mut [i32], source: usize, goal: usize, n: usize)
     let mut head: usize = 0;
     let mut tail: usize = 1;
     while head < tail {
-        if load_below(work, Cells::FOUND + goal, Case::MOST_EDGES + 2) != 0 {
+        if load_below(work, Cells::FOUND + goal, Case::MOST_EDGES + BY_EDGE) != NOT_FOUND {
             return;
         }
         tail = scan_head(work, head, tail);
@@ -129,11 +133,11 @@ pub(crate) fn take_stem(work: &mut [i32], goal: usize) -> usize
     ensures { λ r. ⌜ Stem-taken goal r (now (work .entry)) (now (work .exit)) ⌝ }
 {
     let mut at: usize = Cells::CYCLE;
-    let mut mark = load_below(work, Cells::FOUND + goal, Case::MOST_EDGES + 2);
-    while mark > 1 {
-        let e = mark - 2;
+    let mut found = load_below(work, Cells::FOUND + goal, Case::MOST_EDGES + BY_EDGE);
+    while found > AT_SOURCE {
+        let e = found - BY_EDGE;
         let v = load_below(work, Cells::FROM + e, Case::MOST_VERTICES);
-        mark = load_below(work, Cells::FOUND + v, Case::MOST_EDGES + 2);
+        found = load_below(work, Cells::FOUND + v, Case::MOST_EDGES + BY_EDGE);
         at -= 1;
         store_number(work, at, e);
     }

@@ -2,7 +2,7 @@
 use mathlib.Core.Path.{sym, _∙_}
 use native.Mathlib.Omega.{arith}
 use lib.ListN.{length}
-use Rattle.search.proofs.Entries.{buffers-enough, list-short, list-turned, loads-refused, loads-laid, begin-asks, list-asks, list-finish, list-says}
+use Rattle.search.proofs.Entries.{buffers-enough, list-short, list-turned, loads-refused, loads-laid, fresh-asks, list-asks, list-finish, list-says}
 use borrow.Author.Needs.{needs}
 use Rattle.search.proofs.run_list.Statement.{statement}
 use Rattle.search.proofs.run_list.Tie as tie
@@ -28,14 +28,14 @@ refused-requires-2 c κs = search needs
 enum-known-c : tie.Need-enum-known-c
 enum-known-c c = search needs
 
-begin-requires : tie.Need-begin-requires
-begin-requires c κs = begin-asks _ _ _ _ _ _ (loads-laid (c .before .before .before .before .before .load-text .ensures) (c .before .before .c .given .1))
+fresh-requires : tie.Need-fresh-requires
+fresh-requires c κs = fresh-asks _ _ _ _ _ _ (loads-laid (c .before .before .before .before .before .load-text .ensures) (c .before .before .c .given .1))
 
 act-list-requires : tie.Need-act-list-requires
-act-list-requires c κs = list-asks _ _ _ _ _ _ (loads-laid (c .before .before .before .before .before .before .before .before .load-text .ensures) (c .before .before .before .before .before .c .given .1)) _ _ (c .before .before .begin .ensures)
+act-list-requires c κs = list-asks _ _ _ _ _ _ (loads-laid (c .before .before .before .before .before .before .before .before .load-text .ensures) (c .before .before .before .before .before .c .given .1)) _ _ (c .before .before .fresh .ensures)
 
 finish-requires : tie.Need-finish-requires
-finish-requires c κs = list-finish _ _ _ _ _ _ (loads-laid (c .before .before .before .before .before .before .before .before .before .before .before .before .load-text .ensures) (c .before .before .before .before .before .before .before .before .before .c .given .1)) _ _ (c .before .before .before .before .before .before .begin .ensures) _ _ _ (sym (c .before .before .before .before .before .before .before .before .before .before .before .before .before .before .before .too-short .ensures) ∙ c .before .before .before .before .before .before .before .before .before .before .before .before .before .before .if1 .left) (c .before .before .before .act-list .ensures)
+finish-requires c κs = list-finish _ _ _ _ _ _ (loads-laid (c .before .before .before .before .before .before .before .before .before .before .before .before .load-text .ensures) (c .before .before .before .before .before .before .before .before .before .c .given .1)) _ _ (c .before .before .before .before .before .before .fresh .ensures) _ _ _ (sym (c .before .before .before .before .before .before .before .before .before .before .before .before .before .before .before .too-short .ensures) ∙ c .before .before .before .before .before .before .before .before .before .before .before .before .before .before .if1 .left) (c .before .before .before .act-list .ensures)
 
 same-length : tie.Need-same-length
 same-length c = search needs
@@ -50,7 +50,7 @@ same-length-3 : tie.Need-same-length-3
 same-length-3 c = search needs
 
 returns-3 : tie.Need-returns-3
-returns-3 c = list-says _ _ _ _ _ _ (loads-laid (c .before .before .before .before .before .before .before .before .before .before .before .before .before .before .before .before .load-text .ensures) (c .before .before .before .before .before .before .before .before .before .before .before .before .before .c .given .1)) _ _ (c .before .before .before .before .before .before .before .before .before .before .begin .ensures) _ _ _ (sym (c .before .before .before .before .before .before .before .before .before .before .before .before .before .before .before .before .before .before .before .too-short .ensures) ∙ c .before .before .before .before .before .before .before .before .before .before .before .before .before .before .before .before .before .before .if1 .left) (c .before .before .before .before .before .before .before .act-list .ensures) (c .before .before .before .finish .ensures) (omega (arith, c .before .before .before .before .before .before .before .act-list .kept .0, c .before .before .before .before .before .before .before .before .before .before .begin .kept .0, c .before .before .before .before .before .before .before .before .before .before .before .before .before .before .before .before .load-text .kept .1 .1 .0))
+returns-3 c = list-says _ _ _ _ _ _ (loads-laid (c .before .before .before .before .before .before .before .before .before .before .before .before .before .before .before .before .load-text .ensures) (c .before .before .before .before .before .before .before .before .before .before .before .before .before .c .given .1)) _ _ (c .before .before .before .before .before .before .before .before .before .before .fresh .ensures) _ _ _ (sym (c .before .before .before .before .before .before .before .before .before .before .before .before .before .before .before .before .before .before .before .too-short .ensures) ∙ c .before .before .before .before .before .before .before .before .before .before .before .before .before .before .before .before .before .before .if1 .left) (c .before .before .before .before .before .before .before .act-list .ensures) (c .before .before .before .finish .ensures) (omega (arith, c .before .before .before .before .before .before .before .act-list .kept .0, c .before .before .before .before .before .before .before .before .before .before .fresh .kept .0, c .before .before .before .before .before .before .before .before .before .before .before .before .before .before .before .before .load-text .kept .1 .1 .0))
 
 pub run-list-spec : {M : Type 1} → statement M
 run-list-spec =
@@ -63,7 +63,7 @@ run-list-spec =
     enum-known-k
     refused-requires-2
     enum-known-c
-    begin-requires
+    fresh-requires
     act-list-requires
     finish-requires
     same-length

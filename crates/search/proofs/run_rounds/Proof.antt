@@ -3,7 +3,7 @@ use mathlib.Core.Path.{sym, _∙_}
 use mathlib.Core.List.{[]}
 use native.Mathlib.Omega.{arith}
 use lib.ListN.{length}
-use Rattle.search.proofs.Entries.{buffers-enough, rounds-short, rounds-turned, loads-refused, loads-laid, begin-asks, rounds-asks, rounds-finish, rounds-say}
+use Rattle.search.proofs.Entries.{buffers-enough, rounds-short, rounds-turned, loads-refused, loads-laid, fresh-asks, rounds-asks, rounds-finish, rounds-say}
 use borrow.Author.Needs.{needs}
 use Rattle.search.proofs.run_rounds.Statement.{statement}
 use Rattle.search.proofs.run_rounds.Tie as tie
@@ -32,14 +32,14 @@ refused-requires-2 c κs = search needs
 enum-known-c : tie.Need-enum-known-c
 enum-known-c c = search needs
 
-begin-requires : tie.Need-begin-requires
-begin-requires c κs = begin-asks _ _ _ _ _ _ (loads-laid (c .before .before .before .before .before .load-text .ensures) (c .before .before .c .given .1))
+fresh-requires : tie.Need-fresh-requires
+fresh-requires c κs = fresh-asks _ _ _ _ _ _ (loads-laid (c .before .before .before .before .before .load-text .ensures) (c .before .before .c .given .1))
 
 run-by-rounds-requires : tie.Need-run-by-rounds-requires
-run-by-rounds-requires c κs = rounds-asks _ _ _ _ _ _ (loads-laid (c .before .before .before .before .before .before .before .before .load-text .ensures) (c .before .before .before .before .before .c .given .1)) _ _ (c .before .before .begin .ensures)
+run-by-rounds-requires c κs = rounds-asks _ _ _ _ _ _ (loads-laid (c .before .before .before .before .before .before .before .before .load-text .ensures) (c .before .before .before .before .before .c .given .1)) _ _ (c .before .before .fresh .ensures)
 
 finish-requires : tie.Need-finish-requires
-finish-requires c κs = rounds-finish _ _ _ _ _ _ (loads-laid (c .before .before .before .before .before .before .before .before .before .before .before .before .load-text .ensures) (c .before .before .before .before .before .before .before .before .before .c .given .1)) _ _ (c .before .before .before .before .before .before .begin .ensures) _ _ _ (sym (c .before .before .before .before .before .before .before .before .before .before .before .before .before .before .before .before .too-short .ensures) ∙ c .before .before .before .before .before .before .before .before .before .before .before .before .before .before .before .if1 .left) (c .before .before .before .run-by-rounds .ensures)
+finish-requires c κs = rounds-finish _ _ _ _ _ _ (loads-laid (c .before .before .before .before .before .before .before .before .before .before .before .before .load-text .ensures) (c .before .before .before .before .before .before .before .before .before .c .given .1)) _ _ (c .before .before .before .before .before .before .fresh .ensures) _ _ _ (sym (c .before .before .before .before .before .before .before .before .before .before .before .before .before .before .before .before .too-short .ensures) ∙ c .before .before .before .before .before .before .before .before .before .before .before .before .before .before .before .if1 .left) (c .before .before .before .run-by-rounds .ensures)
 
 same-length : tie.Need-same-length
 same-length c = search needs
@@ -54,7 +54,7 @@ same-length-3 : tie.Need-same-length-3
 same-length-3 c = search needs
 
 returns-3 : tie.Need-returns-3
-returns-3 c = rounds-say _ _ _ _ _ _ (loads-laid (c .before .before .before .before .before .before .before .before .before .before .before .before .before .before .before .before .load-text .ensures) (c .before .before .before .before .before .before .before .before .before .before .before .before .before .c .given .1)) _ _ (c .before .before .before .before .before .before .before .before .before .before .begin .ensures) _ _ _ (sym (c .before .before .before .before .before .before .before .before .before .before .before .before .before .before .before .before .before .before .before .before .too-short .ensures) ∙ c .before .before .before .before .before .before .before .before .before .before .before .before .before .before .before .before .before .before .before .if1 .left) (c .before .before .before .before .before .before .before .run-by-rounds .ensures) (c .before .before .before .finish .ensures) (omega (arith, c .before .before .before .before .before .before .before .run-by-rounds .kept .0, c .before .before .before .before .before .before .before .before .before .before .begin .kept .0, c .before .before .before .before .before .before .before .before .before .before .before .before .before .before .before .before .load-text .kept .1 .1 .0))
+returns-3 c = rounds-say _ _ _ _ _ _ (loads-laid (c .before .before .before .before .before .before .before .before .before .before .before .before .before .before .before .before .load-text .ensures) (c .before .before .before .before .before .before .before .before .before .before .before .before .before .c .given .1)) _ _ (c .before .before .before .before .before .before .before .before .before .before .fresh .ensures) _ _ _ (sym (c .before .before .before .before .before .before .before .before .before .before .before .before .before .before .before .before .before .before .before .before .too-short .ensures) ∙ c .before .before .before .before .before .before .before .before .before .before .before .before .before .before .before .before .before .before .before .if1 .left) (c .before .before .before .before .before .before .before .run-by-rounds .ensures) (c .before .before .before .finish .ensures) (omega (arith, c .before .before .before .before .before .before .before .run-by-rounds .kept .0, c .before .before .before .before .before .before .before .before .before .before .fresh .kept .0, c .before .before .before .before .before .before .before .before .before .before .before .before .before .before .before .before .load-text .kept .1 .1 .0))
 
 pub run-rounds-spec : {M : Type 1} → statement M
 run-rounds-spec =
@@ -68,7 +68,7 @@ run-rounds-spec =
     enum-known-k
     refused-requires-2
     enum-known-c
-    begin-requires
+    fresh-requires
     run-by-rounds-requires
     finish-requires
     same-length

@@ -5,31 +5,28 @@ use Prim.Native.Nat.{ℕ, _-_}
 use native.Mathlib.Omega.{arith}
 use Rattle.search.specs.Show.{Shows, Showable}
 use Rattle.search.specs.Finish.{Lasso-done, Gone}
-use Rattle.search.proofs.Ends.{lasso-none, there, asked-shown, asked-written, lasso-shown}
+use Rattle.search.proofs.Ends.{above-none, there, asked-shown, asked-written, lasso-shown}
 use borrow.Author.Needs.{needs}
 use Rattle.search.proofs.finish.lasso_answer.Statement.{statement}
 use Rattle.search.proofs.finish.lasso_answer.Tie as tie
 
-returns : tie.Need-returns
-returns c = lasso-none _ (c .if1 .taken)
-
 sub-show-lasso : tie.Need-sub-show-lasso
-sub-show-lasso c = search needs
+sub-show-lasso c = above-none _ (c .before .before .before .pre .1)
 
 show-lasso-requires : tie.Need-show-lasso-requires
-show-lasso-requires c κs = asked-shown (c .before .before .before .before .before .pre .gone) (c .before .before .if1 .left)
+show-lasso-requires c κs = let s = c .before .before .before .pre in asked-shown (s .0 .gone) (s .1)
 
 add-end : tie.Need-add-end
 add-end c = search needs
 
 sub-write-lasso : tie.Need-sub-write-lasso
-sub-write-lasso c = omega (arith, there (c .before .before .before .before .before .before .before .before .before .pre .gone) (c .before .before .before .before .before .before .if1 .left) _ _ _ (c .before .before .before .show-lasso .ensures) .stem .ends)
+sub-write-lasso c = let s = c .before .before .before .before .before .before .before .pre in omega (arith, there (s .0 .gone) (s .1) _ _ _ (c .before .before .before .show-lasso .ensures) .stem .ends)
 
 sub-write-lasso-2 : tie.Need-sub-write-lasso-2
-sub-write-lasso-2 c = omega (arith, there (c .before .before .before .before .before .before .before .before .before .pre .gone) (c .before .before .before .before .before .before .if1 .left) _ _ _ (c .before .before .before .show-lasso .ensures) .cycle .ends)
+sub-write-lasso-2 c = let s = c .before .before .before .before .before .before .before .pre in omega (arith, there (s .0 .gone) (s .1) _ _ _ (c .before .before .before .show-lasso .ensures) .cycle .ends)
 
 write-lasso-requires : tie.Need-write-lasso-requires
-write-lasso-requires c κs = asked-written (c .before .before .before .before .before .before .before .before .before .pre .gone) (c .before .before .before .before .before .before .if1 .left) _ _ _ (c .before .before .before .show-lasso .ensures)
+write-lasso-requires c κs = let s = c .before .before .before .before .before .before .before .pre in asked-written (s .0 .gone) (s .1) _ _ _ (c .before .before .before .show-lasso .ensures)
 
 same-length : tie.Need-same-length
 same-length c = search needs
@@ -37,14 +34,13 @@ same-length c = search needs
 same-length-2 : tie.Need-same-length-2
 same-length-2 c = search needs
 
-returns-2 : tie.Need-returns-2
-returns-2 c = lasso-shown _ _ _ _ _ _ _ (c .before .before .before .before .before .before .before .before .before .if1 .left) (c .before .before .before .before .before .before .show-lasso .ensures) (c .before .before .write-lasso .ensures)
+returns : tie.Need-returns
+returns c = let s = c .before .before .before .before .before .before .before .before .before .before .pre in lasso-shown _ _ _ _ _ _ _ (s .1) (c .before .before .before .before .before .before .show-lasso .ensures) (c .before .before .write-lasso .ensures)
 
 pub lasso-answer-spec : {M : Type 1} → statement M
 lasso-answer-spec =
     tie.close
     (tie.spec
-    returns
     sub-show-lasso
     show-lasso-requires
     add-end
@@ -53,4 +49,4 @@ lasso-answer-spec =
     write-lasso-requires
     same-length
     same-length-2
-    returns-2)
+    returns)

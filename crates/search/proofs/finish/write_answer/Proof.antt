@@ -5,7 +5,7 @@ use Rattle.search.proofs.finish.write_answer.Statement.{statement}
 use Rattle.search.proofs.finish.write_answer.Tie as tie
 
 lasso-answer-requires : tie.Need-lasso-answer-requires
-lasso-answer-requires c κs = search needs
+lasso-answer-requires c κs = (c .before .before .before .before .before .pre, c .before .before .if1 .taken)
 
 same-length : tie.Need-same-length
 same-length c = search needs

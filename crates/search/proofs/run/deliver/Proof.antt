@@ -25,17 +25,17 @@ use Rattle.search.proofs.run.deliver.Lts as lts
 use Rattle.search.proofs.cells.load.Reads as load-reads
 use Rattle.search.proofs.cells.store.Reads as store-reads
 use Rattle.search.proofs.run.counted.Reads as counted-reads
-use Rattle.search.proofs.run.lower.Reads as lower-reads
+use Rattle.search.proofs.run.missing.Reads as missing-reads
 use Rattle.search.proofs.run.relax.Reads as relax-reads
 
 loaded : (c : tie.After-load) (q : Case) (x : State) → Rep q x (c .before .before .args .run) (c .before .before .args .work .now) → c .before .before .args .e < length (q .graph .edges)
     → c .load .result ≡ far (getD (x .cells) (c .before .before .args .e) none)
 loaded c q x rep h = c .load .ensures ∙ there (rep .held .cells) (c .before .before .args .e) h
 
-empty : (c : tie.After-lower) (q : Case) (x : State) → Rep q x (c .before .before .before .args .run) (c .before .before .before .args .work .now) → c .before .before .before .args .e < length (q .graph .edges)
-    → c .lower .result ≡ ltZ (pos 0) (far (getD (x .cells) (c .before .before .before .args .e) none))
+empty : (c : tie.After-missing) (q : Case) (x : State) → Rep q x (c .before .before .before .args .run) (c .before .before .before .args .work .now) → c .before .before .before .args .e < length (q .graph .edges)
+    → c .missing .result ≡ ltZ (pos 0) (far (getD (x .cells) (c .before .before .before .args .e) none))
 empty c q x rep h =
-    none-test (c .lower .result) (c .before .load .result) (getD (x .cells) (c .before .before .before .args .e) none) (record { sfits = c .before .load .ok }) (c .lower .ensures) (loaded (c .before) q x rep h)
+    none-test (c .missing .result) (c .before .load .result) (getD (x .cells) (c .before .before .before .args .e) none) (record { sfits = c .before .load .ok }) (c .missing .ensures) (loaded (c .before) q x rep h)
 
 -- a message waits
 waits : (c : tie.Else1) (q : Case) (x : State) → Rep q x (c .before .before .before .before .args .run) (c .before .before .before .before .args .work .now) → c .before .before .before .before .args .e < length (q .graph .edges)
@@ -70,8 +70,8 @@ add-load c = search needs
 load-requires : tie.Need-load-requires
 load-requires c κs = search needs
 
-lower-requires : tie.Need-lower-requires
-lower-requires c κs = search needs
+missing-requires : tie.Need-missing-requires
+missing-requires c κs = search needs
 
 same-length : tie.Need-same-length
 same-length c = search needs
@@ -129,7 +129,7 @@ deliver-spec =
     (tie.spec
     add-load
     load-requires
-    lower-requires
+    missing-requires
     same-length
     returns
     add-store

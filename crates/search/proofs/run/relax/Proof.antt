@@ -27,7 +27,7 @@ use Rattle.search.proofs.cells.load_below.Reads as load-below-reads
 use Rattle.search.proofs.cells.store.Reads as store-reads
 use Rattle.search.proofs.cells.store_number.Reads as store-number-reads
 use Rattle.search.proofs.queue.push.Reads as push-reads
-use Rattle.search.proofs.run.floor.Reads as floor-reads
+use Rattle.search.proofs.run.negated.Reads as negated-reads
 use Rattle.search.proofs.run.lower.Reads as lower-reads
 
 -- the first test says whether the offer is taken
@@ -51,8 +51,8 @@ changed c q x o rep h d =
 floored : (c : tie.After-lower2) (q : Case) (x : State) (o : ℕ) → Rep q x (c .before .before .before .before .before .before .before .before .before .before .before .before .before .before .before .before .before .args .run) (c .before .before .before .before .before .before .before .before .before .before .before .before .before .before .before .before .before .args .work .now) → c .before .before .before .before .before .before .before .before .before .before .before .before .before .before .before .before .before .args .d ≡ negℤ (pos o)
     → ltb (accepting-count (q .graph)) o ≡ c .lower2 .result
 floored c q x o rep d =
-    sym (floor-test _ _ (c .before .floor .result) o (accepting-count (q .graph)) (c .before .before .before .before .before .before .before .before .before .before .before .before .before .before .before .before .before .fits .d) (record { sfits = c .before .floor .ok }) (c .lower2 .ensures) d
-    (c .before .floor .ensures ∙ ap (λ (n : ℕ). negℤ (pos n)) (rep .counted .marks)))
+    sym (floor-test _ _ (c .before .negated .result) o (accepting-count (q .graph)) (c .before .before .before .before .before .before .before .before .before .before .before .before .before .before .before .before .before .fits .d) (record { sfits = c .before .negated .ok }) (c .lower2 .ensures) d
+    (c .before .negated .ensures ∙ ap (λ (n : ℕ). negℤ (pos n)) (rep .counted .marks)))
 
 -- the cells once the target has joined its queue
 joined : (c : tie.After-push) (q : Case) (x : State) (o : ℕ) → Rep q x (c .before .before .before .before .before .before .before .before .before .before .before .before .before .before .args .run) (c .before .before .before .before .before .before .before .before .before .before .before .before .before .before .args .work .now) → c .before .before .before .before .before .before .before .before .before .before .before .before .before .before .args .e < length (q .graph .edges)
@@ -105,8 +105,8 @@ push-requires c κs = let s = c .before .before .before .before .before .before 
       below = target-below (s .case) _ _ (s .rep .held .laid) (s .below) v (c .before .before .before .before .before .before .before .before .before .before .before .load-below .ensures .0);
     }
 
-floor-requires : tie.Need-floor-requires
-floor-requires c κs = let s = c .before .before .before .before .before .before .before .before .before .before .before .before .before .before .before .pre in
+negated-requires : tie.Need-negated-requires
+negated-requires c κs = let s = c .before .before .before .before .before .before .before .before .before .before .before .before .before .before .before .pre in
     omega (arith, s .rep .counted .marks, accepting-few (s .case) (s .rep .held .laid .sound), s .rep .held .laid .within .vertices)
 
 lower-requires-2 : tie.Need-lower-requires-2
@@ -165,7 +165,7 @@ relax-spec =
     add-store-number-2
     store-number-requires
     push-requires
-    floor-requires
+    negated-requires
     lower-requires-2
     add-r
     same-length

@@ -21,6 +21,7 @@ use Rattle.search.proofs.run.send.Lts as lts
 use Rattle.search.proofs.cells.load.Reads as load-reads
 use Rattle.search.proofs.cells.store.Reads as store-reads
 use Rattle.search.proofs.run.lower.Reads as lower-reads
+use Rattle.search.proofs.run.missing.Reads as missing-reads
 
 -- what was loaded is the message's code
 loaded : (c : tie.After-load) (q : Case) (x : State) → Rep q x (c .before .before .args .run) (c .before .before .args .work .now) → c .before .before .args .e < length (q .graph .edges)
@@ -34,10 +35,10 @@ tested c q x o rep h d =
     taken-test _ _ (c .before .load .result) o _ (c .before .before .before .fits .d) (record { sfits = c .before .load .ok }) (c .lower .ensures) d (loaded (c .before) q x rep h)
 
 -- the second whether the cell was empty
-empty : (c : tie.After-lower2) (q : Case) (x : State) → Rep q x (c .before .before .before .before .before .before .before .before .args .run) (c .before .before .before .before .before .before .before .before .args .work .now) → c .before .before .before .before .before .before .before .before .args .e < length (q .graph .edges)
-    → c .lower2 .result ≡ ltZ (pos 0) (far (getD (x .cells) (c .before .before .before .before .before .before .before .before .args .e) none))
+empty : (c : tie.After-missing) (q : Case) (x : State) → Rep q x (c .before .before .before .before .before .before .before .before .args .run) (c .before .before .before .before .before .before .before .before .args .work .now) → c .before .before .before .before .before .before .before .before .args .e < length (q .graph .edges)
+    → c .missing .result ≡ ltZ (pos 0) (far (getD (x .cells) (c .before .before .before .before .before .before .before .before .args .e) none))
 empty c q x rep h =
-    none-test (c .lower2 .result) (c .before .before .before .before .before .before .load .result) (getD (x .cells) (c .before .before .before .before .before .before .before .before .args .e) none) (record { sfits = c .before .before .before .before .before .before .load .ok }) (c .lower2 .ensures) (loaded (c .before .before .before .before .before .before) q x rep h)
+    none-test (c .missing .result) (c .before .before .before .before .before .before .load .result) (getD (x .cells) (c .before .before .before .before .before .before .before .before .args .e) none) (record { sfits = c .before .before .before .before .before .before .load .ok }) (c .missing .ensures) (loaded (c .before .before .before .before .before .before) q x rep h)
 
 add-load : tie.Need-add-load
 add-load c = search needs
@@ -54,8 +55,8 @@ add-store c = search needs
 store-requires : tie.Need-store-requires
 store-requires c κs = search needs
 
-lower-requires-2 : tie.Need-lower-requires-2
-lower-requires-2 c κs = search needs
+missing-requires : tie.Need-missing-requires
+missing-requires c κs = search needs
 
 add-r : tie.Need-add-r
 add-r c = let s = c .before .before .before .before .before .before .before .before .before .before .pre in
@@ -102,7 +103,7 @@ send-spec =
     lower-requires
     add-store
     store-requires
-    lower-requires-2
+    missing-requires
     add-r
     same-length
     returns

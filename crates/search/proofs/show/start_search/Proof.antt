@@ -7,8 +7,8 @@ use Rattle.search.proofs.Search.{search-start}
 use Rattle.search.proofs.show.start_search.Statement.{statement}
 use Rattle.search.proofs.show.start_search.Tie as tie
 
-fill-requires : tie.Need-fill-requires
-fill-requires c κs = search needs
+fill-number-requires : tie.Need-fill-number-requires
+fill-number-requires c κs = search needs
 
 add-store-number : tie.Need-add-store-number
 add-store-number c = search needs
@@ -25,7 +25,7 @@ same-length c = search needs
 returns : tie.Need-returns
 unfolding Started
 returns c =
-    let f = c .before .before .before .before .before .before .before .fill .ensures in
+    let f = c .before .before .before .before .before .before .before .fill-number .ensures in
     rw (c .before .store-number2 .ensures, c .before .before .before .before .store-number .ensures)
     (kept-more _ _ _ _ (kept-filled _ _ _ _ _ _ f (omega arith)) (kept-more _ _ _ _ (kept-set _ _ _ _ (omega arith)) (kept-set _ _ _ _ (omega arith))), λ q l s n. search-start q _ _ _ _ l s n f)
 
@@ -33,7 +33,7 @@ pub start-search-spec : {M : Type 1} → statement M
 start-search-spec =
     tie.close
     (tie.spec
-    fill-requires
+    fill-number-requires
     add-store-number
     store-number-requires
     store-number-requires-2

@@ -12,12 +12,12 @@ use Rattle.search.proofs.show.take_stem.Statement.{statement}
 use Rattle.search.proofs.show.take_stem.Tie as tie
 
 abbrev Inv-loop : tie.InvT-loop
-Inv-loop work₀ goal at₀ mark₀ work at mark = Kept stem-at work₀ work × ((c : Case) → Laid c work₀ → Grown c goal work₀ → Stemming c goal mark at work)
+Inv-loop work₀ goal at₀ mark₀ work at found = Kept stem-at work₀ work × ((c : Case) → Laid c work₀ → Grown c goal work₀ → Stemming c goal found at work)
 
 abbrev μ-loop : tie.MeasureT-loop
-μ-loop work₀ goal at₀ mark₀ work at mark = at
+μ-loop work₀ goal at₀ mark₀ work at found = at
 
-here : (c : tie.At-loop Inv-loop μ-loop) → let s = c .before .before .before .pre in Stemming (s .case) (c .before .before .before .args .goal) (c .loop .mark) (c .loop .at) (c .loop .work)
+here : (c : tie.At-loop Inv-loop μ-loop) → let s = c .before .before .before .pre in Stemming (s .case) (c .before .before .before .args .goal) (c .loop .found) (c .loop .at) (c .loop .work)
 here c = let s = c .before .before .before .pre in c .loop .inv .1 (s .case) (s .laid) (s .grown)
 
 room : (c : tie.In-loop Inv-loop μ-loop) → stem-at < c .before .loop .at
