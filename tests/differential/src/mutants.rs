@@ -160,6 +160,7 @@ pub fn mutants() -> Vec<Mutant> {
             Box::new(DistanceReadAgain),
         ),
         mutant("idle acts counted", Box::new(IdleCounted)),
+        mutant("everything searched on the first act", Box::new(AllAtOnce)),
         mutant(
             "only reachable accepting vertices in A",
             Box::new(ReachableOnly),
@@ -350,6 +351,25 @@ impl Faulty for IdleCounted {
         let counted = run.acts_counted;
         run.act(act);
         run.acts_counted = counted + 1;
+    }
+}
+
+/// The first act that does something does the whole search; there is nothing
+/// left for later ones.
+struct AllAtOnce;
+impl Faulty for AllAtOnce {
+    fn act(&self, run: &mut Run, act: usize) {
+        run.act(act);
+        if run.acts_counted == 0 {
+            return;
+        }
+        for act in (0..run.case.act_count()).cycle() {
+            if run.finding.is_some() {
+                break;
+            }
+            run.act(act);
+        }
+        run.acts_counted = 1;
     }
 }
 
