@@ -1,11 +1,14 @@
 //! One call of a tool beside the same call of the reference.
 
 use std::fmt::{self, Debug, Display, Formatter};
+use std::sync::LazyLock;
 
 use reference::entries::{Checked, OUTPUT_BYTES, Outcome, Reference, Tool, WORK_CELLS};
 
 /// Items of the larger vector before the lent part, and after it.
 const GUARD: usize = 64;
+/// Items that a buffer has at most, guards included.
+const LONGEST_BUFFER: usize = 32_768;
 
 /// How the run is called.
 #[derive(Clone, Copy)]
@@ -42,9 +45,9 @@ struct Lent<T> {
 }
 
 impl<T: Copy + PartialEq + Debug> Lent<T> {
-    fn new(length: usize, pattern: impl Fn(usize) -> T) -> Self {
+    fn new(length: usize, pattern: &[T]) -> Self {
         Lent {
-            items: (0..length + 2 * GUARD).map(pattern).collect(),
+            items: pattern[..length + 2 * GUARD].to_vec(),
         }
     }
 
@@ -55,11 +58,11 @@ impl<T: Copy + PartialEq + Debug> Lent<T> {
 
     /// The first difference; guards count like the rest.
     fn difference(&self, expected: &Self, name: &str) -> Option<String> {
-        let place = self
-            .items
-            .iter()
-            .zip(&expected.items)
-            .position(|(got, want)| got != want)?;
+        if self.items == expected.items {
+            return None;
+        }
+        let mut both = self.items.iter().zip(&expected.items);
+        let place = both.position(|(got, want)| got != want)?;
         let (got, want) = (self.items[place], expected.items[place]);
         let place = place as i64 - GUARD as i64;
         Some(format!("{name}[{place}] should be {want:?} and is {got:?}"))
@@ -68,14 +71,14 @@ impl<T: Copy + PartialEq + Debug> Lent<T> {
 
 /// The pattern that fills the output before a call. Its length shares no
 /// factor with powers of two, so that shifted copies differ.
-fn output_pattern(place: usize) -> u8 {
-    (place % 251) as u8 ^ 0xa5
-}
+static OUTPUT_PATTERN: LazyLock<Vec<u8>> = LazyLock::new(|| {
+    let places = 0..LONGEST_BUFFER;
+    places.map(|place| (place % 251) as u8 ^ 0xa5).collect()
+});
 
 /// The pattern that fills the work buffer before a call: never 0.
-fn work_pattern(place: usize) -> i32 {
-    !(place as i32)
-}
+static WORK_PATTERN: LazyLock<Vec<i32>> =
+    LazyLock::new(|| (0..LONGEST_BUFFER as i32).map(|place| !place).collect());
 
 /// What a run leaves.
 struct Left {
@@ -85,8 +88,8 @@ struct Left {
 }
 
 fn run(tool: &dyn Tool, entry: Entry, text: &[u8], lengths: Lengths) -> Left {
-    let mut output = Lent::new(lengths.output, output_pattern);
-    let mut work = Lent::new(lengths.work, work_pattern);
+    let mut output = Lent::new(lengths.output, &OUTPUT_PATTERN);
+    let mut work = Lent::new(lengths.work, &WORK_PATTERN);
     let outcome = match entry {
         Entry::Rounds => tool.run_rounds(text, output.part(), work.part()),
         Entry::List(acts) => tool.run_list(text, acts, output.part(), work.part()),
@@ -115,6 +118,8 @@ fn difference(got: &Left, want: &Left) -> Option<String> {
 pub struct Tally {
     runs: [u64; 14],
     checks: [u64; 14],
+    /// Lists by which offers meet in a cell.
+    pub meetings: u64,
 }
 
 impl Tally {
@@ -131,6 +136,9 @@ impl Display for Tally {
                 write!(formatter, " {refusal}: {count}")?;
             }
             writeln!(formatter)?;
+        }
+        if self.meetings > 0 {
+            writeln!(formatter, "lists by which offers meet: {}", self.meetings)?;
         }
         Ok(())
     }

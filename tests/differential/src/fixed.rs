@@ -1,6 +1,7 @@
 //! Comparisons that do not depend on a seed: the kept runs, the limits, the
 //! buffers, every small change to a file and every small graph.
 
+use inputs::acts;
 use inputs::damage::every_small_change;
 use inputs::graphs::{every_case, text_of};
 use inputs::kept::{K1, kept_runs};
@@ -23,17 +24,20 @@ pub fn compare_all(comparison: &mut Comparison) -> Result<(), Mismatch> {
     compare_long_runs(comparison)
 }
 
+/// Every kept run, and every kept answer as an answer to every kept case.
 fn compare_kept_runs(comparison: &mut Comparison) -> Result<(), Mismatch> {
     for kept in kept_runs() {
         let entry = kept.acts.as_deref().map_or(Entry::Rounds, Entry::List);
         comparison.run(entry, kept.text.as_bytes(), LEAST)?;
-        comparison.check(kept.text.as_bytes(), kept.answer.as_bytes())?;
+        for other in kept_runs() {
+            comparison.check(kept.text.as_bytes(), other.answer.as_bytes())?;
+        }
     }
     Ok(())
 }
 
-/// Every pair of lengths with a result, a refused case, a refused list and a
-/// list that runs out.
+/// Every pair of lengths with a result, a refused case, lists that are refused
+/// and a list that runs out.
 fn compare_buffer_lengths(comparison: &mut Comparison) -> Result<(), Mismatch> {
     let overlong = vec![b'x'; LONGEST_FILE + 1];
     for output in OUTPUT_LENGTHS {
@@ -45,6 +49,7 @@ fn compare_buffer_lengths(comparison: &mut Comparison) -> Result<(), Mismatch> {
                     &[][..],
                     &[0],
                     &[0, 2, 1, 3, 0, 4, 1, 3],
+                    &[0, 2, 1, 3, 0, 4, 1, 3, 5],
                     &[5],
                     &[u32::MAX, 0],
                 ] {
@@ -152,10 +157,34 @@ fn compare_small_changes(comparison: &mut Comparison) -> Result<(), Mismatch> {
     Ok(())
 }
 
+/// Every small graph by rounds and by lists that delay the messages of one
+/// edge each, or of none: there offers meet in cells.
 fn compare_small_graphs(comparison: &mut Comparison) -> Result<(), Mismatch> {
     for case in (1..=3).flat_map(every_case) {
-        compare_whole(comparison, &text_of(&case))?;
+        let text = text_of(&case);
+        compare_whole(comparison, &text)?;
+        let cells = (0..case.edges.len()).filter(|&edge| case.has_cell(edge));
+        for last in cells.chain([case.edges.len()]) {
+            for lowest_first in [true, false] {
+                let list = acts::delaying(&case, last, lowest_first);
+                compare_list(comparison, &case, &text, &list)?;
+            }
+        }
     }
+    Ok(())
+}
+
+/// A list that ends the run with its last act, and the same without that act.
+fn compare_list(
+    comparison: &mut Comparison,
+    case: &Case,
+    text: &[u8],
+    list: &[u32],
+) -> Result<(), Mismatch> {
+    comparison.tally.meetings += u64::from(acts::has_meeting(case, list));
+    let (outcome, answer) = comparison.run(Entry::List(list), text, LEAST)?;
+    comparison.check_own(text, &answer, outcome.verdict)?;
+    comparison.run(Entry::List(&list[..list.len() - 1]), text, LEAST)?;
     Ok(())
 }
 

@@ -18,12 +18,13 @@ use compare::{Comparison, Mismatch, Tally};
 use mutants::{faultless, mutants};
 
 const DEFAULT_SEED: u64 = 1;
-/// About 20 seconds.
-const DEFAULT_ROUNDS: u64 = 5_000;
+/// About 10 seconds.
+const DEFAULT_ROUNDS: u64 = 10_000;
 /// A mutant that this many rounds do not find has survived.
 const DEFAULT_MUTANT_ROUNDS: u64 = 500;
 
 const USAGE: &str = "usage: differential [SEED [ROUNDS]]
+       differential --random [SEED [ROUNDS]]
        differential --mutants [SEED [ROUNDS]]
        differential --mutant NAME [SEED [ROUNDS]]";
 
@@ -34,8 +35,10 @@ enum Mode {
     OneMutant(String),
 }
 
-/// Where the random inputs begin, and how many rounds there are.
+/// Whether the fixed inputs are compared, where the random ones begin, and how
+/// many rounds there are.
 struct Length {
+    fixed: bool,
     seed: u64,
     rounds: u64,
 }
@@ -54,31 +57,27 @@ fn main() -> ExitCode {
 }
 
 fn parse(arguments: &[String]) -> Option<(Mode, Length)> {
-    let (mode, rounds, numbers) = match arguments {
-        [first, rest @ ..] if first == "--mutants" => {
-            (Mode::EveryMutant, DEFAULT_MUTANT_ROUNDS, rest)
-        }
-        [first, name, rest @ ..] if first == "--mutant" => {
-            (Mode::OneMutant(name.clone()), DEFAULT_MUTANT_ROUNDS, rest)
-        }
-        rest => (Mode::Library, DEFAULT_ROUNDS, rest),
-    };
     let mut length = Length {
+        fixed: true,
         seed: DEFAULT_SEED,
-        rounds,
+        rounds: DEFAULT_MUTANT_ROUNDS,
     };
-    match numbers {
-        [] => {}
-        [seed] => length.seed = seed.parse().ok()?,
-        [seed, rounds] => {
-            length = Length {
-                seed: seed.parse().ok()?,
-                rounds: rounds.parse().ok()?,
-            };
+    let (mode, numbers) = match arguments {
+        [first, rest @ ..] if first == "--mutants" => (Mode::EveryMutant, rest),
+        [first, name, rest @ ..] if first == "--mutant" => (Mode::OneMutant(name.clone()), rest),
+        rest => {
+            length.rounds = DEFAULT_ROUNDS;
+            length.fixed = rest.first().is_none_or(|first| first != "--random");
+            (Mode::Library, &rest[usize::from(!length.fixed)..])
         }
-        _ => return None,
+    };
+    if let [seed, ..] = numbers {
+        length.seed = seed.parse().ok()?;
     }
-    Some((mode, length))
+    if let [_, rounds, ..] = numbers {
+        length.rounds = rounds.parse().ok()?;
+    }
+    (numbers.len() <= 2).then_some((mode, length))
 }
 
 /// A mismatch with the place where it was found.
@@ -101,7 +100,9 @@ impl Found {
 fn compare(tool: &dyn Tool, length: &Length) -> Result<Tally, Found> {
     let mut comparison = Comparison::new(tool);
     let found = |place: String| |mismatch| Found { place, mismatch };
-    fixed::compare_all(&mut comparison).map_err(found("fixed inputs".to_owned()))?;
+    if length.fixed {
+        fixed::compare_all(&mut comparison).map_err(found("fixed inputs".to_owned()))?;
+    }
     for round in 0..length.rounds {
         let mut rng = Rng::for_round(length.seed, round);
         let place = format!("seed {} round {round}", length.seed);
@@ -126,7 +127,8 @@ fn compare_right(name: &str, tool: &dyn Tool, length: &Length) -> ExitCode {
 
 #[cfg(library)]
 fn compare_library(length: &Length) -> ExitCode {
-    println!("seed {}, {} rounds", length.seed, length.rounds);
+    let fixed = if length.fixed { "fixed inputs, " } else { "" };
+    println!("{fixed}seed {}, {} rounds", length.seed, length.rounds);
     compare_right("library", &wrapper::Library, length)
 }
 
@@ -139,15 +141,20 @@ fn compare_library(_length: &Length) -> ExitCode {
 /// Every mutant must be found, and a tool without fault must not.
 fn compare_every_mutant(length: &Length) -> ExitCode {
     let mut result = compare_right("no fault", &faultless(), length);
+    let mut caught = 0;
     for mutant in mutants() {
         match compare(&mutant, length) {
             Ok(tally) => {
                 println!("{}: SURVIVED {} calls", mutant.name, tally.calls());
                 result = ExitCode::FAILURE;
             }
-            Err(found) => println!("{}: caught at {}", mutant.name, found.in_one_line()),
+            Err(found) => {
+                println!("{}: caught at {}", mutant.name, found.in_one_line());
+                caught += 1;
+            }
         }
     }
+    println!("{caught} mutants caught");
     result
 }
 

@@ -38,6 +38,38 @@ pub fn busy(rng: &mut Rng, case: &Case, limit: usize, turns_of_ten: usize) -> Ve
     acts
 }
 
+/// Acts that each do something, to the end of the run: turns go before
+/// deliveries, and a message of the edge `last` waits for all else, so that
+/// offers meet in its cell. Otherwise the lowest act goes first, or the highest.
+pub fn delaying(case: &Case, last: usize, lowest_first: bool) -> Vec<u32> {
+    let mut run = Run::fresh(case);
+    let mut acts = Vec::new();
+    let last = case.workers + last;
+    let rank = |&act: &usize| {
+        let place = if lowest_first { act } else { usize::MAX - act };
+        (act >= case.workers, act == last, place)
+    };
+    while run.finding.is_none() {
+        let deliveries = full_cells(&run).map(|edge| case.workers + edge);
+        let ready = busy_workers(&run).chain(deliveries);
+        let act = ready.min_by_key(rank).expect("something waits");
+        run.act(act);
+        acts.push(act as u32);
+    }
+    acts
+}
+
+/// Whether an offer of the run by this list comes to a cell that is full.
+pub fn has_meeting(case: &Case, acts: &[u32]) -> bool {
+    let mut run = Run::fresh(case);
+    acts.iter().any(|&act| {
+        let before = run.cells.clone();
+        run.act(act as usize);
+        let mut both = before.iter().zip(&run.cells);
+        both.any(|(before, after)| before.is_some() && after.is_some() && before != after)
+    })
+}
+
 fn busy_workers(run: &Run) -> impl Iterator<Item = usize> {
     (0..run.case.workers).filter(|&worker| !run.queues[worker].is_empty())
 }

@@ -104,27 +104,48 @@ fn random_edges(rng: &mut Rng, vertices: usize, size: Size) -> Vec<(usize, usize
     edges.into_iter().collect()
 }
 
-/// Every graph on so many vertices, each as a case with one worker per vertex
-/// and, if there are several, as a case with one worker.
+/// Every graph on so many vertices with every source, each under every way to
+/// share the vertices among workers.
 pub fn every_case(vertices: usize) -> impl Iterator<Item = Case> {
     let pairs = vertices * vertices;
     let graphs = 1_usize << (pairs + vertices);
-    let workers = if vertices == 1 {
-        vec![1]
-    } else {
-        vec![vertices, 1]
-    };
-    (0..graphs).flat_map(move |bits| {
-        let bit = move |place: usize| bits >> place & 1 == 1;
-        let edge = move |pair: usize| (pair / vertices, pair % vertices);
-        workers.clone().into_iter().map(move |workers| Case {
-            source: 0,
-            workers,
-            accepting: (0..vertices).map(|vertex| bit(pairs + vertex)).collect(),
-            owners: (0..vertices).map(|vertex| vertex % workers).collect(),
-            edges: (0..pairs).filter(|&pair| bit(pair)).map(edge).collect(),
-        })
+    let shared = every_sharing(vertices);
+    let bit = |bits: usize, place: usize| bits >> place & 1 == 1;
+    let edge = move |pair: usize| (pair / vertices, pair % vertices);
+    (0..graphs * vertices).flat_map(move |number| {
+        let (bits, source) = (number / vertices, number % vertices);
+        let marks = (pairs..pairs + vertices).map(|place| bit(bits, place));
+        let case = Case {
+            source,
+            workers: 1,
+            accepting: marks.collect(),
+            owners: vec![0; vertices],
+            edges: (0..pairs)
+                .filter(|&pair| bit(bits, pair))
+                .map(edge)
+                .collect(),
+        };
+        let with_owners = move |owners: Vec<usize>| Case {
+            workers: 1 + owners.iter().max().expect("there is a vertex"),
+            owners,
+            ..case.clone()
+        };
+        shared.clone().into_iter().map(with_owners)
     })
+}
+
+/// Every way to share vertices among workers, who are numbered in the order of
+/// their first vertices.
+fn every_sharing(vertices: usize) -> Vec<Vec<usize>> {
+    let mut shared = vec![vec![]];
+    for _ in 0..vertices {
+        let longer = |owners: Vec<usize>| {
+            let next = owners.iter().max().map_or(0, |most| most + 1);
+            (0..=next).map(move |owner| [owners.as_slice(), &[owner]].concat())
+        };
+        shared = shared.into_iter().flat_map(longer).collect();
+    }
+    shared
 }
 
 /// A copy with one value changed, nearly always to one that a reader must
