@@ -1,6 +1,6 @@
 // Rows of numbers and the first lines of a case, written into a lent output.
 ghost use mathlib.Core.List.{[], _∷_};
-ghost use Rattle.desk.specs.Lines.{Chain};
+ghost use Rattle.text.specs.Writing.{Chain};
 ghost use Rattle.bench_kit.specs.Rows.{row-parts, head-parts};
 use text::write::write_byte;
 use text::write::write_bytes;

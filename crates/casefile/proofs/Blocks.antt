@@ -12,14 +12,14 @@ use lib.ListN.{drop}
 use borrow.Author.Tests.{eq-eqb, ne-eqb, lt-ltb, le-ltb}
 use Rattle.text.specs.Lines.{Line, lines, line-at}
 use Rattle.text.specs.Numbers.{numbers-line}
-use Rattle.text.specs.Reading.{line-here}
+use Rattle.text.specs.Reading.{line-here, skip}
 use Rattle.text.proofs.Reading.{Row, No-row, past-lines}
 use Rattle.model.specs.Graph.{Edge}
 use Rattle.model.specs.CaseFile.{refuse, first-of, vertex-good, vertices-refusal, edge-of, edge-good, rises, edges-refusal}
-use Rattle.casefile.specs.Judging.{skip, block-says, edge-before}
+use Rattle.casefile.specs.Judging.{block-says, edge-before}
 use Rattle.casefile.specs.declared.Block.the-variants.{Refused, Past}
 use Rattle.casefile.proofs.Refusals.{first-one}
-use Rattle.casefile.proofs.Places.{skip-none, skip-first}
+use Rattle.text.proofs.Places.{skip-none, skip-first}
 
 -- a block's answer, by its refusal
 pub block-past : (r k : ℕ) (s : List ℕ) (at : ℕ) → r ≡ 0 → Past (skip k s at) ≡ block-says r k s at

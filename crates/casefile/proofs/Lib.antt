@@ -1,5 +1,4 @@
--- Laws of the judge: places of lines, blocks of lines, the whole file.
-pub mod Places
+-- Laws of the judge: blocks of lines, the whole file.
 pub mod Refusals
 pub mod Blocks
 pub mod Whole

@@ -13,14 +13,14 @@ use lib.Seq.{getD-drop}
 use borrow.Author.Tests.{eqb-true}
 use Rattle.text.specs.Lines.{Line, open-line, lines, line-at}
 use Rattle.text.specs.Numbers.{numbers-line, number-at}
+use Rattle.text.specs.Reading.{skip}
 use Rattle.text.proofs.Tests.{and-both, clash}
 use Rattle.text.proofs.Reading.{Row}
 use Rattle.model.specs.Graph.{Edge, edge, mark}
 use Rattle.model.specs.Case.{owner}
 use Rattle.model.specs.CaseFile.{vertex-good, vertices-refusal, edge-of, edges-refusal, case-refusal, accepted, column, edges-in, case-in}
 use Rattle.model.proofs.Accepting.{first-zero, refuse-not, edge-ends}
-use Rattle.casefile.specs.Judging.{skip}
-use Rattle.casefile.proofs.Places.{skip-add, skip-last, skip-line}
+use Rattle.text.proofs.Places.{skip-add, skip-last, skip-line}
 
 no-line : {X : Type 0} (k : ℕ) → numbers-line k (line-at [] 0) ≡ true → X
 unfolding numbers-line line-at

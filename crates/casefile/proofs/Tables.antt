@@ -10,18 +10,19 @@ use lib.Dec.{lit<}
 use lib.ListN.{length, getD, set, drop, length-set}
 use lib.Seq.{getD-set-same, getD-set-other}
 use Rattle.text.specs.Lines.{lines}
+use Rattle.text.specs.Reading.{skip}
 use Rattle.text.proofs.Reading.{Row}
 use Rattle.model.specs.Graph.{mark, edge}
 use Rattle.model.specs.Case.{owner}
 use Rattle.model.specs.CaseFile.{vertices-refusal, edges-refusal, accepted, case-in}
-use Rattle.casefile.specs.Judging.{skip, header, block-says, judged}
+use Rattle.casefile.specs.Judging.{header, block-says, judged}
 use Rattle.casefile.specs.Tables.{Took, line-number, All-taken, Block-read, All-read, Case-read, Holds}
 use Rattle.casefile.specs.declared.Case.{Case}
 use Rattle.casefile.specs.declared.Judged.{Judged}
 use Rattle.casefile.specs.declared.Judged.the-variants.{Refused, Accepted}
 use Rattle.casefile.specs.declared.Block.{Block}
 use Rattle.casefile.specs.declared.Block.the-variants.{Past}
-use Rattle.casefile.proofs.Places.{skip-none, skip-last, skip-lines, skip-line}
+use Rattle.text.proofs.Places.{skip-none, skip-last, skip-lines, skip-line}
 use Rattle.casefile.proofs.Whole.{Headed, taken}
 use Rattle.casefile.proofs.Loading.{drop-line, vertex-row, edge-row}
 

@@ -11,7 +11,7 @@ use lib.ListN.{length, drop, length-drop}
 use borrow.Author.Tests.{eqb-true, eqb-false, lt-ltb, le-ltb, le-leb, lt-leb, ne-eqb}
 use Rattle.text.specs.Lines.{Line, lines, line-at, line-is, field}
 use Rattle.text.specs.Numbers.{numbers-line, number-at}
-use Rattle.text.specs.Reading.{line-here, past-line, field-here, field-number-here}
+use Rattle.text.specs.Reading.{line-here, past-line, field-here, field-number-here, skip}
 use Rattle.text.specs.declared.read.Number.{Number}
 use Rattle.text.specs.declared.read.Number.the-variants.{Is, Not}
 use Rattle.text.proofs.Reading.{Row, No-row, no-lines, some-lines, Line-named, number-is, number-not}
@@ -19,13 +19,13 @@ use Rattle.text.proofs.Tests.{both-true}
 use Rattle.model.specs.Case.{most-vertices, most-edges, most-workers, longest-file, known-version}
 use Rattle.model.specs.CaseFile.{refuse, first-of, head-names, vertex-names, edge-names, begins-version, other-version, counts-good, vertices-refusal, edges-refusal, case-refusal, accepted, case-in}
 use Rattle.model.proofs.Accepting.{edge-ends}
-use Rattle.casefile.specs.Judging.{skip, header, judged, counts-in-range, head-refusal, head-says, block-says}
+use Rattle.casefile.specs.Judging.{header, judged, counts-in-range, head-refusal, head-says, block-says}
 use Rattle.casefile.specs.declared.Case.{Case}
 use Rattle.casefile.specs.declared.Judged.{Judged}
 use Rattle.casefile.specs.declared.Judged.the-variants.{Refused, Accepted}
 use Rattle.casefile.specs.declared.Head.the-variants.{Refused as Bad-head, Counts}
 use Rattle.casefile.specs.declared.Block.the-variants.{Refused as Bad-block, Past}
-use Rattle.casefile.proofs.Places.{skip-one, skip-add, skip-last, skip-lines, skip-line}
+use Rattle.text.proofs.Places.{skip-one, skip-add, skip-last, skip-lines, skip-line}
 use Rattle.casefile.proofs.Refusals.{first-append, first-decides}
 
 both-false : (a : Bool) {b : Bool} → b ≡ false → (a && b) ≡ false

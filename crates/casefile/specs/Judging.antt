@@ -3,12 +3,12 @@
 use mathlib.Core.Bool.{Bool, _&&_, not, cond}
 use mathlib.Core.List.{List, [], _∷_}
 use mathlib.Core.Option.{Option, none, some}
-use Prim.Native.Nat.{ℕ, zero, suc, _+_}
+use Prim.Native.Nat.{ℕ, _+_}
 use lib.Dec.{ltb, leb, eqb}
 use lib.ListN.{length}
 use Rattle.text.specs.Lines.{lines, line-at, line-is}
 use Rattle.text.specs.Numbers.{numbers-line, number-at}
-use Rattle.text.specs.Reading.{past-line}
+use Rattle.text.specs.Reading.{skip}
 use Rattle.model.specs.Graph.{Edge}
 use Rattle.model.specs.Case.{most-vertices, most-edges, most-workers, longest-file}
 use Rattle.model.specs.CaseFile.{refuse, first-of, head-names, vertex-names, begins-version, other-version, counts-good, case-refusal, accepted, case-in}
@@ -19,11 +19,6 @@ use Rattle.casefile.specs.declared.Head.{Head}
 use Rattle.casefile.specs.declared.Head.the-variants.{Refused as Bad-head, Counts}
 use Rattle.casefile.specs.declared.Block.{Block}
 use Rattle.casefile.specs.declared.Block.the-variants.{Refused as Bad-block, Past}
-
--- the place past so many lines from a place on
-unfoldable pub skip : (lines : ℕ) → (text : List ℕ) → (at : ℕ) → ℕ
-skip zero s at = at
-skip (suc k) s at = skip k s (past-line s at)
 
 -- THE JUDGE: an accepted text gives its case, with where vertex and edge lines start: lines 4 and 5 + n of the file
 unfoldable pub header : (file : List ℕ) → Case

@@ -8,9 +8,9 @@ use lib.Dec.{ltb}
 use lib.ListN.{length, drop, length-drop}
 use borrow.Author.Tests.{lt-ltb, le-ltb}
 use Rattle.text.specs.Lines.{lines}
+use Rattle.text.specs.Reading.{skip}
 use Rattle.text.proofs.Reading.{no-lines, some-lines}
-use Rattle.casefile.specs.Judging.{skip}
-use Rattle.casefile.proofs.Places.{skip-lines}
+use Rattle.text.proofs.Places.{skip-lines}
 
 module _ (k : ℕ) (s : List ℕ) (at z : ℕ) (place : skip k s at ≡ z) where
   pub rest-lines : lines (drop z s) ≡ drop k (lines (drop at s))

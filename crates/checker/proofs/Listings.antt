@@ -15,15 +15,14 @@ use lib.Seq.{getD-set-same, getD-set-other}
 use borrow.Author.Tests.{leb-true, eq-eqb, ne-eqb, le-leb, ltb-true}
 use Rattle.text.specs.Lines.{Line, lines, line-at, field}
 use Rattle.text.specs.Numbers.{number-at}
-use Rattle.text.specs.Reading.{line-here, signed-line}
+use Rattle.text.specs.Reading.{line-here, signed-line, skip}
 use Rattle.text.proofs.Tests.{Same, same, other, same?, and-both}
 use Rattle.text.proofs.ReadingSigned.{Signed-at}
 use Rattle.model.specs.Graph.{Graph, edge, mark, edge-depth, edge-length}
 use Rattle.model.specs.Case.{most-vertices, farthest}
 use Rattle.model.specs.CaseFile.{refuse, first-of}
 use Rattle.model.specs.Passing.{vertex-layout, above, distance-good, listed-vertices-refusal, Listed, number-of, is-listed, leads, all-lead, passes-empty, listed-of, listed-in}
-use Rattle.casefile.specs.Judging.{skip}
-use Rattle.casefile.proofs.Places.{skip-none, skip-first}
+use Rattle.text.proofs.Places.{skip-none, skip-first}
 use Rattle.casefile.proofs.Refusals.{first-one, first-decides}
 use Rattle.checker.specs.Checking.{Tables, not-listed, held, signed-by, Blank, Listing-read, Listing-says, length-by, Lead-says, vertex-lines-refusal, Empty-says}
 use Rattle.checker.specs.declared.listing.Block.the-variants.{Refused, Past}

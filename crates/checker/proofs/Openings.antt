@@ -10,7 +10,7 @@ use lib.ListN.{length, drop, length-drop}
 use borrow.Author.Tests.{eqb-true, eqb-false, ltb-true, ltb-false, lt-ltb, le-ltb, ne-eqb}
 use Rattle.text.specs.Lines.{lines, line-at, line-is}
 use Rattle.text.specs.Numbers.{number-at}
-use Rattle.text.specs.Reading.{line-here, past-line}
+use Rattle.text.specs.Reading.{line-here, past-line, skip}
 use Rattle.text.proofs.Reading.{Line-named}
 use Rattle.text.proofs.Tests.{both-true}
 use Rattle.model.specs.Graph.{Graph}
@@ -20,8 +20,7 @@ use Rattle.model.specs.Answer.{answer-names, lasso-names, empty-names, lasso-ve
 use Rattle.model.specs.Passing.{says-lasso, head-layout, counts-fit, stem-in, cycle-in, lasso-refusal, empty-refusal, answer-refusal, check-refusal, answer-verdict}
 use Rattle.model.specs.Entry.{Check-says}
 use Rattle.model.specs.declared.Checked.{Checked}
-use Rattle.casefile.specs.Judging.{skip}
-use Rattle.casefile.proofs.Places.{skip-one, skip-last, skip-lines, skip-line}
+use Rattle.text.proofs.Places.{skip-one, skip-last, skip-lines, skip-line}
 use Rattle.casefile.proofs.Refusals.{first-one, first-append, first-decides}
 use Rattle.checker.specs.Checking.{Told, head-here, counts-right, opening-refusal, opening, edge-lines-refusal, vertex-lines-refusal}
 use Rattle.checker.specs.declared.opening.Head.{Head}

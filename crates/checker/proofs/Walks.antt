@@ -13,13 +13,12 @@ use borrow.Author.Tests.{lt-ltb, le-ltb, le-leb}
 use Rattle.text.proofs.Tests.{and-assoc}
 use Rattle.text.specs.Lines.{Line, lines, line-at}
 use Rattle.text.specs.Numbers.{numbers-line, number-at}
-use Rattle.text.specs.Reading.{line-here}
+use Rattle.text.specs.Reading.{line-here, skip}
 use Rattle.text.proofs.Reading.{Row, No-row, row-rest}
 use Rattle.model.specs.Graph.{Graph, edge, mark, is-walk, walk-end, leaves-accepting, is-lasso}
 use Rattle.model.specs.CaseFile.{refuse, first-of, column}
 use Rattle.model.specs.Passing.{listed-edges-refusal}
-use Rattle.casefile.specs.Judging.{skip}
-use Rattle.casefile.proofs.Places.{skip-none, skip-first, skip-add}
+use Rattle.text.proofs.Places.{skip-none, skip-first, skip-add}
 use Rattle.casefile.proofs.Refusals.{first-one, first-decides}
 use Rattle.checker.specs.Checking.{Tables, Walk-read, Walk-says, edge-lines-refusal, Lasso-says}
 use Rattle.checker.specs.declared.walk.Walked.the-variants.{Refused, Went}

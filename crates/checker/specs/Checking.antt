@@ -11,14 +11,13 @@ use lib.IntN.{ℤ, pos, negsuc, negℤ}
 use lib.Signed.{leZ}
 use Rattle.text.specs.Lines.{Line, lines, line-at, line-is}
 use Rattle.text.specs.Numbers.{numbers-line, number-at}
-use Rattle.text.specs.Reading.{line-here, past-line}
+use Rattle.text.specs.Reading.{line-here, past-line, skip}
 use Rattle.model.specs.Graph.{Graph, edge, mark, is-walk, walk-end, leaves-accepting, is-lasso}
 use Rattle.model.specs.Case.{longest-file, most-listed, farthest}
 use Rattle.model.specs.CaseFile.{refuse, first-of, begins-version, other-version, column}
 use Rattle.model.specs.Answer.{answer-names, no-verdict}
 use Rattle.model.specs.Passing.{says-lasso, head-layout, counts-suit, counts-fit, listed-edges-refusal, listed-vertices-refusal, Listed, number-of, listed-in, all-lead, passes-empty, lasso-refusal, empty-refusal}
 use Rattle.model.specs.declared.Checked.{Checked}
-use Rattle.casefile.specs.Judging.{skip}
 use Rattle.checker.specs.declared.opening.Head.{Head}
 use Rattle.checker.specs.declared.opening.Head.the-variants.{Says, Fault}
 use Rattle.checker.specs.declared.opening.Opening.{Opening}

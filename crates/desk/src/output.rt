@@ -1,5 +1,6 @@
 // Lines on standard output and standard error.
-ghost use Rattle.desk.specs.Lines.{refused-parts, Chain};
+ghost use Rattle.text.specs.Writing.{Chain};
+ghost use Rattle.desk.specs.Lines.{refused-parts};
 use libc::STDERR_FILENO;
 use libc::STDOUT_FILENO;
 use text::write::write_byte;

@@ -9,13 +9,14 @@ use lib.ListN.{length}
 use borrow.Author.Tests.{ne-eqb}
 use Rattle.text.specs.Ascii.{ascii}
 use Rattle.text.specs.Lines.{text, joined}
-use Rattle.text.specs.Writing.{Writes}
+use Rattle.text.specs.Writing.{Writes, Puts}
+use Rattle.text.proofs.Chains.{puts, puts-as}
 use Rattle.model.specs.Answer.{lasso-word, empty-word}
 use Rattle.model.specs.Passing.{check-refusal, answer-verdict}
 use Rattle.model.specs.Entry.{Check-says}
 use Rattle.model.specs.declared.Checked.{Checked}
-use Rattle.desk.specs.Lines.{refused-line, Puts, Shows}
-use Rattle.desk.proofs.Writing.{puts, puts-as, puts-shows, refused-short}
+use Rattle.desk.specs.Lines.{refused-line, Shows}
+use Rattle.desk.proofs.Writing.{puts-shows, refused-short}
 use Rattle.loopcheck.specs.Printing.{pass-line, checked-line, printed}
 
 -- THE LINE of a refusal, of either verdict

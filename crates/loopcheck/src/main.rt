@@ -2,7 +2,8 @@
 // number.
 ghost use Prim.Native.Nat.{_≤_};
 ghost use lib.ListN.{length};
-ghost use Rattle.desk.specs.Lines.{Puts, Shows};
+ghost use Rattle.text.specs.Writing.{Puts};
+ghost use Rattle.desk.specs.Lines.{Shows};
 ghost use Rattle.loopcheck.specs.Printing.{checked-line, printed};
 use casefile::Case;
 use checker::check_answer;

@@ -9,6 +9,7 @@ use lib.ListN.{length, drop, length-append}
 use lib.Seq.{take-append-seam}
 use lib.IntN.{ℤ}
 use borrow.Author.Tests.{eqb-true, eq-eqb, ne-eqb}
+use Rattle.text.specs.Writing.{Puts}
 use Rattle.text.proofs.Tests.{clash}
 use Rattle.model.specs.Case.{least-output, least-work}
 use Rattle.model.specs.CaseFile.{first-of, case-refusal, accepted, case-in}
@@ -17,7 +18,7 @@ use Rattle.model.specs.Answer.{answer}
 use Rattle.model.specs.Entry.{rounds-refusal, in-front, Run-says, Rounds-say}
 use Rattle.model.specs.declared.Outcome.{Outcome}
 use Rattle.model.proofs.Kept.{runs-kept, file-sound}
-use Rattle.desk.specs.Lines.{refused-line, Shows, Puts}
+use Rattle.desk.specs.Lines.{refused-line, Shows}
 use Rattle.desk.proofs.Buffers.{long-buffers}
 use Rattle.desk.proofs.Writing.{puts-shows, refused-short}
 use Rattle.loopfind.specs.Printing.{printed}

@@ -12,7 +12,8 @@ use borrow.Author.Tests.{ne-eqb}
 use Rattle.text.specs.Ascii.{ascii}
 use Rattle.text.specs.Lines.{text, joined}
 use Rattle.text.specs.Numbers.{decimal}
-use Rattle.text.specs.Writing.{Writes}
+use Rattle.text.specs.Writing.{Writes, Puts}
+use Rattle.text.proofs.Chains.{puts, puts-then, puts-as}
 use Rattle.text.proofs.Decimals.{decimal-most}
 use Rattle.model.specs.Case.{Case, least-output, least-work}
 use Rattle.model.specs.CaseFile.{first-of, case-refusal, case-in}
@@ -20,9 +21,9 @@ use Rattle.model.specs.Run.{State, has-ended, by-list}
 use Rattle.model.specs.Answer.{lasso-word, empty-word, answer}
 use Rattle.model.specs.Entry.{acts-refusal, list-refusal, in-front, Run-says, List-says}
 use Rattle.model.specs.declared.Outcome.{Outcome}
-use Rattle.desk.specs.Lines.{Puts, Shows}
+use Rattle.desk.specs.Lines.{Shows}
 use Rattle.desk.proofs.Buffers.{long-buffers}
-use Rattle.desk.proofs.Writing.{puts, puts-then, puts-as, puts-shows}
+use Rattle.desk.proofs.Writing.{puts-shows}
 use Rattle.looplist.specs.Printing.{verdict-word, verdict-line, head, head-room, page, printed}
 
 -- THE LINE OF THE VERDICT

@@ -1,7 +1,7 @@
 // The lines in front of the answer: refusal, verdict and acts.
 ghost use mathlib.Core.List.{[], _∷_, _++_};
 ghost use Rattle.text.specs.Numbers.{decimal};
-ghost use Rattle.desk.specs.Lines.{Puts};
+ghost use Rattle.text.specs.Writing.{Puts};
 ghost use Rattle.looplist.specs.Printing.{verdict-line, head};
 use model::Outcome;
 use text::write::write_byte;

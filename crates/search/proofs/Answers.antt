@@ -1,46 +1,28 @@
--- Writing answers: writers one after the other, and a whole answer at the output's front. Assumes nothing.
+-- Writing answers: their lines, and a whole answer at the output's front. Assumes nothing.
 use mathlib.Core.Path.{_≡_, refl, sym, ap, _∙_}
 use mathlib.Core.List.{List, [], _∷_, _++_}
 use mathlib.Core.Bool.{true, false}
 use mathlib.Core.Option.{Option, none, some}
 use Prim.Native.Nat.{ℕ, zero, suc, _+_, _≤_, _<_}
-use native.Mathlib.Nat.{add-zero, zero-add}
+use native.Mathlib.Nat.{zero-add}
 use native.Mathlib.Omega.{arith}
-use lib.ListN.{length, getD, take, length-append}
+use lib.ListN.{length, getD, take}
 use lib.IntN.{ℤ, pos, negℤ}
 use lib.Signed.{leZ}
 use Rattle.text.specs.Ascii.{ascii}
 use Rattle.text.specs.Lines.{text}
 use Rattle.text.specs.Numbers.{decimal, signed-decimal}
-use Rattle.text.specs.Writing.{put, Writes}
-use Rattle.text.proofs.Writing.{put-front, put-none, put-append, length-put}
+use Rattle.text.specs.Writing.{put, Writes, Puts}
+use Rattle.text.proofs.Writing.{put-front}
+use Rattle.text.proofs.Chains.{puts, puts-none, puts-then, puts-as}
 use Rattle.model.specs.Case.{most-edges}
 use Rattle.model.specs.Run.{distance}
 use Rattle.model.specs.Answer.{lasso-word, empty-word, edge-rows, vertex-rows}
 use Rattle.model.specs.Entry.{in-front}
 use Rattle.model.proofs.Fits.{All-below}
 use Rattle.search.specs.Cells.{Region, far, distance-at}
-use Rattle.search.specs.Writing.{Puts, head-text, Edges-at, Edges-say, Vertex-says, Vertices-say, Reached, Answers, Lasso-says, Empty-says}
+use Rattle.search.specs.Writing.{head-text, Edges-at, Edges-say, Vertex-says, Vertices-say, Reached, Answers, Lasso-says, Empty-says}
 use Rattle.search.proofs.Rows.{edges-none, edges-more, edges-all, vertices-none, vertices-more, vertices-all, no-vertex-line, vertex-line, rows-none, rows-same, rows-one, rows-all, lasso-parts, empty-parts}
-
--- ONE AFTER THE OTHER
-pub puts : {at : ℕ} {bs : List ℕ} {r : ℕ} {o z : List ℕ} → Writes at bs r o z → Puts at bs r o z
-puts w = record { fits = w .fits }
-
-pub puts-none : (at : ℕ) (o : List ℕ) → Puts at [] at o o
-puts-none at o = record { fits = λ h. (sym (add-zero at), sym (put-none at o (omega arith))) }
-
-pub puts-then : {at : ℕ} {bs cs : List ℕ} {r s : ℕ} {o y z : List ℕ} → Puts at bs r o y → Puts r cs s y z → Puts at (bs ++ cs) s o z
-puts-then {at} {bs} {cs} {r} {s} {o} {y} {z} p q = record { fits = λ h. go h (omega (arith, length-append bs cs)) }
-  where
-    go : at + length (bs ++ cs) ≤ length o → at + length bs + length cs ≤ length o → (s ≡ at + length (bs ++ cs)) × (z ≡ put at (bs ++ cs) o)
-    go h k =
-        let f = p .fits (omega arith) in
-        let g = q .fits (omega (arith, f .0, ap length (f .1), length-put at bs o (omega arith))) in
-        (omega (arith, f .0, g .0, length-append bs cs), g .1 ∙ rw (f .1, f .0) (sym (put-append at bs cs o h)))
-
-pub puts-as : {at : ℕ} {bs cs : List ℕ} {r : ℕ} {o z : List ℕ} → bs ≡ cs → Puts at bs r o z → Puts at cs r o z
-puts-as e p = rw (← e) p
 
 -- the whole, from the front on
 pub answers : {bs : List ℕ} {r : ℕ} {o z : List ℕ} → Puts 0 bs r o z → length bs ≤ length o → Answers bs r o z

@@ -6,15 +6,11 @@ use Prim.Native.Nat.{ℕ, _+_, _≤_, _<_}
 use lib.ListN.{length, getD}
 use lib.IntN.{ℤ, pos}
 use Rattle.text.specs.Lines.{fields, text}
-use Rattle.text.specs.Writing.{put}
+use Rattle.text.specs.Writing.{Puts}
 use Rattle.model.specs.Case.{most-vertices, most-edges}
 use Rattle.model.specs.Answer.{answer-names, head-row, edge-rows, lasso-text, vertex-rows, empty-text}
 use Rattle.model.specs.Entry.{in-front}
 use Rattle.search.specs.Cells.{Region, Below, far, distance-at}
-
--- bytes in their place where they have room; o is the output before, z after, r the place past the bytes
-pub record Puts (at : ℕ) (bs : List ℕ) (r : ℕ) (o z : List ℕ) : Type 0 where
-  pub fits : at + length bs ≤ length o → (r ≡ at + length bs) × (z ≡ put at bs o)
 
 -- the first two lines of both answers
 unfoldable pub head-text : (verdict : List ℕ) → (stem cycle reached : ℕ) → List ℕ

@@ -2,8 +2,9 @@
 ghost use mathlib.Core.List.{[], _∷_, _++_};
 ghost use Prim.Native.Nat.{_<_, _≤_, _^_};
 ghost use Rattle.text.specs.Numbers.{decimal};
+ghost use Rattle.text.specs.Writing.{Puts};
 ghost use Rattle.model.specs.Case.{most-vertices};
-ghost use Rattle.search.specs.Writing.{Puts, head-text, Edges-at, Edges-say, Distances-at, Vertex-says, Vertices-say, Reached, Lasso-asks, Lasso-says, Empty-says};
+ghost use Rattle.search.specs.Writing.{head-text, Edges-at, Edges-say, Distances-at, Vertex-says, Vertices-say, Reached, Lasso-asks, Lasso-says, Empty-says};
 use super::cells::Cells;
 use super::cells::load;
 use super::cells::load_below;

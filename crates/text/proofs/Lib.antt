@@ -6,6 +6,8 @@ pub mod ReadingSteps
 pub mod ReadingRows
 pub mod Reading
 pub mod ReadingSigned
+pub mod Places
 pub mod Decimals
 pub mod Writing
+pub mod Chains
 pub mod Rows

@@ -34,6 +34,11 @@ line-here s at = line-at (lines (drop at s)) 0
 unfoldable pub past-line : (text : List ℕ) → (at : ℕ) → ℕ
 past-line s at = let l = line-here s at in at + length (l .text) + cond (l .closed) 1 0
 
+-- the place past so many lines from a place on
+unfoldable pub skip : (lines : ℕ) → (text : List ℕ) → (at : ℕ) → ℕ
+skip zero s at = at
+skip (suc k) s at = skip k s (past-line s at)
+
 -- the field that starts at a place
 abbrev pub field-here : (text : List ℕ) → (at : ℕ) → List ℕ
 field-here s at = field (line-here s at) 0

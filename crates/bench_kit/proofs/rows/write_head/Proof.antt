@@ -1,6 +1,6 @@
 -- `rows::write_head`: the names and the version, a row of four, and the names again.
 use borrow.Author.Needs.{needs}
-use Rattle.desk.proofs.Writing.{chain-more, chain-last, chain-then}
+use Rattle.text.proofs.Chains.{chain-more, chain-last, chain-then}
 use Rattle.bench_kit.proofs.rows.write_head.Statement.{statement}
 use Rattle.bench_kit.proofs.rows.write_head.Tie as tie
 

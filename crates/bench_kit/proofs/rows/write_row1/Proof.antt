@@ -1,6 +1,6 @@
 -- `rows::write_row1`: one number and a line feed.
 use borrow.Author.Needs.{needs}
-use Rattle.desk.proofs.Writing.{chain-more, chain-last}
+use Rattle.text.proofs.Chains.{chain-more, chain-last}
 use Rattle.bench_kit.proofs.rows.write_row1.Statement.{statement}
 use Rattle.bench_kit.proofs.rows.write_row1.Tie as tie
 

@@ -1,6 +1,6 @@
 -- `rows::write_row2`: a number and a space in front of a row of one.
 use borrow.Author.Needs.{needs}
-use Rattle.desk.proofs.Writing.{chain-more}
+use Rattle.text.proofs.Chains.{chain-more}
 use Rattle.bench_kit.proofs.rows.write_row2.Statement.{statement}
 use Rattle.bench_kit.proofs.rows.write_row2.Tie as tie
 

@@ -1,6 +1,6 @@
 -- `rows::write_row3`: a number and a space in front of a row of two.
 use borrow.Author.Needs.{needs}
-use Rattle.desk.proofs.Writing.{chain-more}
+use Rattle.text.proofs.Chains.{chain-more}
 use Rattle.bench_kit.proofs.rows.write_row3.Statement.{statement}
 use Rattle.bench_kit.proofs.rows.write_row3.Tie as tie
 

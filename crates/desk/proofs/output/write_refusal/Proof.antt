@@ -1,6 +1,6 @@
 -- `output::write_refusal`: three writers, one after the other.
 use borrow.Author.Needs.{needs}
-use Rattle.desk.proofs.Writing.{chain-more, chain-last}
+use Rattle.text.proofs.Chains.{chain-more, chain-last}
 use Rattle.desk.proofs.output.write_refusal.Statement.{statement}
 use Rattle.desk.proofs.output.write_refusal.Tie as tie
 

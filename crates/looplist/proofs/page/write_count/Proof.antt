@@ -1,5 +1,5 @@
 -- `page::write_count`: three writers, one after the other.
-use Rattle.desk.proofs.Writing.{puts, puts-then}
+use Rattle.text.proofs.Chains.{puts, puts-then}
 use borrow.Author.Needs.{needs}
 use Rattle.looplist.proofs.page.write_count.Statement.{statement}
 use Rattle.looplist.proofs.page.write_count.Tie as tie

@@ -1,5 +1,5 @@
 -- `page::write_head`: three lines, one after the other.
-use Rattle.desk.proofs.Writing.{puts-then, puts-as}
+use Rattle.text.proofs.Chains.{puts-then, puts-as}
 use Rattle.looplist.proofs.Printing.{head-parts}
 use borrow.Author.Needs.{needs}
 use Rattle.looplist.proofs.page.write_head.Statement.{statement}

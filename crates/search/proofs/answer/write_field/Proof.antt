@@ -1,6 +1,6 @@
 -- `write_field` meets its contract.
 use borrow.Author.Needs.{needs}
-use Rattle.search.proofs.Answers.{puts, puts-then}
+use Rattle.text.proofs.Chains.{puts, puts-then}
 use Rattle.search.proofs.answer.write_field.Statement.{statement}
 use Rattle.search.proofs.answer.write_field.Tie as tie
 

@@ -1,6 +1,6 @@
 -- `write_head` meets its contract: seven writers, one after the other.
 use borrow.Author.Needs.{needs}
-use Rattle.search.proofs.Answers.{puts, puts-as, puts-then}
+use Rattle.text.proofs.Chains.{puts, puts-as, puts-then}
 use Rattle.search.proofs.Rows.{head-parts}
 use Rattle.search.proofs.answer.write_head.Statement.{statement}
 use Rattle.search.proofs.answer.write_head.Tie as tie

@@ -6,10 +6,9 @@ use native.Mathlib.Omega.{arith}
 use native.Mathlib.Nat.{add-zero, suc-add, zero-add}
 use lib.ListN.{drop}
 use lib.Seq.{drop-drop, getD-drop}
 use Rattle.text.specs.Lines.{Line, lines, line-at}
-use Rattle.text.specs.Reading.{line-here, past-line}
+use Rattle.text.specs.Reading.{line-here, past-line, skip}
 use Rattle.text.proofs.Reading.{past-lines}
-use Rattle.casefile.specs.Judging.{skip}
 
 pub skip-none : (s : List ℕ) (at : ℕ) → skip 0 s at ≡ at
 unfolding skip
