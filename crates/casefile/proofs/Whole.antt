@@ -19,7 +19,7 @@ use Rattle.text.proofs.Tests.{both-true}
 use Rattle.model.specs.Case.{most-vertices, most-edges, most-workers, longest-file, known-version}
 use Rattle.model.specs.CaseFile.{refuse, first-of, head-names, vertex-names, edge-names, begins-version, other-version, counts-good, vertices-refusal, edges-refusal, case-refusal, accepted, case-in}
 use Rattle.model.proofs.Accepting.{edge-ends}
-use Rattle.casefile.specs.Judging.{header, judged, counts-in-range, head-refusal, head-says, block-says}
+use Rattle.casefile.specs.Judging.{header, judged, counts-in-range, head-refusal, counts-in, head-says, block-says}
 use Rattle.casefile.specs.declared.Case.{Case}
 use Rattle.casefile.specs.declared.Judged.{Judged}
 use Rattle.casefile.specs.declared.Judged.the-variants.{Refused, Accepted}
@@ -85,8 +85,8 @@ pub counts-are : {s : List ℕ} {n m u p : ℕ} → Counted s n m u p → counts
 unfolding counts-good counts-in-range
 counts-are k = rw (k .vertices, k .edges, k .source, k .workers) refl
 
-pub head-counts : {s : List ℕ} {n m u p : ℕ} → Counted s n m u p → head-refusal s ≡ 0 → Counts n m u p (skip 3 s 0) ≡ head-says s
-unfolding head-says
+pub head-counts : {s : List ℕ} {n m u p : ℕ} → Counted s n m u p → head-refusal s ≡ 0 → Counts (record { vertices = n; edges = m; source = u; workers = p }) (skip 3 s 0) ≡ head-says s
+unfolding head-says counts-in
 head-counts k e = rw (e, k .vertices, k .edges, k .source, k .workers) refl
 
 -- lines 1 to 3, fault by fault: what is known before line 1's names are read
@@ -125,7 +125,7 @@ module _ {s : List ℕ} (o : Opened s) where
       pub head-untitled : counts-in-range n m u p ≡ true → line-is vertex-names (line-here s y) ≡ false → Bad-head 4 ≡ head-says s
       head-untitled g b = head-names-4 s (o .short) (o .begun) (o .version) laid (counts-are counts ∙ g) (rw line-3 at b)
 
-      pub head-whole : {x : ℕ} → counts-in-range n m u p ≡ true → Line-named s y vertex-names x → Counts n m u p x ≡ head-says s
+      pub head-whole : {x : ℕ} → counts-in-range n m u p ≡ true → Line-named s y vertex-names x → Counts (record { vertices = n; edges = m; source = u; workers = p }) x ≡ head-says s
       head-whole {x} g b =
           let e : x ≡ skip 3 s 0 = sym (b .past) ∙ (rw (← r .past, second, ← skip-last 1 s 0) (sym (skip-last 2 s 0))) in
           rw e (head-counts counts (head-right s (o .short) (o .begun) (o .version) laid (counts-are counts ∙ g) (rw line-3 at (b .line))))
@@ -136,13 +136,22 @@ pub record Headed (s : List ℕ) (n m u p rows : ℕ) : Type 0 where
   pub counts : Counted s n m u p
   pub place : skip 3 s 0 ≡ rows
 
-pub headed : (s : List ℕ) (n m u p rows : ℕ) → head-says s ≡ Counts n m u p rows → Headed s n m u p rows
+counted-in : {s : List ℕ} {c : Case} → counts-in s ≡ c → Counted s (c .vertices) (c .edges) (c .source) (c .workers)
+unfolding counts-in
+counted-in e =
+    record {
+      vertices = ap (λ (k : Case). k .vertices) e;
+      edges = ap (λ (k : Case). k .edges) e;
+      source = ap (λ (k : Case). k .source) e;
+      workers = ap (λ (k : Case). k .workers) e;
+    }
+
+pub headed : (s : List ℕ) (c : Case) (rows : ℕ) → head-says s ≡ Counts c rows → Headed s (c .vertices) (c .edges) (c .source) (c .workers) rows
 unfolding head-says
-headed s n m u p rows h = go (eqb (head-refusal s) 0) refl h
+headed s c rows h = go (eqb (head-refusal s) 0) refl h
   where
-    go : (b : Bool) → eqb (head-refusal s) 0 ≡ b → let l = line-at (lines s) 1 in
-        cond b (Counts (number-at l 1) (number-at l 2) (number-at l 3) (number-at l 4) (skip 3 s 0)) (Bad-head (head-refusal s)) ≡ Counts n m u p rows → Headed s n m u p rows
-    go true e q = record { right = eqb-true (head-refusal s) 0 e; counts = record { vertices = cc; edges = cc; source = cc; workers = cc }; place = cc }
+    go : (b : Bool) → eqb (head-refusal s) 0 ≡ b → cond b (Counts (counts-in s) (skip 3 s 0)) (Bad-head (head-refusal s)) ≡ Counts c rows → Headed s (c .vertices) (c .edges) (c .source) (c .workers) rows
+    go true e q = record { right = eqb-true (head-refusal s) 0 e; counts = counted-in (cc); place = cc }
     go false e q = let z : _≡_ {A = ℕ} 0 1 = cc in absurd (omega arith)
 
 -- the refusals of what follows line 3; the first three lines decide before them
@@ -163,8 +172,7 @@ pub head-judged : (s : List ℕ) (k : ℕ) → Bad-head k ≡ head-says s → Re
 unfolding head-says
 head-judged s k h = go (eqb (head-refusal s) 0) refl h
   where
-    go : (b : Bool) → eqb (head-refusal s) 0 ≡ b → let l = line-at (lines s) 1 in
-        Bad-head k ≡ cond b (Counts (number-at l 1) (number-at l 2) (number-at l 3) (number-at l 4) (skip 3 s 0)) (Bad-head (head-refusal s)) → Refused k ≡ judged s
+    go : (b : Bool) → eqb (head-refusal s) 0 ≡ b → Bad-head k ≡ cond b (Counts (counts-in s) (skip 3 s 0)) (Bad-head (head-refusal s)) → Refused k ≡ judged s
     go true e q = let z : _≡_ {A = ℕ} 0 1 = cc in absurd (omega arith)
     go false e q =
         let z : head-refusal s ≡ k = cc in
@@ -259,10 +267,10 @@ module _ {s : List ℕ} {n m u p rows : ℕ} (h : Headed s n m u p rows) where
               let f : edges-refusal m n none (drop (4 + n) (lines s)) ≡ 0 = rw (rest-place, skip-lines (4 + n) s 0) at (block-good _ m s (rest) end g .0) in
               rw (h .counts .vertices, h .counts .edges) (edge-ends m n none (drop (4 + n) (lines s)) f .many)
 
-          pub all-accepted : Accepted (record { vertices = n; edges = m; source = u; workers = p; «vertex_lines» = rows; «edge_lines» = rest }) ≡ judged s
+          pub all-accepted : Accepted (record { vertices = n; edges = m; source = u; workers = p }) ≡ judged s
           unfolding judged accepted header
           all-accepted =
-              rw (right, many, rest-place, ← h .place) (unfold case-in in (rw (h .counts .vertices, h .counts .source, h .counts .workers) refl))
+              rw (right, many) (unfold case-in in (rw (h .counts .vertices, h .counts .source, h .counts .workers) refl))
 
 -- THE VERSION: line 2's first field
 version-field : (s : List ℕ) (z : ℕ) → z ≡ past-line s 0 → field-here s z ≡ field (line-at (lines s) 1) 0

@@ -1,5 +1,5 @@
 -- What the functions of src/lib.rt answer, by model's definition of case files: 01's number for each refusal, or the
--- case's counts and where its lines start. Assumes nothing: these are definitions.
+-- case's counts. Assumes nothing: these are definitions.
 use mathlib.Core.Bool.{Bool, _&&_, not, cond}
 use mathlib.Core.List.{List, [], _∷_}
 use mathlib.Core.Option.{Option, none, some}
@@ -20,18 +20,11 @@ use Rattle.casefile.specs.declared.Head.the-variants.{Refused as Bad-hea
 use Rattle.casefile.specs.declared.Block.{Block}
 use Rattle.casefile.specs.declared.Block.the-variants.{Refused as Bad-block, Past}
 
--- THE JUDGE: an accepted text gives its case, with where vertex and edge lines start: lines 4 and 5 + n of the file
+-- THE JUDGE: an accepted text gives its case's counts
 unfoldable pub header : (file : List ℕ) → Case
 header bs =
     let c = case-in bs in
-    record {
-      vertices = c .graph .vertices;
-      edges = length (c .graph .edges);
-      source = c .graph .source;
-      workers = c .workers;
-      «vertex_lines» = skip 3 bs 0;
-      «edge_lines» = skip (4 + c .graph .vertices) bs 0;
-    }
+    record { vertices = c .graph .vertices; edges = length (c .graph .edges); source = c .graph .source; workers = c .workers }
 
 unfoldable pub judged : (file : List ℕ) → Judged
 judged bs = cond (accepted bs) (Accepted (header bs)) (Refused (case-refusal bs))
@@ -52,10 +45,15 @@ head-refusal bs =
     ∷ refuse (not (line-is vertex-names (line-at ls 2))) 4
     ∷ [])
 
-unfoldable pub head-says : (file : List ℕ) → Head
-head-says bs =
+-- what line 2 counts
+unfoldable pub counts-in : (file : List ℕ) → Case
+counts-in bs =
     let h = line-at (lines bs) 1 in
-    cond (eqb (head-refusal bs) 0) (Counts (number-at h 1) (number-at h 2) (number-at h 3) (number-at h 4) (skip 3 bs 0)) (Bad-head (head-refusal bs))
+    record { vertices = number-at h 1; edges = number-at h 2; source = number-at h 3; workers = number-at h 4 }
+
+-- the refusal of lines 1 to 3; or the counts, and the place past these lines
+unfoldable pub head-says : (file : List ℕ) → Head
+head-says bs = cond (eqb (head-refusal bs) 0) (Counts (counts-in bs) (skip 3 bs 0)) (Bad-head (head-refusal bs))
 
 -- a block of so many lines: its refusal, or the place past it
 unfoldable pub block-says : (refusal many : ℕ) → (text : List ℕ) → (at : ℕ) → Block

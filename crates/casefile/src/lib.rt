@@ -22,14 +22,12 @@ use text::read::row_of_2;
 use text::read::row_of_3;
 use text::read::row_of_5;
 
-// An accepted case: its counts, and where its vertex lines and its edge lines start in the text.
+// The counts of an accepted case.
 pub struct Case {
     pub vertices: usize,
     pub edges: usize,
     pub source: usize,
     pub workers: usize,
-    pub vertex_lines: usize,
-    pub edge_lines: usize,
 }
 
 impl Case {
@@ -70,31 +68,31 @@ pub fn other_version(text: &[u8]) -> bool
 }
 
 // Whether the counts and the source are in range.
-fn in_range(n: usize, m: usize, source: usize, workers: usize) -> bool
-    ensures { λ r. ⌜ r ≡ counts-in-range n m source workers ⌝ }
+fn in_range(case: Case) -> bool
+    ensures { λ r. ⌜ r ≡ counts-in-range (case .vertices) (case .edges) (case .source) (case .workers) ⌝ }
 {
-    if n < 1 {
+    if case.vertices < 1 {
         return false;
     }
-    if Case::MOST_VERTICES < n {
+    if Case::MOST_VERTICES < case.vertices {
         return false;
     }
-    if Case::MOST_EDGES < m {
+    if Case::MOST_EDGES < case.edges {
         return false;
     }
-    if n <= source {
+    if case.vertices <= case.source {
         return false;
     }
-    if workers < 1 {
+    if case.workers < 1 {
         return false;
     }
-    workers <= Case::MOST_WORKERS
+    case.workers <= Case::MOST_WORKERS
 }
 
 // Lines 1 to 3: the refusal, or the counts and the place past them.
 enum Head {
     Refused(u32),
-    Counts(usize, usize, usize, usize, usize),
+    Counts(Case, usize),
 }
 
 fn read_head(text: &[u8]) -> Head
@@ -115,19 +113,19 @@ fn read_head(text: &[u8]) -> Head
     let Row5::Read(_, n, m, source, workers, third) = row_of_5(text, second) else {
         return Head::Refused(4);
     };
-    if !in_range(n as usize, m as usize, source as usize, workers as usize) {
+    let case = Case {
+        vertices: n as usize,
+        edges: m as usize,
+        source: source as usize,
+        workers: workers as usize,
+    };
+    if !in_range(case) {
         return Head::Refused(5);
     }
     let Named::Past(rows) = name_line(text, third, b"vertex accepting owner") else {
         return Head::Refused(4);
     };
-    Head::Counts(
-        n as usize,
-        m as usize,
-        source as usize,
-        workers as usize,
-        rows,
-    )
+    Head::Counts(case, rows)
 }
 
 // Puts a value into a table that has room for it.
@@ -244,37 +242,34 @@ fn edge_block(
 // The lines after line 3, of a text whose first three are right.
 fn read_body(
     text: &[u8],
-    n: usize,
-    m: usize,
-    source: usize,
-    workers: usize,
+    case: Case,
     rows: usize,
     marks: &mut [u32],
     owners: &mut [u32],
     froms: &mut [u32],
     tos: &mut [u32],
 ) -> Judged
-    requires { ⌜ head-says (now text) ≡ Head.Counts n m source workers rows ⌝ }
+    requires { ⌜ head-says (now text) ≡ Head.Counts case rows ⌝ }
     ensures { λ r. ⌜ Case-read (now (text .entry)) r (now (marks .entry)) (now (marks .exit)) (now (owners .entry)) (now (owners .exit)) (now (froms .entry)) (now (froms .exit)) (now (tos .entry)) (now (tos .exit)) ⌝ }
 {
-    match vertex_block(text, rows, n, workers, marks, owners) {
+    match vertex_block(text, rows, case.vertices, case.workers, marks, owners) {
         Block::Refused(k) => Judged::Refused(k),
         Block::Past(names) => match name_line(text, names, b"from to") {
             Named::Other => Judged::Refused(4),
-            Named::Past(edge_rows) => match edge_block(text, edge_rows, m, n, froms, tos) {
+            Named::Past(edge_rows) => match edge_block(
+                text,
+                edge_rows,
+                case.edges,
+                case.vertices,
+                froms,
+                tos,
+            ) {
                 Block::Refused(k) => Judged::Refused(k),
                 Block::Past(end) => {
                     if end < text.len() {
                         return Judged::Refused(4);
                     }
-                    Judged::Accepted(Case {
-                        vertices: n,
-                        edges: m,
-                        source: source,
-                        workers: workers,
-                        vertex_lines: rows,
-                        edge_lines: edge_rows,
-                    })
+                    Judged::Accepted(case)
                 }
             },
         },
@@ -294,18 +289,7 @@ pub fn read_case(
 {
     match read_head(text) {
         Head::Refused(k) => Judged::Refused(k),
-        Head::Counts(n, m, source, workers, rows) => read_body(
-            text,
-            n,
-            m,
-            source,
-            workers,
-            rows,
-            marks,
-            owners,
-            froms,
-            tos,
-        ),
+        Head::Counts(case, rows) => read_body(text, case, rows, marks, owners, froms, tos),
     }
 }
 

@@ -1,31 +1,24 @@
+-- `casefile::in_range`: test by test.
 use native.Mathlib.Omega.{arith}
 use Rattle.casefile.proofs.Whole.{few-vertices, many-vertices, many-edges, far-source, few-workers, right-so-far}
 use Rattle.casefile.proofs.in_range.Statement.{statement}
 use Rattle.casefile.proofs.in_range.Tie as tie
-use Rattle.casefile.proofs.in_range.Reads as reads
-use Rattle.casefile.proofs.in_range.Lts as lts
 
--- src/lib.rt:61:9
 returns : tie.Need-returns
 returns c = few-vertices _ _ _ _ (c .if1 .taken)
 
--- src/lib.rt:64:9
 returns-2 : tie.Need-returns-2
 returns-2 c = many-vertices _ _ _ _ (c .if2 .taken)
 
--- src/lib.rt:67:9
 returns-3 : tie.Need-returns-3
 returns-3 c = many-edges _ _ _ _ (c .if3 .taken)
 
--- src/lib.rt:70:9
 returns-4 : tie.Need-returns-4
 returns-4 c = far-source _ _ _ _ (c .if4 .taken)
 
--- src/lib.rt:73:9
 returns-5 : tie.Need-returns-5
 returns-5 c = few-workers _ _ _ _ (c .if5 .taken)
 
--- src/lib.rt:57:1
 returns-6 : tie.Need-returns-6
 returns-6 c = right-so-far _ _ _ _ (omega arith) (omega arith) (omega arith) (omega arith) (omega arith)
 

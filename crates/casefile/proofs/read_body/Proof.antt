@@ -52,7 +52,7 @@ same-length-4 c = search needs
 
 returns : tie.Need-returns
 returns c =
-    let h = headed _ _ _ _ _ _ (c .before .before .before .before .before .before .before .before .before .before .before .before .before .before .before .before .before .before .before .before .before .before .before .before .before .before .before .before .before .before .before .pre) in
+    let h = headed _ _ _ (c .before .before .before .before .before .before .before .before .before .before .before .before .before .before .before .before .before .before .before .before .before .before .before .before .before .before .before .before .before .before .before .pre) in
     let v = c .before .before .before .before .before .before .before .before .before .before .before .before .before .before .before .before .before .before .before .before .before .before .before .vertex-block .ensures in
     let past = sym (c .before .before .before .before .before .before .before .before .before .before .before .before .before .before .before .before .before .names .given .1) ∙ v .answer in
     let named = named-read refl (c .before .before .before .before .before .before .before .before .before .before .before .before .before .before .name-line .ensures) (c .before .before .before .before .before .before .before .before .before .before .before .before .edge-rows .given .1) in
@@ -67,7 +67,7 @@ same-length-6 c = search needs
 
 returns-2 : tie.Need-returns-2
 returns-2 c =
-    let h = headed _ _ _ _ _ _ (c .before .before .before .before .before .before .before .before .before .before .before .before .before .before .before .pre) in
+    let h = headed _ _ _ (c .before .before .before .before .before .before .before .before .before .before .before .before .before .before .before .pre) in
     let v = c .before .before .before .before .before .before .before .vertex-block .ensures in
     rows-read h v (vertices-refused h _ (sym (c .before .k .given .1) ∙ v .answer)) _ _
 
@@ -79,7 +79,7 @@ same-length-8 c = search needs
 
 returns-3 : tie.Need-returns-3
 returns-3 c =
-    let h = headed _ _ _ _ _ _ (c .before .before .before .before .before .before .before .before .before .before .before .before .before .before .before .before .before .before .before .pre) in
+    let h = headed _ _ _ (c .before .before .before .before .before .before .before .before .before .before .before .before .before .before .before .before .before .before .before .pre) in
     let v = c .before .before .before .before .before .before .before .before .before .before .before .vertex-block .ensures in
     let past = sym (c .before .before .before .before .before .names .given .1) ∙ v .answer in
     rows-read h v (names-refused h _ past (named-other edge-names _ _ refl (c .before .before .name-line .ensures) (c .enum-told .given .1))) _ _
@@ -98,7 +98,7 @@ same-length-12 c = search needs
 
 returns-4 : tie.Need-returns-4
 returns-4 c =
-    let h = headed _ _ _ _ _ _ (c .before .before .before .before .before .before .before .before .before .before .before .before .before .before .before .before .before .before .before .before .before .before .before .before .before .before .before .before .before .before .pre) in
+    let h = headed _ _ _ (c .before .before .before .before .before .before .before .before .before .before .before .before .before .before .before .before .before .before .before .before .before .before .before .before .before .before .before .before .before .before .pre) in
     let v = c .before .before .before .before .before .before .before .before .before .before .before .before .before .before .before .before .before .before .before .before .before .before .vertex-block .ensures in
     let past = sym (c .before .before .before .before .before .before .before .before .before .before .before .before .before .before .before .before .names .given .1) ∙ v .answer in
     let named = named-read refl (c .before .before .before .before .before .before .before .before .before .before .before .before .before .name-line .ensures) (c .before .before .before .before .before .before .before .before .before .before .before .edge-rows .given .1) in
@@ -119,7 +119,7 @@ same-length-16 c = search needs
 
 returns-5 : tie.Need-returns-5
 returns-5 c =
-    let h = headed _ _ _ _ _ _ (c .before .before .before .before .before .before .before .before .before .before .before .before .before .before .before .before .before .before .before .before .before .before .before .before .before .before .before .before .before .before .before .pre) in
+    let h = headed _ _ _ (c .before .before .before .before .before .before .before .before .before .before .before .before .before .before .before .before .before .before .before .before .before .before .before .before .before .before .before .before .before .before .before .pre) in
     let v = c .before .before .before .before .before .before .before .before .before .before .before .before .before .before .before .before .before .before .before .before .before .before .before .vertex-block .ensures in
     let past = sym (c .before .before .before .before .before .before .before .before .before .before .before .before .before .before .before .before .before .names .given .1) ∙ v .answer in
     let named = named-read refl (c .before .before .before .before .before .before .before .before .before .before .before .before .before .before .name-line .ensures) (c .before .before .before .before .before .before .before .before .before .before .before .before .edge-rows .given .1) in

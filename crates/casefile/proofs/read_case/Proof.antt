@@ -12,11 +12,11 @@ read-head-requires c κs = search needs
 enum-known-k : tie.Need-enum-known-k
 enum-known-k c = search needs
 
-enum-known-n : tie.Need-enum-known-n
-enum-known-n c = search needs
+enum-known-case : tie.Need-enum-known-case
+enum-known-case c = search needs
 
 read-body-requires : tie.Need-read-body-requires
-read-body-requires c κs = sym (c .before .before .before .before .before .before .before .read-head .ensures) ∙ c .before .before .before .before .before .n .given .1
+read-body-requires c κs = sym (c .before .before .before .before .before .before .before .read-head .ensures) ∙ c .before .before .before .before .before .case .given .1
 
 returns : tie.Need-returns
 returns c = none-read (head-judged _ _ (sym (c .before .k .given .1) ∙ c .before .before .before .read-head .ensures)) _ _ _ _
@@ -42,7 +42,7 @@ read-case-spec =
     (tie.spec
     read-head-requires
     enum-known-k
-    enum-known-n
+    enum-known-case
     read-body-requires
     returns
     same-length

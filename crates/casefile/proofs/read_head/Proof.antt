@@ -60,17 +60,17 @@ enum-told-2 c = search needs
 returns-5 : tie.Need-returns-5
 returns-5 c = head-torn (opened (c .before .before .before .before .before .before .before .before)) (named (c .before .before .before .before)) (row5-fault _ _ (c .before .before .row-of-5 .ensures) (c .enum-told2 .given .1))
 
-cast-in-range : tie.Need-cast-in-range
-cast-in-range c = search needs
+cast-t13 : tie.Need-cast-t13
+cast-t13 c = search needs
 
-cast-in-range-2 : tie.Need-cast-in-range-2
-cast-in-range-2 c = search needs
+cast-t23 : tie.Need-cast-t23
+cast-t23 c = search needs
 
-cast-in-range-3 : tie.Need-cast-in-range-3
-cast-in-range-3 c = search needs
+cast-t24 : tie.Need-cast-t24
+cast-t24 c = search needs
 
-cast-in-range-4 : tie.Need-cast-in-range-4
-cast-in-range-4 c = search needs
+cast-t25 : tie.Need-cast-t25
+cast-t25 c = search needs
 
 in-range-requires : tie.Need-in-range-requires
 in-range-requires c κs = search needs
@@ -92,18 +92,6 @@ enum-told-3 c = search needs
 
 returns-7 : tie.Need-returns-7
 returns-7 c = head-untitled (opened (c .before .before .before .before .before .before .before .before .before .before .before .before .before .before .before)) (named (c .before .before .before .before .before .before .before .before .before .before .before)) (row5-read (c .before .before .before .before .before .before .before .before .before .row-of-5 .ensures) (c .before .before .before .before .before .before .before .n .given .1)) (sym (c .before .before .before .before .before .in-range .ensures) ∙ upheld _ _ (c .before .before .before .before .if4 .left) refl) (named-other vertex-names _ _ refl (c .before .before .name-line2 .ensures) (c .enum-told3 .given .1))
-
-cast-t12 : tie.Need-cast-t12
-cast-t12 c = search needs
-
-cast-t22 : tie.Need-cast-t22
-cast-t22 c = search needs
-
-cast-t24 : tie.Need-cast-t24
-cast-t24 c = search needs
-
-cast-t23 : tie.Need-cast-t23
-cast-t23 c = search needs
 
 returns-8 : tie.Need-returns-8
 returns-8 c = head-whole (opened (c .before .before .before .before .before .before .before .before .before .before .before .before .before .before .before .before)) (named (c .before .before .before .before .before .before .before .before .before .before .before .before)) (row5-read (c .before .before .before .before .before .before .before .before .before .before .row-of-5 .ensures) (c .before .before .before .before .before .before .before .before .n .given .1)) (sym (c .before .before .before .before .before .before .in-range .ensures) ∙ upheld _ _ (c .before .before .before .before .before .if4 .left) refl) (named-read refl (c .before .before .before .name-line2 .ensures) (c .before .rows .given .1))
@@ -127,10 +115,10 @@ read-head-spec =
     enum-known-n
     enum-told-2
     returns-5
-    cast-in-range
-    cast-in-range-2
-    cast-in-range-3
-    cast-in-range-4
+    cast-t13
+    cast-t23
+    cast-t24
+    cast-t25
     in-range-requires
     returns-6
     slice-aggregate-name-line-2
@@ -138,8 +126,4 @@ read-head-spec =
     enum-known-rows
     enum-told-3
     returns-7
-    cast-t12
-    cast-t22
-    cast-t24
-    cast-t23
     returns-8)
