@@ -12,23 +12,12 @@ use lib.ListN.{drop}
 use borrow.Author.Tests.{eq-eqb, ne-eqb, lt-ltb, le-ltb}
 use Rattle.text.specs.Lines.{Line, lines, line-at}
 use Rattle.text.specs.Numbers.{numbers-line}
-use Rattle.text.specs.Reading.{line-here, skip}
+use Rattle.text.specs.Reading.{line-here}
 use Rattle.text.proofs.Reading.{Row, No-row, past-lines}
 use Rattle.model.specs.Graph.{Edge}
 use Rattle.model.specs.CaseFile.{refuse, first-of, vertex-good, vertices-refusal, edge-of, edge-good, rises, edges-refusal}
-use Rattle.casefile.specs.Judging.{block-says, edge-before}
-use Rattle.casefile.specs.declared.Block.the-variants.{Refused, Past}
+use Rattle.casefile.specs.Judging.{edge-before}
 use Rattle.casefile.proofs.Refusals.{first-one}
-use Rattle.text.proofs.Places.{skip-none, skip-first}
-
--- a block's answer, by its refusal
-pub block-past : (r k : ℕ) (s : List ℕ) (at : ℕ) → r ≡ 0 → Past (skip k s at) ≡ block-says r k s at
-unfolding block-says
-block-past r k s at e = rw e refl
-
-pub block-refused : (r j k : ℕ) (s : List ℕ) (at : ℕ) → r ≡ suc j → Refused (suc j) ≡ block-says r k s at
-unfolding block-says
-block-refused r j k s at e = rw (e, ne-eqb (suc j) 0 (λ z. omega arith)) refl
 
 -- VERTEX LINES
 vertices-step : (k v p : ℕ) (ls : List Line) →
@@ -41,46 +30,40 @@ vertices-step k v p ls = go (numbers-line 3 (line-at ls 0)) (vertex-good v p (li
     go true false = refl
     go false b = refl
 
--- v lines of n have been read without a fault, and the next one is at here
+-- v lines of n have been read without a fault, and the next one is at here: those left decide, however many there are
 pub record Vertices-left (s : List ℕ) (at n p here v : ℕ) : Type 0 where
   pub within : v ≤ n
-  pub left : vertices-refusal (n - v) v p (lines (drop here s)) ≡ vertices-refusal n 0 p (lines (drop at s))
-  pub place : skip (n - v) s here ≡ skip n s at
+  pub left : (k : ℕ) → v ≤ k → vertices-refusal (k - v) v p (lines (drop here s)) ≡ vertices-refusal k 0 p (lines (drop at s))
 
 pub vertices-start : (s : List ℕ) (at n p : ℕ) → Vertices-left s at n p at 0
-vertices-start s at n p = let z : n - 0 ≡ n = omega arith in record { within = omega arith; left = rw z refl; place = rw z refl }
+vertices-start s at n p = record { within = omega arith; left = λ k h. (let z : k - 0 ≡ k = omega arith in rw z refl) }
 
 module _ {s : List ℕ} {at n p here v : ℕ} (g : Vertices-left s at n p here v) where
-  pub vertices-end : n ≤ v → Past here ≡ block-says (vertices-refusal n 0 p (lines (drop at s))) n s at
-  vertices-end h =
-      let z : n - v ≡ 0 = omega arith in
-      let e : here ≡ skip n s at = sym (skip-none s here) ∙ (rw z at (g .place)) in
-      ap (λ (q : ℕ). Past q) e ∙ block-past _ n s at (sym (g .left) ∙ (rw z (unfold vertices-refusal in refl)))
+  pub vertices-clean : vertices-refusal v 0 p (lines (drop at s)) ≡ 0
+  vertices-clean = let z : v - v ≡ 0 = omega arith in sym (g .left v (omega arith)) ∙ (rw z (unfold vertices-refusal in refl))
 
-  vertices-next : v < n → vertices-refusal n 0 p (lines (drop at s))
-      ≡ cond (numbers-line 3 (line-here s here)) (cond (vertex-good v p (line-here s here)) (vertices-refusal (n - (v + 1)) (suc v) p (drop 1 (lines (drop here s)))) 6) 4
-  vertices-next h =
-      let e : n - v ≡ suc (n - (v + 1)) = omega arith in
-      sym (g .left) ∙ (rw e (vertices-step (n - (v + 1)) v p (lines (drop here s))))
+  vertices-next : (k : ℕ) → v < k → vertices-refusal k 0 p (lines (drop at s))
+      ≡ cond (numbers-line 3 (line-here s here)) (cond (vertex-good v p (line-here s here)) (vertices-refusal (k - (v + 1)) (suc v) p (drop 1 (lines (drop here s)))) 6) 4
+  vertices-next k h =
+      let e : k - v ≡ suc (k - (v + 1)) = omega arith in
+      sym (g .left k (omega arith)) ∙ (rw e (vertices-step (k - (v + 1)) v p (lines (drop here s))))
 
-  pub vertices-torn : v < n → No-row 3 s here → Refused 4 ≡ block-says (vertices-refusal n 0 p (lines (drop at s))) n s at
-  vertices-torn h b = block-refused _ 3 n s at (vertices-next h ∙ (rw (b .none) refl))
+  -- no row, or a wrong one: a fault of this line and all longer blocks
+  pub vertices-torn : No-row 3 s here → (k : ℕ) → v < k → vertices-refusal k 0 p (lines (drop at s)) ≡ 4
+  vertices-torn b k h = vertices-next k h ∙ (rw (b .none) refl)
 
   module _ {a b c z : ℕ} (r : Row s here (a ∷ b ∷ c ∷ []) z) where
     good : vertex-good v p (line-here s here) ≡ (eqb a v && (ltb b 2 && ltb c p))
     unfolding vertex-good
     good = rw (r .are 0 (omega arith), r .are 1 (omega arith), r .are 2 (omega arith)) refl
 
-    pub vertices-wrong : v < n → (eqb a v && (ltb b 2 && ltb c p)) ≡ false → Refused 6 ≡ block-says (vertices-refusal n 0 p (lines (drop at s))) n s at
-    vertices-wrong h x = block-refused _ 5 n s at (vertices-next h ∙ (rw (r .line, good, x) refl))
+    pub vertices-wrong : (eqb a v && (ltb b 2 && ltb c p)) ≡ false → (k : ℕ) → v < k → vertices-refusal k 0 p (lines (drop at s)) ≡ 6
+    vertices-wrong x k h = vertices-next k h ∙ (rw (r .line, good, x) refl)
 
     pub vertices-more : v < n → (eqb a v && (ltb b 2 && ltb c p)) ≡ true → Vertices-left s at n p z (v + 1)
     vertices-more h x = record {
       within = omega arith;
-      left = rw (← r .past, past-lines s here) (ap (λ (i : ℕ). vertices-refusal (n - (v + 1)) i p (drop 1 (lines (drop here s)))) (add-one v) ∙ sym (vertices-next h ∙ (rw (r .line, good, x) refl)));
-      place =
-          let e : n - v ≡ suc (n - (v + 1)) = omega arith in
-          rw (← r .past, ← skip-first (n - (v + 1)) s here, ← e) (g .place);
+      left = λ k l. rw (← r .past, past-lines s here) (ap (λ (i : ℕ). vertices-refusal (k - (v + 1)) i p (drop 1 (lines (drop here s)))) (add-one v) ∙ sym (vertices-next k (omega arith) ∙ (rw (r .line, good, x) refl)));
     }
 
 -- EDGE LINES: whether one comes after the one before
@@ -115,50 +98,43 @@ edges-step k n o ls = go (numbers-line 2 (line-at ls 0)) (edge-good n (edge-of (
 -- e edges of m have been read without a fault, the last from f to t, and the next one is at here
 pub record Edges-left (s : List ℕ) (at m n here e f t : ℕ) : Type 0 where
   pub within : e ≤ m
-  pub left : edges-refusal (m - e) n (edge-before e f t) (lines (drop here s)) ≡ edges-refusal m n none (lines (drop at s))
-  pub place : skip (m - e) s here ≡ skip m s at
+  pub left : (k : ℕ) → e ≤ k → edges-refusal (k - e) n (edge-before e f t) (lines (drop here s)) ≡ edges-refusal k n none (lines (drop at s))
 
 pub edges-start : (s : List ℕ) (at m n f t : ℕ) → Edges-left s at m n at 0 f t
 unfolding edge-before
-edges-start s at m n f t = let z : m - 0 ≡ m = omega arith in record { within = omega arith; left = rw z refl; place = rw z refl }
+edges-start s at m n f t = record { within = omega arith; left = λ k h. (let z : k - 0 ≡ k = omega arith in rw z refl) }
 
 module _ {s : List ℕ} {at m n here e f t : ℕ} (g : Edges-left s at m n here e f t) where
-  pub edges-end : m ≤ e → Past here ≡ block-says (edges-refusal m n none (lines (drop at s))) m s at
-  edges-end h =
-      let z : m - e ≡ 0 = omega arith in
-      let q : here ≡ skip m s at = sym (skip-none s here) ∙ (rw z at (g .place)) in
-      ap (λ (q : ℕ). Past q) q ∙ block-past _ m s at (sym (g .left) ∙ (rw z (unfold edges-refusal in refl)))
+  pub edges-clean : edges-refusal e n none (lines (drop at s)) ≡ 0
+  edges-clean = let z : e - e ≡ 0 = omega arith in sym (g .left e (omega arith)) ∙ (rw z (unfold edges-refusal in refl))
 
-  edges-next : e < m → let l = line-here s here in edges-refusal m n none (lines (drop at s))
-      ≡ cond (numbers-line 2 l) (cond (edge-good n (edge-of l)) (cond (rises (edge-before e f t) (edge-of l)) (edges-refusal (m - (e + 1)) n (some (edge-of l)) (drop 1 (lines (drop here s)))) 8) 7) 4
-  edges-next h =
-      let q : m - e ≡ suc (m - (e + 1)) = omega arith in
-      sym (g .left) ∙ (rw q (edges-step (m - (e + 1)) n (edge-before e f t) (lines (drop here s))))
+  edges-next : (k : ℕ) → e < k → let l = line-here s here in edges-refusal k n none (lines (drop at s))
+      ≡ cond (numbers-line 2 l) (cond (edge-good n (edge-of l)) (cond (rises (edge-before e f t) (edge-of l)) (edges-refusal (k - (e + 1)) n (some (edge-of l)) (drop 1 (lines (drop here s)))) 8) 7) 4
+  edges-next k h =
+      let q : k - e ≡ suc (k - (e + 1)) = omega arith in
+      sym (g .left k (omega arith)) ∙ (rw q (edges-step (k - (e + 1)) n (edge-before e f t) (lines (drop here s))))
 
-  pub edges-torn : e < m → No-row 2 s here → Refused 4 ≡ block-says (edges-refusal m n none (lines (drop at s))) m s at
-  edges-torn h b = block-refused _ 3 m s at (edges-next h ∙ (rw (b .none) refl))
+  pub edges-torn : No-row 2 s here → (k : ℕ) → e < k → edges-refusal k n none (lines (drop at s)) ≡ 4
+  edges-torn b k h = edges-next k h ∙ (rw (b .none) refl)
 
   module _ {a b z : ℕ} (r : Row s here (a ∷ b ∷ []) z) where
     edge-is : edge-of (line-here s here) ≡ record { from = a; to = b }
     unfolding edge-of
     edge-is = rw (r .are 0 (omega arith), r .are 1 (omega arith)) refl
 
-    read : e < m → edges-refusal m n none (lines (drop at s))
-        ≡ cond (ltb a n && ltb b n) (cond (rises (edge-before e f t) (record { from = a; to = b })) (edges-refusal (m - (e + 1)) n (some (record { from = a; to = b })) (drop 1 (lines (drop here s)))) 8) 7
-    read h = edges-next h ∙ (rw (r .line, edge-is) (unfold edge-good in refl))
+    read : (k : ℕ) → e < k → edges-refusal k n none (lines (drop at s))
+        ≡ cond (ltb a n && ltb b n) (cond (rises (edge-before e f t) (record { from = a; to = b })) (edges-refusal (k - (e + 1)) n (some (record { from = a; to = b })) (drop 1 (lines (drop here s)))) 8) 7
+    read k h = edges-next k h ∙ (rw (r .line, edge-is) (unfold edge-good in refl))
 
-    pub edges-out : e < m → (ltb a n && ltb b n) ≡ false → Refused 7 ≡ block-says (edges-refusal m n none (lines (drop at s))) m s at
-    edges-out h x = block-refused _ 6 m s at (read h ∙ (rw x refl))
+    pub edges-out : (ltb a n && ltb b n) ≡ false → (k : ℕ) → e < k → edges-refusal k n none (lines (drop at s)) ≡ 7
+    edges-out x k h = read k h ∙ (rw x refl)
 
-    pub edges-back : e < m → a < n → b < n → rises (edge-before e f t) (record { from = a; to = b }) ≡ false → Refused 8 ≡ block-says (edges-refusal m n none (lines (drop at s))) m s at
-    edges-back h x y w = block-refused _ 7 m s at (read h ∙ (rw (lt-ltb a n x, lt-ltb b n y, w) refl))
+    pub edges-back : a < n → b < n → rises (edge-before e f t) (record { from = a; to = b }) ≡ false → (k : ℕ) → e < k → edges-refusal k n none (lines (drop at s)) ≡ 8
+    edges-back x y w k h = read k h ∙ (rw (lt-ltb a n x, lt-ltb b n y, w) refl)
 
     pub edges-more : e < m → a < n → b < n → rises (edge-before e f t) (record { from = a; to = b }) ≡ true → Edges-left s at m n z (e + 1) a b
     unfolding edge-before
     edges-more h x y w = record {
       within = omega arith;
-      left = rw (← r .past, past-lines s here, ne-eqb (e + 1) 0 (λ z. omega arith)) (sym (read h ∙ (rw (lt-ltb a n x, lt-ltb b n y, w) refl)));
-      place =
-          let q : m - e ≡ suc (m - (e + 1)) = omega arith in
-          rw (← r .past, ← skip-first (m - (e + 1)) s here, ← q) (g .place);
+      left = λ k l. rw (← r .past, past-lines s here, ne-eqb (e + 1) 0 (λ z. omega arith)) (sym (read k (omega arith) ∙ (rw (lt-ltb a n x, lt-ltb b n y, w) refl)));
     }

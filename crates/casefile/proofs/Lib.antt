@@ -4,3 +4,4 @@ pub mod Blocks
 pub mod Whole
 pub mod Loading
 pub mod Tables
+pub mod Examples

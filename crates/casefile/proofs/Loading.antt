@@ -74,17 +74,21 @@ row : (s : List ℕ) (i : ℕ) (vs : List ℕ) → numbers-line (length vs) (lin
 row s i vs l v = record { line = rw (skip-line i s 0) l; are = λ k h. rw (skip-line i s 0) (v k h); past = sym (skip-last i s 0) }
 
 -- what an accepted text's parts are
-record Parts (s : List ℕ) : Type 0 where
-  vertices : vertices-refusal (case-in s .graph .vertices) 0 (case-in s .workers) (drop 3 (lines s)) ≡ 0
-  edges : edges-refusal (number-at (line-at (lines s) 1) 2) (case-in s .graph .vertices) none (drop (4 + case-in s .graph .vertices) (lines s)) ≡ 0
+pub record Parts (s : List ℕ) : Type 0 where
+  pub vertices : vertices-refusal (case-in s .graph .vertices) 0 (case-in s .workers) (drop 3 (lines s)) ≡ 0
+  pub edges : edges-refusal (number-at (line-at (lines s) 1) 2) (case-in s .graph .vertices) none (drop (4 + case-in s .graph .vertices) (lines s)) ≡ 0
 
-parts : (s : List ℕ) → accepted s ≡ true → Parts s
+pub parts : (s : List ℕ) → accepted s ≡ true → Parts s
 unfolding accepted case-refusal case-in
 parts s a =
     let e : case-refusal s ≡ 0 = eqb-true (case-refusal s) 0 a in
     let r4 = first-zero _ _ (first-zero _ _ (first-zero _ _ (first-zero _ _ e .1) .1) .1) .1 in
     let r6 = first-zero _ _ (first-zero _ _ r4 .1) .1 in
     record { vertices = first-zero _ _ r6 .0; edges = first-zero _ _ (first-zero _ _ (first-zero _ _ r6 .1) .1) .0 }
+
+pub edges-counted : (s : List ℕ) → accepted s ≡ true → length (case-in s .graph .edges) ≡ number-at (line-at (lines s) 1) 2
+unfolding case-in
+edges-counted s a = edge-ends (number-at (line-at (lines s) 1) 2) (case-in s .graph .vertices) none (drop (4 + case-in s .graph .vertices) (lines s)) (parts s a .edges) .many
 
 pub drop-line : (k : ℕ) (ls : List Line) (j : ℕ) → line-at (drop k ls) j ≡ line-at ls (k + j)
 unfolding line-at
@@ -122,10 +126,7 @@ edge-row s a e h = at-place (row s (4 + n + e) (edge (case-in s .graph) e .from 
     m = number-at (line-at (lines s) 1) 2
 
     below : e < m
-    below = rw many at h
-      where
-        many : length (case-in s .graph .edges) ≡ m
-        many = unfold case-in in (edge-ends m n none (drop (4 + n) (lines s)) (unfold case-in in (parts s a .edges)) .many)
+    below = rw (edges-counted s a) at h
 
     line : numbers-line 2 (line-at (lines s) (4 + n + e)) ≡ true
     line = rw (← drop-line (4 + n) (lines s) e) (edge-line m n none (drop (4 + n) (lines s)) (parts s a .edges) e below)

@@ -18,8 +18,8 @@ use Rattle.text.proofs.Reading.{Row, No-row, no-lines, some-lines, Line-named, 
 use Rattle.text.proofs.Tests.{both-true}
 use Rattle.model.specs.Case.{most-vertices, most-edges, most-workers, longest-file, known-version}
 use Rattle.model.specs.CaseFile.{refuse, first-of, head-names, vertex-names, edge-names, begins-version, other-version, counts-good, vertices-refusal, edges-refusal, case-refusal, accepted, case-in}
-use Rattle.model.proofs.Accepting.{edge-ends}
-use Rattle.casefile.specs.Judging.{header, judged, counts-in-range, head-refusal, counts-in, head-says, block-says}
+use Rattle.model.proofs.Accepting.{first-zero, edge-ends}
+use Rattle.casefile.specs.Judging.{header, judged, counts-in-range, head-refusal, counts-in, before-edges, head-says, block-says}
 use Rattle.casefile.specs.declared.Case.{Case}
 use Rattle.casefile.specs.declared.Judged.{Judged}
 use Rattle.casefile.specs.declared.Judged.the-variants.{Refused, Accepted}
@@ -154,30 +154,42 @@ headed s c rows h = go (eqb (head-refusal s) 0) refl h
     go true e q = record { right = eqb-true (head-refusal s) 0 e; counts = counted-in (cc); place = cc }
     go false e q = let z : _≡_ {A = ℕ} 0 1 = cc in absurd (omega arith)
 
--- the refusals of what follows line 3; the first three lines decide before them
-unfoldable after-3 : List ℕ → List ℕ
-after-3 s =
-    let ls = lines s in let l = line-at ls 1 in let i = number-at l 1 in let j = number-at l 2 in
-    vertices-refusal i 0 (number-at l 4) (drop 3 ls) ∷ refuse (not (line-is edge-names (line-at ls (3 + i)))) 4 ∷ edges-refusal j i none (drop (4 + i) ls) ∷ refuse (ltb (4 + i + j) (length ls)) 4 ∷ []
+-- the refusals of what follows the names of the edge lines; what stands before decides before them
+unfoldable after-names : List ℕ → List ℕ
+after-names s =
+    let ls = lines s in let c = counts-in s in
+    edges-refusal (c .edges) (c .vertices) none (drop (4 + c .vertices) ls) ∷ refuse (ltb (4 + c .vertices + c .edges) (length ls)) 4 ∷ []
 
-case-split : (s : List ℕ) → case-refusal s ≡ first-of (head-refusal s ∷ after-3 s)
-unfolding case-refusal head-refusal after-3
-case-split s = first-append _ (after-3 s)
+case-split : (s : List ℕ) → case-refusal s ≡ first-of (before-edges s ∷ after-names s)
+unfolding case-refusal head-refusal before-edges after-names counts-in
+case-split s = first-append _ (_ ∷ _ ∷ after-names s) ∙ first-append (_ ∷ _ ∷ _ ∷ []) (after-names s)
 
 judged-refused : (s : List ℕ) (k : ℕ) → case-refusal s ≡ k → (k ≡ 0 → ⊥) → Refused k ≡ judged s
 unfolding judged accepted
 judged-refused s k e n = rw (e, ne-eqb k 0 n) refl
 
-pub head-judged : (s : List ℕ) (k : ℕ) → Bad-head k ≡ head-says s → Refused k ≡ judged s
+pub before-judged : (s : List ℕ) (k : ℕ) → before-edges s ≡ k → (k ≡ 0 → ⊥) → Refused k ≡ judged s
+before-judged s k e n = judged-refused s k (case-split s ∙ (rw e (first-decides k (after-names s) n))) n
+
+pub head-stops : (s : List ℕ) (k : ℕ) → Bad-head k ≡ head-says s → (head-refusal s ≡ k) × (k ≡ 0 → ⊥)
 unfolding head-says
-head-judged s k h = go (eqb (head-refusal s) 0) refl h
+head-stops s k h = go (eqb (head-refusal s) 0) refl h
   where
-    go : (b : Bool) → eqb (head-refusal s) 0 ≡ b → Bad-head k ≡ cond b (Counts (counts-in s) (skip 3 s 0)) (Bad-head (head-refusal s)) → Refused k ≡ judged s
+    go : (b : Bool) → eqb (head-refusal s) 0 ≡ b → Bad-head k ≡ cond b (Counts (counts-in s) (skip 3 s 0)) (Bad-head (head-refusal s)) → (head-refusal s ≡ k) × (k ≡ 0 → ⊥)
     go true e q = let z : _≡_ {A = ℕ} 0 1 = cc in absurd (omega arith)
-    go false e q =
-        let z : head-refusal s ≡ k = cc in
-        let n : k ≡ 0 → ⊥ = λ w. eqb-false (head-refusal s) 0 e (z ∙ w) in
-        judged-refused s k (case-split s ∙ (rw z (first-decides k (after-3 s) n))) n
+    go false e q = let z : head-refusal s ≡ k = cc in (z, λ w. eqb-false (head-refusal s) 0 e (z ∙ w))
+
+pub head-before : (s : List ℕ) (k : ℕ) → head-refusal s ≡ k → (k ≡ 0 → ⊥) → before-edges s ≡ k
+unfolding before-edges
+head-before s k e n = rw e (first-decides k _ n)
+
+-- a text without a refusal has none in front
+pub before-zero : (s : List ℕ) → case-refusal s ≡ 0 → before-edges s ≡ 0
+before-zero s e = first-zero _ _ (sym (case-split s) ∙ e) .0
+
+pub head-zero : (s : List ℕ) → before-edges s ≡ 0 → head-refusal s ≡ 0
+unfolding before-edges
+head-zero s e = first-zero _ _ e .0
 
 -- a block's answer gives its refusal
 block-bad : (r k : ℕ) (s : List ℕ) (at j : ℕ) → Bad-block j ≡ block-says r k s at → (r ≡ j) × (j ≡ 0 → ⊥)
@@ -205,47 +217,42 @@ module _ {s : List ℕ} {n m u p rows : ℕ} (h : Headed s n m u p rows) where
       let e : 3 + n + 1 ≡ 4 + n = omega arith in
       rw names-place (sym (skip-last (3 + n) s 0) ∙ ap (λ (k : ℕ). skip k s 0) e)
 
-  -- the case's refusal, by the blocks that the judge reads
-  after-head : case-refusal s ≡ first-of (vertices-refusal n 0 p (lines (drop rows s))
-      ∷ refuse (not (line-is edge-names (line-here s (skip n s rows)))) 4
-      ∷ edges-refusal m n none (lines (drop (skip (4 + n) s 0) s))
-      ∷ refuse (ltb (4 + n + m) (length (lines s))) 4
-      ∷ [])
-  after-head = case-split s ∙ (rw (h .right) (unfold first-of in tail))
-    where
-      tail : first-of (after-3 s) ≡ first-of (vertices-refusal n 0 p (lines (drop rows s)) ∷ refuse (not (line-is edge-names (line-here s (skip n s rows)))) 4 ∷ edges-refusal m n none (lines (drop (skip (4 + n) s 0) s)) ∷ refuse (ltb (4 + n + m) (length (lines s))) 4 ∷ [])
-      tail = unfold after-3 in (rw (← h .place, h .counts .vertices, h .counts .edges, h .counts .workers, skip-lines 3 s 0, skip-lines (4 + n) s 0, ← skip-add 3 n s 0, skip-line (3 + n) s 0) refl)
+  -- the lines before the edge lines, by what the judge reads
+  before : before-edges s ≡ first-of (vertices-refusal n 0 p (lines (drop rows s)) ∷ refuse (not (line-is edge-names (line-here s (skip n s rows)))) 4 ∷ [])
+  unfolding before-edges counts-in
+  before =
+      rw (h .right, ← h .place, h .counts .vertices, h .counts .workers, skip-lines 3 s 0, ← skip-add 3 n s 0, skip-line (3 + n) s 0)
+      (unfold first-of in refl)
 
-  -- a fault in the blocks, by the first that has one
-  pub vertices-refused : (k : ℕ) → Bad-block k ≡ block-says (vertices-refusal n 0 p (lines (drop rows s))) n s rows → Refused k ≡ judged s
-  vertices-refused k b =
-      let r = block-bad _ n s rows k b in
-      judged-refused s k (after-head ∙ (rw (r .0) (first-decides k _ (r .1)))) (r .1)
+  -- a fault among them
+  pub vertices-stop : (k : ℕ) → Bad-block k ≡ block-says (vertices-refusal n 0 p (lines (drop rows s))) n s rows → (before-edges s ≡ k) × (k ≡ 0 → ⊥)
+  vertices-stop k b = let r = block-bad _ n s rows k b in (before ∙ (rw (r .0) (first-decides k _ (r .1))), r .1)
 
   module _ (q : ℕ) (v : Past q ≡ block-says (vertices-refusal n 0 p (lines (drop rows s))) n s rows) where
-    pub names-refused : line-is edge-names (line-here s q) ≡ false → Refused 4 ≡ judged s
-    names-refused b =
-        let r = block-good _ n s rows q v in
-        judged-refused s 4 (after-head ∙ (rw (r .0, r .1, b) (unfold refuse first-of in refl))) (λ z. omega arith)
+    pub names-stop : line-is edge-names (line-here s q) ≡ false → before-edges s ≡ 4
+    names-stop b = let r = block-good _ n s rows q v in before ∙ (rw (r .0, r .1, b) (unfold refuse first-of in refl))
 
     module _ (rest : ℕ) (named : Line-named s q edge-names rest) where
       pub rest-place : rest ≡ skip (4 + n) s 0
       rest-place = sym (named .past) ∙ (rw (block-good _ n s rows q v .1) at edges-place)
 
-      after-names : case-refusal s ≡ first-of (edges-refusal m n none (lines (drop (rest) s)) ∷ refuse (ltb (4 + n + m) (length (lines s))) 4 ∷ [])
-      after-names =
-          let r = block-good _ n s rows q v in
-          rw rest-place (after-head ∙ (rw (r .0, r .1, named .line) (unfold refuse first-of in refl)))
+      pub before-right : before-edges s ≡ 0
+      before-right = let r = block-good _ n s rows q v in before ∙ (rw (r .0, r .1, named .line) (unfold refuse first-of in refl))
 
-      pub edges-refused : (k : ℕ) → Bad-block k ≡ block-says (edges-refusal m n none (lines (drop (rest) s))) m s (rest) → Refused k ≡ judged s
+      after : case-refusal s ≡ first-of (edges-refusal m n none (lines (drop rest s)) ∷ refuse (ltb (4 + n + m) (length (lines s))) 4 ∷ [])
+      after =
+          case-split s
+          ∙ (rw (before-right, rest-place, skip-lines (4 + n) s 0) (unfold after-names counts-in first-of in (rw (h .counts .vertices, h .counts .edges) refl)))
+
+      pub edges-refused : (k : ℕ) → Bad-block k ≡ block-says (edges-refusal m n none (lines (drop rest s))) m s rest → Refused k ≡ judged s
       edges-refused k b =
-          let r = block-bad _ m s (rest) k b in
-          judged-refused s k (after-names ∙ (rw (r .0) (first-decides k _ (r .1)))) (r .1)
+          let r = block-bad _ m s rest k b in
+          judged-refused s k (after ∙ (rw (r .0) (first-decides k _ (r .1)))) (r .1)
 
-      module _ (end : ℕ) (g : Past end ≡ block-says (edges-refusal m n none (lines (drop (rest) s))) m s (rest)) where
+      module _ (end : ℕ) (g : Past end ≡ block-says (edges-refusal m n none (lines (drop rest s))) m s rest) where
         end-place : end ≡ skip (4 + n + m) s 0
         end-place =
-            sym (block-good _ m s (rest) end g .1) ∙ ap (λ (k : ℕ). skip m s k) rest-place ∙ sym (skip-add (4 + n) m s 0)
+            sym (block-good _ m s rest end g .1) ∙ ap (λ (k : ℕ). skip m s k) rest-place ∙ sym (skip-add (4 + n) m s 0)
 
         left-over : length (lines (drop end s)) ≡ length (lines s) - (4 + n + m)
         left-over = rw (end-place, skip-lines (4 + n + m) s 0) (length-drop (4 + n + m) (lines s))
@@ -253,18 +260,18 @@ module _ {s : List ℕ} {n m u p rows : ℕ} (h : Headed s n m u p rows) where
         pub end-refused : end < length s → Refused 4 ≡ judged s
         end-refused l =
             let t : 4 + n + m < length (lines s) = omega (arith, some-lines s end l, left-over) in
-            judged-refused s 4 (after-names ∙ (rw (block-good _ m s (rest) end g .0, lt-ltb _ _ t) (unfold refuse first-of in refl))) (λ z. omega arith)
+            judged-refused s 4 (after ∙ (rw (block-good _ m s rest end g .0, lt-ltb _ _ t) (unfold refuse first-of in refl))) (λ z. omega arith)
 
         module _ (last : length s ≤ end) where
           right : case-refusal s ≡ 0
           right =
               let t : length (lines s) ≤ 4 + n + m = omega (arith, left-over, ap length (no-lines s end last)) in
-              after-names ∙ (rw (block-good _ m s (rest) end g .0, le-ltb _ _ t) (unfold refuse first-of in refl))
+              after ∙ (rw (block-good _ m s rest end g .0, le-ltb _ _ t) (unfold refuse first-of in refl))
 
           many : length (case-in s .graph .edges) ≡ m
           unfolding case-in
           many =
-              let f : edges-refusal m n none (drop (4 + n) (lines s)) ≡ 0 = rw (rest-place, skip-lines (4 + n) s 0) at (block-good _ m s (rest) end g .0) in
+              let f : edges-refusal m n none (drop (4 + n) (lines s)) ≡ 0 = rw (rest-place, skip-lines (4 + n) s 0) at (block-good _ m s rest end g .0) in
               rw (h .counts .vertices, h .counts .edges) (edge-ends m n none (drop (4 + n) (lines s)) f .many)
 
           pub all-accepted : Accepted (record { vertices = n; edges = m; source = u; workers = p }) ≡ judged s

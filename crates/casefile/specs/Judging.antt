@@ -5,13 +5,13 @@ use mathlib.Core.List.{List, [], _∷_}
 use mathlib.Core.Option.{Option, none, some}
 use Prim.Native.Nat.{ℕ, _+_}
 use lib.Dec.{ltb, leb, eqb}
-use lib.ListN.{length}
+use lib.ListN.{length, drop}
 use Rattle.text.specs.Lines.{lines, line-at, line-is}
 use Rattle.text.specs.Numbers.{numbers-line, number-at}
 use Rattle.text.specs.Reading.{skip}
 use Rattle.model.specs.Graph.{Edge}
 use Rattle.model.specs.Case.{most-vertices, most-edges, most-workers, longest-file}
-use Rattle.model.specs.CaseFile.{refuse, first-of, head-names, vertex-names, begins-version, other-version, counts-good, case-refusal, accepted, case-in}
+use Rattle.model.specs.CaseFile.{refuse, first-of, head-names, vertex-names, edge-names, begins-version, other-version, counts-good, vertices-refusal, case-refusal, accepted, case-in}
 use Rattle.casefile.specs.declared.Case.{Case}
 use Rattle.casefile.specs.declared.Judged.{Judged}
 use Rattle.casefile.specs.declared.Judged.the-variants.{Refused, Accepted}
@@ -54,6 +54,16 @@ counts-in bs =
 -- the refusal of lines 1 to 3; or the counts, and the place past these lines
 unfoldable pub head-says : (file : List ℕ) → Head
 head-says bs = cond (eqb (head-refusal bs) 0) (Counts (counts-in bs) (skip 3 bs 0)) (Bad-head (head-refusal bs))
+
+-- the refusal of the lines before the edge lines
+unfoldable pub before-edges : (file : List ℕ) → ℕ
+before-edges bs =
+    let ls = lines bs in
+    let c = counts-in bs in
+    first-of (head-refusal bs
+    ∷ vertices-refusal (c .vertices) 0 (c .workers) (drop 3 ls)
+    ∷ refuse (not (line-is edge-names (line-at ls (3 + c .vertices)))) 4
+    ∷ [])
 
 -- a block of so many lines: its refusal, or the place past it
 unfoldable pub block-says : (refusal many : ℕ) → (text : List ℕ) → (at : ℕ) → Block

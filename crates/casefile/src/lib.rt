@@ -166,7 +166,7 @@ fn vertex_block(
     marks: &mut [u32],
     owners: &mut [u32],
 ) -> Block
-    ensures { λ r. ⌜ Block-read (vertices-refusal n 0 workers (lines (drop at (now (text .entry))))) n (now (text .entry)) at 1 2 r (now (marks .entry)) (now (marks .exit)) (now (owners .entry)) (now (owners .exit)) ⌝ }
+    ensures { λ r. ⌜ Block-read (λ k. vertices-refusal k 0 workers (lines (drop at (now (text .entry))))) n (now (text .entry)) at 1 2 r (now (marks .entry)) (now (marks .exit)) (now (owners .entry)) (now (owners .exit)) ⌝ }
 {
     let mut here = at;
     let mut v: usize = 0;
@@ -210,7 +210,7 @@ fn edge_block(
     froms: &mut [u32],
     tos: &mut [u32],
 ) -> Block
-    ensures { λ r. ⌜ Block-read (edges-refusal m n none (lines (drop at (now (text .entry))))) m (now (text .entry)) at 0 1 r (now (froms .entry)) (now (froms .exit)) (now (tos .entry)) (now (tos .exit)) ⌝ }
+    ensures { λ r. ⌜ Block-read (λ k. edges-refusal k n none (lines (drop at (now (text .entry))))) m (now (text .entry)) at 0 1 r (now (froms .entry)) (now (froms .exit)) (now (tos .entry)) (now (tos .exit)) ⌝ }
 {
     let mut here = at;
     let mut e: usize = 0;

@@ -8,8 +8,8 @@ use Prim.Native.Nat.{_-_}
 use lib.Dec.{lit<}
 use Rattle.text.proofs.Tests.{refuted, upheld}
 use Rattle.text.proofs.Reading.{row2-read, row2-fault}
-use Rattle.casefile.proofs.Blocks.{Edges-left, edges-start, edges-end, edges-torn, edges-out, edges-back, edges-more}
-use Rattle.casefile.proofs.Tables.{Lines-taken, lines-start, lines-more, block-read}
+use Rattle.casefile.proofs.Blocks.{Edges-left, edges-start, edges-clean, edges-torn, edges-out, edges-back, edges-more}
+use Rattle.casefile.proofs.Tables.{Lines-taken, lines-start, lines-more, block-stops, block-ends}
 use Rattle.casefile.proofs.edge_block.Statement.{statement}
 use Rattle.casefile.proofs.edge_block.Tie as tie
 
@@ -40,7 +40,7 @@ same-length-2 : tie.Need-same-length-2 Inv-loop μ-loop
 same-length-2 c = c .before .before .before .before .loop .inv .1 .long-two
 
 returns : tie.Need-returns Inv-loop μ-loop
-returns c = let g = c .before .before .before .before .loop .inv in block-read (g .1) (edges-torn (g .0) (omega arith) (row2-fault _ _ (c .before .before .row-of-2 .ensures) (c .enum-told .given .1))) tt
+returns c = let g = c .before .before .before .before .loop .inv in block-stops (g .1) (edges-clean (g .0)) (omega arith) (edges-torn (g .0) (row2-fault _ _ (c .before .before .row-of-2 .ensures) (c .enum-told .given .1)))
 
 cast-if1 : tie.Need-cast-if1 Inv-loop μ-loop
 cast-if1 c = search needs
@@ -52,7 +52,7 @@ same-length-4 : tie.Need-same-length-4 Inv-loop μ-loop
 same-length-4 c = c .before .before .before .before .before .before .loop .inv .1 .long-two
 
 returns-2 : tie.Need-returns-2 Inv-loop μ-loop
-returns-2 c = let g = c .before .before .before .before .before .before .loop .inv in block-read (g .1) (edges-out (g .0) (row2-read (c .before .before .before .before .row-of-2 .ensures) (c .before .before .from .given .1)) (omega arith) (rw (le-ltb _ _ (c .if1 .taken)))) tt
+returns-2 c = let g = c .before .before .before .before .before .before .loop .inv in block-stops (g .1) (edges-clean (g .0)) (omega arith) (edges-out (g .0) (row2-read (c .before .before .before .before .row-of-2 .ensures) (c .before .before .from .given .1)) (rw (le-ltb _ _ (c .if1 .taken))))
 
 cast-if2 : tie.Need-cast-if2 Inv-loop μ-loop
 cast-if2 c = search needs
@@ -64,7 +64,7 @@ same-length-6 : tie.Need-same-length-6 Inv-loop μ-loop
 same-length-6 c = c .before .before .before .before .before .before .before .loop .inv .1 .long-two
 
 returns-3 : tie.Need-returns-3 Inv-loop μ-loop
-returns-3 c = let g = c .before .before .before .before .before .before .before .loop .inv in block-read (g .1) (edges-out (g .0) (row2-read (c .before .before .before .before .before .row-of-2 .ensures) (c .before .before .before .from .given .1)) (omega arith) (rw (le-ltb _ _ (c .if2 .taken), and-false))) tt
+returns-3 c = let g = c .before .before .before .before .before .before .before .loop .inv in block-stops (g .1) (edges-clean (g .0)) (omega arith) (edges-out (g .0) (row2-read (c .before .before .before .before .before .row-of-2 .ensures) (c .before .before .before .from .given .1)) (rw (le-ltb _ _ (c .if2 .taken), and-false)))
 
 rising-requires : tie.Need-rising-requires Inv-loop μ-loop
 rising-requires c κs = search needs
@@ -76,7 +76,7 @@ same-length-8 : tie.Need-same-length-8 Inv-loop μ-loop
 same-length-8 c = c .before .before .before .before .before .before .before .before .before .loop .inv .1 .long-two
 
 returns-4 : tie.Need-returns-4 Inv-loop μ-loop
-returns-4 c = let g = c .before .before .before .before .before .before .before .before .before .loop .inv in block-read (g .1) (edges-back (g .0) (row2-read (c .before .before .before .before .before .before .before .row-of-2 .ensures) (c .before .before .before .before .before .from .given .1)) (omega arith) (omega arith) (omega arith) (sym (c .before .rising .ensures) ∙ refuted _ _ (c .if3 .taken) refl)) tt
+returns-4 c = let g = c .before .before .before .before .before .before .before .before .before .loop .inv in block-stops (g .1) (edges-clean (g .0)) (omega arith) (edges-back (g .0) (row2-read (c .before .before .before .before .before .before .before .row-of-2 .ensures) (c .before .before .before .before .before .from .given .1)) (omega arith) (omega arith) (sym (c .before .rising .ensures) ∙ refuted _ _ (c .if3 .taken) refl))
 
 put-requires : tie.Need-put-requires Inv-loop μ-loop
 put-requires c κs = search needs
@@ -102,7 +102,7 @@ same-length-10 : tie.Need-same-length-10 Inv-loop μ-loop
 same-length-10 c = c .before .loop .inv .1 .long-two
 
 returns-5 : tie.Need-returns-5 Inv-loop μ-loop
-returns-5 c = let g = c .before .loop .inv in block-read (g .1) (edges-end (g .0) (c .loop-test .left)) (omega (arith, g .0 .within, c .loop-test .left))
+returns-5 c = let g = c .before .loop .inv in block-ends (g .1) (edges-clean (g .0)) (omega (arith, g .0 .within, c .loop-test .left))
 
 pub edge-block-spec : {M : Type 1} → statement M
 edge-block-spec =

@@ -2,8 +2,9 @@
 use mathlib.Core.Path.{refl, sym, _∙_}
 use Rattle.text.proofs.Reading.{named-read, named-other}
 use Rattle.model.specs.CaseFile.{edge-names}
-use Rattle.casefile.proofs.Whole.{headed, rest-place, vertices-refused, names-refused, edges-refused, end-refused, all-accepted}
-use Rattle.casefile.proofs.Tables.{all-taken, rows-read, case-read}
+use Rattle.casefile.proofs.Whole.{headed, vertices-stop, names-stop, rest-place, before-right, edges-refused, end-refused, all-accepted}
+use Rattle.casefile.proofs.Tables.{rows-read, case-read}
+use native.Mathlib.Omega.{arith}
 use borrow.Author.Needs.{needs}
 use Rattle.casefile.proofs.read_body.Statement.{statement}
 use Rattle.casefile.proofs.read_body.Tie as tie
@@ -52,12 +53,15 @@ same-length-4 c = search needs
 
 returns : tie.Need-returns
 returns c =
-    let h = headed _ _ _ (c .before .before .before .before .before .before .before .before .before .before .before .before .before .before .before .before .before .before .before .before .before .before .before .before .before .before .before .before .before .before .before .pre) in
-    let v = c .before .before .before .before .before .before .before .before .before .before .before .before .before .before .before .before .before .before .before .before .before .before .before .vertex-block .ensures in
-    let past = sym (c .before .before .before .before .before .before .before .before .before .before .before .before .before .before .before .before .before .names .given .1) ∙ v .answer in
-    let named = named-read refl (c .before .before .before .before .before .before .before .before .before .before .before .before .before .before .name-line .ensures) (c .before .before .before .before .before .before .before .before .before .before .before .before .edge-rows .given .1) in
-    let g = c .before .before .before .before .before .before .before .before .edge-block .ensures in
-    case-read h v (rest-place h _ past _ named) g (end-refused h _ past _ named _ (sym (c .before .before .end .given .1) ∙ g .answer) (c .if1 .taken)) tt
+    let edges = c .before .before .before .before .before .before .before .before in
+    let titled = edges .before .before .before .before in
+    let named = titled .before .before .before .before .before in
+    let v = named .before .before .before .before .before .before .vertex-block .ensures in
+    let h = headed _ _ _ (named .before .before .before .before .before .before .before .before .before .before .before .before .before .before .pre) in
+    let past = sym (named .names .given .1) ∙ v .answer in
+    let title = named-read refl (titled .before .before .name-line .ensures) (titled .edge-rows .given .1) in
+    let g = edges .edge-block .ensures in
+    case-read h v (before-right h _ past _ title) (rest-place h _ past _ title) g (end-refused h _ past _ title _ (sym (c .before .before .end .given .1) ∙ g .answer) (c .if1 .taken))
 
 same-length-5 : tie.Need-same-length-5
 same-length-5 c = search needs
@@ -67,9 +71,10 @@ same-length-6 c = search needs
 
 returns-2 : tie.Need-returns-2
 returns-2 c =
-    let h = headed _ _ _ (c .before .before .before .before .before .before .before .before .before .before .before .before .before .before .before .pre) in
     let v = c .before .before .before .before .before .before .before .vertex-block .ensures in
-    rows-read h v (vertices-refused h _ (sym (c .before .k .given .1) ∙ v .answer)) _ _
+    let h = headed _ _ _ (c .before .before .before .before .before .before .before .before .before .before .before .before .before .before .before .pre) in
+    let stop = vertices-stop h _ (sym (c .before .k .given .1) ∙ v .answer) in
+    rows-read h v (stop .0) (stop .1) _ _
 
 same-length-7 : tie.Need-same-length-7
 same-length-7 c = search needs
@@ -79,10 +84,11 @@ same-length-8 c = search needs
 
 returns-3 : tie.Need-returns-3
 returns-3 c =
-    let h = headed _ _ _ (c .before .before .before .before .before .before .before .before .before .before .before .before .before .before .before .before .before .before .before .pre) in
-    let v = c .before .before .before .before .before .before .before .before .before .before .before .vertex-block .ensures in
-    let past = sym (c .before .before .before .before .before .names .given .1) ∙ v .answer in
-    rows-read h v (names-refused h _ past (named-other edge-names _ _ refl (c .before .before .name-line .ensures) (c .enum-told .given .1))) _ _
+    let named = c .before .before .before .before .before in
+    let v = named .before .before .before .before .before .before .vertex-block .ensures in
+    let h = headed _ _ _ (named .before .before .before .before .before .before .before .before .before .before .before .before .before .before .pre) in
+    let past = sym (named .names .given .1) ∙ v .answer in
+    rows-read h v (names-stop h _ past (named-other edge-names _ _ refl (c .before .before .name-line .ensures) (c .enum-told .given .1))) (λ z. omega arith) _ _
 
 same-length-9 : tie.Need-same-length-9
 same-length-9 c = search needs
@@ -98,12 +104,15 @@ same-length-12 c = search needs
 
 returns-4 : tie.Need-returns-4
 returns-4 c =
-    let h = headed _ _ _ (c .before .before .before .before .before .before .before .before .before .before .before .before .before .before .before .before .before .before .before .before .before .before .before .before .before .before .before .before .before .before .pre) in
-    let v = c .before .before .before .before .before .before .before .before .before .before .before .before .before .before .before .before .before .before .before .before .before .before .vertex-block .ensures in
-    let past = sym (c .before .before .before .before .before .before .before .before .before .before .before .before .before .before .before .before .names .given .1) ∙ v .answer in
-    let named = named-read refl (c .before .before .before .before .before .before .before .before .before .before .before .before .before .name-line .ensures) (c .before .before .before .before .before .before .before .before .before .before .before .edge-rows .given .1) in
-    let g = c .before .before .before .before .before .before .before .edge-block .ensures in
-    case-read h v (rest-place h _ past _ named) g (edges-refused h _ past _ named _ (sym (c .before .k2 .given .1) ∙ g .answer)) tt
+    let edges = c .before .before .before .before .before .before .before in
+    let titled = edges .before .before .before .before in
+    let named = titled .before .before .before .before .before in
+    let v = named .before .before .before .before .before .before .vertex-block .ensures in
+    let h = headed _ _ _ (named .before .before .before .before .before .before .before .before .before .before .before .before .before .before .pre) in
+    let past = sym (named .names .given .1) ∙ v .answer in
+    let title = named-read refl (titled .before .before .name-line .ensures) (titled .edge-rows .given .1) in
+    let g = edges .edge-block .ensures in
+    case-read h v (before-right h _ past _ title) (rest-place h _ past _ title) g (edges-refused h _ past _ title _ (sym (c .before .k2 .given .1) ∙ g .answer))
 
 same-length-13 : tie.Need-same-length-13
 same-length-13 c = search needs
@@ -119,12 +128,15 @@ same-length-16 c = search needs
 
 returns-5 : tie.Need-returns-5
 returns-5 c =
-    let h = headed _ _ _ (c .before .before .before .before .before .before .before .before .before .before .before .before .before .before .before .before .before .before .before .before .before .before .before .before .before .before .before .before .before .before .before .pre) in
-    let v = c .before .before .before .before .before .before .before .before .before .before .before .before .before .before .before .before .before .before .before .before .before .before .before .vertex-block .ensures in
-    let past = sym (c .before .before .before .before .before .before .before .before .before .before .before .before .before .before .before .before .before .names .given .1) ∙ v .answer in
-    let named = named-read refl (c .before .before .before .before .before .before .before .before .before .before .before .before .before .before .name-line .ensures) (c .before .before .before .before .before .before .before .before .before .before .before .before .edge-rows .given .1) in
-    let g = c .before .before .before .before .before .before .before .before .edge-block .ensures in
-    case-read h v (rest-place h _ past _ named) g (all-accepted h _ past _ named _ (sym (c .before .before .end .given .1) ∙ g .answer) (c .if1 .left)) (all-taken (v .all) (c .before .before .before .before .before .before .before .before .before .before .before .before .before .before .before .before .before .names .given .1), all-taken (g .all) (c .before .before .end .given .1))
+    let edges = c .before .before .before .before .before .before .before .before in
+    let titled = edges .before .before .before .before in
+    let named = titled .before .before .before .before .before in
+    let v = named .before .before .before .before .before .before .vertex-block .ensures in
+    let h = headed _ _ _ (named .before .before .before .before .before .before .before .before .before .before .before .before .before .before .pre) in
+    let past = sym (named .names .given .1) ∙ v .answer in
+    let title = named-read refl (titled .before .before .name-line .ensures) (titled .edge-rows .given .1) in
+    let g = edges .edge-block .ensures in
+    case-read h v (before-right h _ past _ title) (rest-place h _ past _ title) g (all-accepted h _ past _ title _ (sym (c .before .before .end .given .1) ∙ g .answer) (c .if1 .left))
 
 pub read-body-spec : {M : Type 1} → statement M
 read-body-spec =

@@ -1,6 +1,6 @@
 -- `casefile::read_case`: the first three lines decide, then the rest.
 use mathlib.Core.Path.{sym, _∙_}
-use Rattle.casefile.proofs.Whole.{head-judged}
+use Rattle.casefile.proofs.Whole.{head-stops}
 use Rattle.casefile.proofs.Tables.{none-read}
 use borrow.Author.Needs.{needs}
 use Rattle.casefile.proofs.read_case.Statement.{statement}
@@ -19,7 +19,7 @@ read-body-requires : tie.Need-read-body-requires
 read-body-requires c κs = sym (c .before .before .before .before .before .before .before .read-head .ensures) ∙ c .before .before .before .before .before .case .given .1
 
 returns : tie.Need-returns
-returns c = none-read (head-judged _ _ (sym (c .before .k .given .1) ∙ c .before .before .before .read-head .ensures)) _ _ _ _
+returns c = none-read (head-stops _ _ (sym (c .before .k .given .1) ∙ c .before .before .before .read-head .ensures)) _ _ _ _
 
 same-length : tie.Need-same-length
 same-length c = search needs

@@ -6,8 +6,8 @@ use Prim.Native.Nat.{_-_}
 use lib.Dec.{lit<}
 use Rattle.text.proofs.Tests.{refuted, upheld}
 use Rattle.text.proofs.Reading.{row3-read, row3-fault}
-use Rattle.casefile.proofs.Blocks.{Vertices-left, vertices-start, vertices-end, vertices-torn, vertices-wrong, vertices-more}
-use Rattle.casefile.proofs.Tables.{Lines-taken, lines-start, lines-more, block-read}
+use Rattle.casefile.proofs.Blocks.{Vertices-left, vertices-start, vertices-clean, vertices-torn, vertices-wrong, vertices-more}
+use Rattle.casefile.proofs.Tables.{Lines-taken, lines-start, lines-more, block-stops, block-ends}
 use Rattle.casefile.proofs.vertex_block.Statement.{statement}
 use Rattle.casefile.proofs.vertex_block.Tie as tie
 
@@ -37,7 +37,7 @@ same-length-2 : tie.Need-same-length-2 Inv-loop μ-loop
 same-length-2 c = c .before .before .before .before .loop .inv .1 .long-two
 
 returns : tie.Need-returns Inv-loop μ-loop
-returns c = let g = c .before .before .before .before .loop .inv in block-read (g .1) (vertices-torn (g .0) (omega arith) (row3-fault _ _ (c .before .before .row-of-3 .ensures) (c .enum-told .given .1))) tt
+returns c = let g = c .before .before .before .before .loop .inv in block-stops (g .1) (vertices-clean (g .0)) (omega arith) (vertices-torn (g .0) (row3-fault _ _ (c .before .before .row-of-3 .ensures) (c .enum-told .given .1)))
 
 vertex-right-requires : tie.Need-vertex-right-requires Inv-loop μ-loop
 vertex-right-requires c κs = search needs
@@ -49,7 +49,7 @@ same-length-4 : tie.Need-same-length-4 Inv-loop μ-loop
 same-length-4 c = c .before .before .before .before .before .before .before .loop .inv .1 .long-two
 
 returns-2 : tie.Need-returns-2 Inv-loop μ-loop
-returns-2 c = let g = c .before .before .before .before .before .before .before .loop .inv in block-read (g .1) (vertices-wrong (g .0) (row3-read (c .before .before .before .before .before .row-of-3 .ensures) (c .before .before .before .vertex .given .1)) (omega arith) (sym (c .before .vertex-right .ensures) ∙ refuted _ _ (c .if1 .taken) refl)) tt
+returns-2 c = let g = c .before .before .before .before .before .before .before .loop .inv in block-stops (g .1) (vertices-clean (g .0)) (omega arith) (vertices-wrong (g .0) (row3-read (c .before .before .before .before .before .row-of-3 .ensures) (c .before .before .before .vertex .given .1)) (sym (c .before .vertex-right .ensures) ∙ refuted _ _ (c .if1 .taken) refl))
 
 put-requires : tie.Need-put-requires Inv-loop μ-loop
 put-requires c κs = search needs
@@ -75,7 +75,7 @@ same-length-6 : tie.Need-same-length-6 Inv-loop μ-loop
 same-length-6 c = c .before .loop .inv .1 .long-two
 
 returns-3 : tie.Need-returns-3 Inv-loop μ-loop
-returns-3 c = let g = c .before .loop .inv in block-read (g .1) (vertices-end (g .0) (c .loop-test .left)) (omega (arith, g .0 .within, c .loop-test .left))
+returns-3 c = let g = c .before .loop .inv in block-ends (g .1) (vertices-clean (g .0)) (omega (arith, g .0 .within, c .loop-test .left))
 
 pub vertex-block-spec : {M : Type 1} → statement M
 vertex-block-spec =
