@@ -6,7 +6,7 @@ use mathlib.Core.Option.{Option, none, some}
 use Prim.Native.Nat.{ℕ, zero, suc, _+_, _≤_, _<_}
 use native.Mathlib.Nat.{not-suc-le-zero, le-of-suc-le-suc}
 use native.Mathlib.Omega.{arith}
-use lib.Dec.{ltb, leb·zero, leb·suc-zero, leb·suc-suc}
+use lib.Dec.{ltb}
 use lib.ListN.{length, getD, set}
 use lib.IntN.{ℤ, pos, negℤ}
 use lib.Signed.{ltZ}
@@ -14,14 +14,9 @@ use mir.Syntax.{w32}
 use mir.Val.{SFits, toZ, ofZ}
 use mir.Facts.{toZ-ofZ}
 use Rattle.model.specs.Run.{takes}
+use Rattle.model.proofs.Signs.{deeper-lt}
 use Rattle.search.specs.Cells.{far}
 use Rattle.search.specs.Rep.{tally, busy, one-if}
-
-lower-is : (a b : ℕ) → ltZ (negℤ (pos a)) (negℤ (pos b)) ≡ ltb b a
-lower-is zero zero = refl
-lower-is zero (suc b) = sym (leb·suc-zero (suc b))
-lower-is (suc a) zero = sym (leb·suc-suc zero a ∙ leb·zero a)
-lower-is (suc a) (suc b) = sym (leb·suc-suc (suc b) a)
 
 below-none : (a : ℕ) → ltZ (negℤ (pos a)) (pos 1) ≡ true
 below-none zero = refl
@@ -31,7 +26,7 @@ below-none (suc a) = refl
 takes-is : (o : Option ℕ) (d : ℕ) → ltZ (negℤ (pos d)) (far o) ≡ takes o d
 unfolding takes
 takes-is none d = below-none d
-takes-is (some k) d = lower-is d k
+takes-is (some k) d = deeper-lt d k
 
 pub none-is : (o : Option ℕ) → ltZ (pos 0) (far o) ≡ true → o ≡ none
 none-is none h = refl
@@ -80,6 +75,5 @@ stored v w i d o f e p = e ∙ rw (toZ-ofZ f, p)
 pub none-test : (b : Bool) (old : ℤ) (s : Option ℕ) → SFits w32 old → b ≡ ltZ (pos 0) (toZ w32 (ofZ w32 old)) → old ≡ far s → b ≡ ltZ (pos 0) (far s)
 none-test b old s g e q = e ∙ rw (toZ-ofZ g, q)
 
-pub floor-test : (b : Bool) (d z : ℤ) (o A : ℕ) → SFits w32 d → SFits w32 z → b ≡ ltZ (toZ w32 (ofZ w32 d)) (toZ w32 (ofZ w32 z))
-    → d ≡ negℤ (pos o) → z ≡ negℤ (pos A) → b ≡ ltb A o
-floor-test b d z o A f g e p q = e ∙ rw (toZ-ofZ f, toZ-ofZ g, p, q) (lower-is o A)
+pub floor-test : (b : Bool) (d : ℤ) (marks o A : ℕ) → SFits w32 d → b ≡ ltZ (toZ w32 (ofZ w32 d)) (negℤ (pos marks)) → d ≡ negℤ (pos o) → marks ≡ A → b ≡ ltb A o
+floor-test b d m o A f e p q = e ∙ rw (toZ-ofZ f, p, q) (deeper-lt o A)

@@ -84,6 +84,14 @@ pub(crate) fn negated(n: usize) -> i32
     -(n as i32)
 }
 
+// Whether a distance is below −A.
+pub(crate) fn below_floor(d: i32, marks: usize) -> bool
+    requires { ⌜ marks ≤ most-vertices ⌝ }
+    ensures { λ r. ⌜ r ≡ ltZ d (negℤ (pos marks)) ⌝ }
+{
+    d < negated(marks)
+}
+
 // The length of an edge by the mark of the vertex that it leaves: −1 where that is accepting, else 0.
 pub(crate) fn edge_length(mark: usize) -> i32
     requires { ⌜ mark < 2 ⌝ }
@@ -104,11 +112,11 @@ pub(crate) fn send(work: &mut [i32], run: Run, e: usize, d: i32) -> Run
     requires { ⌜ Offer-asks e d run (now work) ⌝ }
     ensures { λ r. ⌜ Send-says e d run r (now (work .entry)) (now (work .exit)) ⌝ }
 {
-    let old = load(work, Cells::MESSAGE + e);
+    let waiting = load(work, Cells::MESSAGE + e);
     let mut r = run;
-    if lower(d, old) {
+    if lower(d, waiting) {
         store(work, Cells::MESSAGE + e, d);
-        if missing(old) {
+        if missing(waiting) {
             r.full = run.full + 1;
         }
     }
@@ -126,7 +134,7 @@ pub(crate) fn relax(work: &mut [i32], run: Run, e: usize, d: i32) -> Run
         store(work, Cells::DISTANCE + v, d);
         store_number(work, Cells::PARENT + v, e + SOME);
         let mut r = push(work, run, v);
-        if lower(d, negated(run.marks)) {
+        if below_floor(d, run.marks) {
             r.broken = v + SOME;
         }
         return r;

@@ -27,41 +27,44 @@ use Rattle.search.proofs.cells.load_below.Reads as load-below-reads
 use Rattle.search.proofs.cells.store.Reads as store-reads
 use Rattle.search.proofs.cells.store_number.Reads as store-number-reads
 use Rattle.search.proofs.queue.push.Reads as push-reads
-use Rattle.search.proofs.run.negated.Reads as negated-reads
+use Rattle.search.proofs.run.below_floor.Reads as below-floor-reads
 use Rattle.search.proofs.run.lower.Reads as lower-reads
 
 -- the first test says whether the offer is taken
-tested : (c : tie.After-lower) (q : Case) (x : State) (o : ℕ) → Rep q x (c .before .before .before .before .before .args .run) (c .before .before .before .before .before .args .work .now) → c .before .before .before .before .before .args .e < length (q .graph .edges)
-    → c .before .before .before .before .before .args .d ≡ negℤ (pos o) → c .lower .result ≡ takes (getD (x .depths) (c .before .before .before .load-below .result) none) o
+tested : (c : tie.After-lower) (q : Case) (x : State) (o : ℕ) → let target = c .before .before .before in let a = target .before .before .args in
+    Rep q x (a .run) (a .work .now) → a .e < length (q .graph .edges) → a .d ≡ negℤ (pos o) → c .lower .result ≡ takes (getD (x .depths) (target .load-below .result) none) o
 tested c q x o rep h d =
-    let v = c .before .before .before .load-below .result in
-    taken-test _ _ (c .before .load .result) o _ (c .before .before .before .before .before .fits .d) (record { sfits = c .before .load .ok }) (c .lower .ensures) d
-    (c .before .load .ensures ∙ there (rep .held .depths) v (target-below q _ _ (rep .held .laid) h v (c .before .before .before .load-below .ensures .0)))
+    let target = c .before .before .before in
+    let v = target .load-below .result in
+    taken-test _ _ (c .before .load .result) o _ (target .before .before .fits .d) (record { sfits = c .before .load .ok }) (c .lower .ensures) d
+    (c .before .load .ensures ∙ there (rep .held .depths) v (target-below q _ _ (rep .held .laid) h v (target .load-below .ensures .0)))
 
 -- the cells after the two stores
-changed : (c : tie.After-store-number) (q : Case) (x : State) (o : ℕ) → Rep q x (c .before .before .before .before .before .before .before .before .before .before .before .args .run) (c .before .before .before .before .before .before .before .before .before .before .before .args .work .now) → c .before .before .before .before .before .before .before .before .before .before .before .args .e < length (q .graph .edges)
-    → c .before .before .before .before .before .before .before .before .before .before .before .args .d ≡ negℤ (pos o) → Rep q (offered x (c .before .before .before .before .before .before .before .before .before .load-below .result) o (c .before .before .before .before .before .before .before .before .before .before .before .args .e)) (c .before .before .before .before .before .before .before .before .before .before .before .args .run) (c .store-number .last .0)
+changed : (c : tie.After-store-number) (q : Case) (x : State) (o : ℕ) → let target = c .before .before .before .before .before .before .before .before .before in let a = target .before .before .args in
+    Rep q x (a .run) (a .work .now) → a .e < length (q .graph .edges) → a .d ≡ negℤ (pos o) → Rep q (offered x (target .load-below .result) o (a .e)) (a .run) (c .store-number .last .0)
 changed c q x o rep h d =
-    let s = c .before .before .before .before .before .before .before .before .before .before .before in
-    let v = c .before .before .before .before .before .before .before .before .before .load-below .result in
-    rw (c .store-number .ensures, stored (c .before .before .before .store .last .0) (s .args .work .now) (distance-at + v) (s .args .d) o (s .fits .d) (c .before .before .before .store .ensures) d)
-    (relax-offered q x _ _ (s .args .e) v o rep (target-below q _ _ (rep .held .laid) h v (c .before .before .before .before .before .before .before .before .before .load-below .ensures .0)))
-
--- the second test says whether the floor is broken
-floored : (c : tie.After-lower2) (q : Case) (x : State) (o : ℕ) → Rep q x (c .before .before .before .before .before .before .before .before .before .before .before .before .before .before .before .before .before .args .run) (c .before .before .before .before .before .before .before .before .before .before .before .before .before .before .before .before .before .args .work .now) → c .before .before .before .before .before .before .before .before .before .before .before .before .before .before .before .before .before .args .d ≡ negℤ (pos o)
-    → ltb (accepting-count (q .graph)) o ≡ c .lower2 .result
-floored c q x o rep d =
-    sym (floor-test _ _ (c .before .negated .result) o (accepting-count (q .graph)) (c .before .before .before .before .before .before .before .before .before .before .before .before .before .before .before .before .before .fits .d) (record { sfits = c .before .negated .ok }) (c .lower2 .ensures) d
-    (c .before .negated .ensures ∙ ap (λ (n : ℕ). negℤ (pos n)) (rep .counted .marks)))
+    let target = c .before .before .before .before .before .before .before .before .before in
+    let s = target .before .before in
+    let v = target .load-below .result in
+    let distance = c .before .before .before in
+    rw (c .store-number .ensures, stored (distance .store .last .0) (s .args .work .now) (distance-at + v) (s .args .d) o (s .fits .d) (distance .store .ensures) d)
+    (relax-offered q x _ _ (s .args .e) v o rep (target-below q _ _ (rep .held .laid) h v (target .load-below .ensures .0)))
 
 -- the cells once the target has joined its queue
-joined : (c : tie.After-push) (q : Case) (x : State) (o : ℕ) → Rep q x (c .before .before .before .before .before .before .before .before .before .before .before .before .before .before .args .run) (c .before .before .before .before .before .before .before .before .before .before .before .before .before .before .args .work .now) → c .before .before .before .before .before .before .before .before .before .before .before .before .before .before .args .e < length (q .graph .edges)
-    → c .before .before .before .before .before .before .before .before .before .before .before .before .before .before .args .d ≡ negℤ (pos o) → let v = c .before .before .before .before .before .before .before .before .before .before .before .before .load-below .result in
-    Rep q (with-queues (enqueue (owner q v) v (x .queues)) (offered x v o (c .before .before .before .before .before .before .before .before .before .before .before .before .before .before .args .e))) (c .push .result) (c .push .last .0)
+joined : (c : tie.After-push) (q : Case) (x : State) (o : ℕ) → let target = c .before .before .before .before .before .before .before .before .before .before .before .before in let a = target .before .before .args in let v = target .load-below .result in
+    Rep q x (a .run) (a .work .now) → a .e < length (q .graph .edges) → a .d ≡ negℤ (pos o) → Rep q (with-queues (enqueue (owner q v) v (x .queues)) (offered x v o (a .e))) (c .push .result) (c .push .last .0)
 unfolding Push-says
 joined c q x o rep h d =
-    let v = c .before .before .before .before .before .before .before .before .before .before .before .before .load-below .result in
-    c .push .ensures q (offered x v o (c .before .before .before .before .before .before .before .before .before .before .before .before .before .before .args .e)) (changed (c .before .before .before) q x o rep h d) (target-below q _ _ (rep .held .laid) h v (c .before .before .before .before .before .before .before .before .before .before .before .before .load-below .ensures .0))
+    let target = c .before .before .before .before .before .before .before .before .before .before .before .before in
+    let v = target .load-below .result in
+    c .push .ensures q (offered x v o (target .before .before .args .e)) (changed (c .before .before .before) q x o rep h d) (target-below q _ _ (rep .held .laid) h v (target .load-below .ensures .0))
+
+-- the second test says whether the floor is broken
+floored : (c : tie.After-below-floor) (q : Case) (x : State) (o : ℕ) → let a = c .before .before .before .before .before .before .before .before .before .before .before .before .before .before .before .before .args in
+    Rep q x (a .run) (a .work .now) → a .d ≡ negℤ (pos o) → ltb (accepting-count (q .graph)) o ≡ c .below-floor .result
+floored c q x o rep d =
+    let s = c .before .before .before .before .before .before .before .before .before .before .before .before .before .before .before .before in
+    sym (floor-test _ (s .args .d) (s .args .run .marks) o (accepting-count (q .graph)) (s .fits .d) (c .below-floor .ensures) d (rep .counted .marks))
 
 add-load-below : tie.Need-add-load-below
 add-load-below c = search needs
@@ -95,22 +98,20 @@ store-number-requires : tie.Need-store-number-requires
 store-number-requires c κs = search needs
 
 push-requires : tie.Need-push-requires
-push-requires c κs = let s = c .before .before .before .before .before .before .before .before .before .before .before .before .before .pre in
-    let e = c .before .before .before .before .before .before .before .before .before .before .before .before .before .args .e in
-    let v = c .before .before .before .before .before .before .before .before .before .before .before .load-below .result in
+push-requires c κs =
+    let target = c .before .before .before .before .before .before .before .before .before .before .before in
+    let s = target .before .before .pre in
+    let v = target .load-below .result in
     record {
       case = s .case;
-      state = offered (s .state) v (s .offer) e;
+      state = offered (s .state) v (s .offer) (target .before .before .args .e);
       rep = changed (c .before .before) (s .case) (s .state) (s .offer) (s .rep) (s .below) (s .is);
-      below = target-below (s .case) _ _ (s .rep .held .laid) (s .below) v (c .before .before .before .before .before .before .before .before .before .before .before .load-below .ensures .0);
+      below = target-below (s .case) _ _ (s .rep .held .laid) (s .below) v (target .load-below .ensures .0);
     }
 
-negated-requires : tie.Need-negated-requires
-negated-requires c κs = let s = c .before .before .before .before .before .before .before .before .before .before .before .before .before .before .before .pre in
+below-floor-requires : tie.Need-below-floor-requires
+below-floor-requires c κs = let s = c .before .before .before .before .before .before .before .before .before .before .before .before .before .before .before .pre in
     omega (arith, s .rep .counted .marks, accepting-few (s .case) (s .rep .held .laid .sound), s .rep .held .laid .within .vertices)
-
-lower-requires-2 : tie.Need-lower-requires-2
-lower-requires-2 c κs = search needs
 
 add-r : tie.Need-add-r
 add-r c = search needs
@@ -121,11 +122,12 @@ same-length c = search needs
 returns : tie.Need-returns
 unfolding Relax-says
 returns c = λ q x o rep whole h d.
-    let e = c .before .before .before .before .before .before .before .before .before .before .before .before .before .before .before .before .before .before .args .e in
-    let v = c .before .before .before .before .before .before .before .before .before .before .before .before .before .before .before .before .load-below .result in
-    let g = c .before .before .before .before .before .before .before .before .before .before .before .before .before .before .before .before .load-below .ensures .0 in
-    relax-taken q x (c .before .before .before .before .push .result) _ e v o true (target-is q _ e (rep .held .laid) h v g) (sym (tested (c .before .before .before .before .before .before .before .before .before .before .before .before .before) q x o rep h d) ∙ c .before .before .before .before .before .before .before .before .before .before .before .before .if1 .taken)
-    (joined (c .before .before .before .before) q x o rep h d) (floored (c .before) q x o rep d ∙ c .if2 .taken) _ (add-one v)
+    let push = c .before .before .before in
+    let test = push .before .before .before .before .before .before .before .before .before in
+    let target = test .before .before .before in
+    let v = target .load-below .result in
+    relax-taken q x (push .push .result) _ (target .before .before .args .e) v o true (target-is q _ _ (rep .held .laid) h v (target .load-below .ensures .0)) (sym (tested test q x o rep h d) ∙ push .before .before .before .before .before .before .before .before .if1 .taken)
+    (joined push q x o rep h d) (floored (c .before) q x o rep d ∙ c .if2 .taken) _ (add-one v)
 
 same-length-2 : tie.Need-same-length-2
 same-length-2 c = search needs
@@ -133,11 +135,12 @@ same-length-2 c = search needs
 returns-2 : tie.Need-returns-2
 unfolding Relax-says
 returns-2 c = λ q x o rep whole h d.
-    let e = c .before .before .before .before .before .before .before .before .before .before .before .before .before .before .before .before .before .before .args .e in
-    let v = c .before .before .before .before .before .before .before .before .before .before .before .before .before .before .before .before .load-below .result in
-    let g = c .before .before .before .before .before .before .before .before .before .before .before .before .before .before .before .before .load-below .ensures .0 in
-    let r = joined (c .before .before .before .before) q x o rep h d in
-    relax-taken q x (c .before .before .before .before .push .result) _ e v o false (target-is q _ e (rep .held .laid) h v g) (sym (tested (c .before .before .before .before .before .before .before .before .before .before .before .before .before) q x o rep h d) ∙ c .before .before .before .before .before .before .before .before .before .before .before .before .if1 .taken)
+    let push = c .before .before .before in
+    let test = push .before .before .before .before .before .before .before .before .before in
+    let target = test .before .before .before in
+    let v = target .load-below .result in
+    let r = joined push q x o rep h d in
+    relax-taken q x (push .push .result) _ (target .before .before .args .e) v o false (target-is q _ _ (rep .held .laid) h v (target .load-below .ensures .0)) (sym (tested test q x o rep h d) ∙ push .before .before .before .before .before .before .before .before .if1 .taken)
     r (floored (c .before) q x o rep d ∙ c .if2 .left) _ (r .counted .broke ∙ rw whole)
 
 same-length-3 : tie.Need-same-length-3
@@ -165,8 +168,7 @@ relax-spec =
     add-store-number-2
     store-number-requires
     push-requires
-    negated-requires
-    lower-requires-2
+    below-floor-requires
     add-r
     same-length
     returns
