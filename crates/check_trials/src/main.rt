@@ -1,6 +1,7 @@
 // Tries the checker on answers by other tools that must pass, and on each way of 12 and 13, and writes what it says.
 use checker::check_answer;
 use model::Checked;
+use model::Outcome;
 
 const STDOUT: i32 = 1;
 
@@ -10,11 +11,11 @@ fn write(bytes: &[u8]) {
 
 // What a check said, as a line's end.
 fn say(c: Checked) {
-    if c.verdict == 1 {
+    if c.verdict == Outcome::LASSO {
         write(b"pass lasso\n");
         return;
     }
-    if c.verdict == 2 {
+    if c.verdict == Outcome::EMPTY {
         write(b"pass empty\n");
         return;
     }

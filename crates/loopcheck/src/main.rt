@@ -9,6 +9,7 @@ use casefile::Case;
 use checker::check_answer;
 use desk::Filled;
 use model::Checked;
+use model::Outcome;
 use text::write::write_bytes;
 
 // One byte more than a file may have, so that a longer one is seen to be too long.
@@ -16,9 +17,6 @@ const ENOUGH: usize = Case::LONGEST_FILE + 1;
 
 // More than the longest line.
 const LINE: usize = 32;
-
-// The verdict of a lasso that passes.
-const LASSO: u32 = 1;
 
 // Which argument names which file.
 const CASE: usize = 1;
@@ -32,7 +30,7 @@ fn write_checked(line: &mut [u8], checked: Checked) -> usize
     if checked.refusal != 0 {
         return desk::write_refusal(line, checked.refusal);
     }
-    if checked.verdict == LASSO {
+    if checked.verdict == Outcome::LASSO {
         return write_bytes(line, 0, b"pass lasso\n");
     }
     write_bytes(line, 0, b"pass empty\n")

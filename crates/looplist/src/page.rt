@@ -8,10 +8,6 @@ use text::write::write_byte;
 use text::write::write_bytes;
 use text::write::write_number;
 
-const LASSO: u32 = 1;
-
-const EMPTY: u32 = 2;
-
 // A name, a number and the line's end.
 fn write_count(page: &mut [u8], at: usize, name: &[u8], count: u32) -> usize
     ensures { λ r. ⌜ Puts at (now (name .entry) ++ decimal count ++ (10 ∷ [])) r (now (page .entry)) (now (page .exit)) ⌝ }
@@ -24,10 +20,10 @@ fn write_count(page: &mut [u8], at: usize, name: &[u8], count: u32) -> usize
 fn write_verdict(page: &mut [u8], at: usize, verdict: u32) -> usize
     ensures { λ r. ⌜ Puts at (verdict-line verdict) r (now (page .entry)) (now (page .exit)) ⌝ }
 {
-    if verdict == LASSO {
+    if verdict == Outcome::LASSO {
         return write_bytes(page, at, b"verdict lasso\n");
     }
-    if verdict == EMPTY {
+    if verdict == Outcome::EMPTY {
         return write_bytes(page, at, b"verdict empty\n");
     }
     write_bytes(page, at, b"verdict none\n")

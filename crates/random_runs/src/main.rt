@@ -9,6 +9,7 @@ use bench_kit::buffers::front;
 use bench_kit::buffers::front_acts;
 use graph::below;
 use graph::next;
+use model::Outcome;
 use runs::count;
 
 const STDOUT: i32 = 1;
@@ -30,7 +31,11 @@ const FOUND: usize = 11;
 const TOTALS: usize = 14;
 
 fn verdict(lasso: bool) -> u32 {
-    if lasso { 1 } else { 2 }
+    if lasso {
+        Outcome::LASSO
+    } else {
+        Outcome::EMPTY
+    }
 }
 
 // How many vertices: few, or one time in sixteen many.
@@ -216,8 +221,13 @@ fn print_damaged(totals: &[u32]) {
 fn main() {
     let mut totals = [0u32; TOTALS];
     try_all(&mut totals);
-    print_total(&totals, FOUND, 1, b"graphs with a lasso: ");
-    print_total(&totals, FOUND, 2, b"graphs without: ");
+    print_total(
+        &totals,
+        FOUND,
+        Outcome::LASSO as usize,
+        b"graphs with a lasso: ",
+    );
+    print_total(&totals, FOUND, Outcome::EMPTY as usize, b"graphs without: ");
     io::write_all(STDOUT, b"runs by rounds\n");
     print_runs(&totals, BY_ROUNDS);
     io::write_all(STDOUT, b"runs by a list\n");

@@ -14,10 +14,6 @@ use search::run_list;
 use search::run_rounds;
 use text::write::write_bytes;
 
-const LASSO: u32 = 1;
-
-const EMPTY: u32 = 2;
-
 // What came of a run or of a damaged answer: a place among the totals of its kind.
 pub const MISMATCH: usize = 0;
 
@@ -63,7 +59,7 @@ fn answer_right(case: &[u8], answer: &[u8], want: u32, one: &[u8]) -> bool {
     if c.verdict != want {
         return false;
     }
-    want == LASSO || check::same(answer, one)
+    want == Outcome::LASSO || check::same(answer, one)
 }
 
 // What came of a run.
@@ -72,7 +68,7 @@ fn judged(case: &[u8], o: Outcome, want: u32, one: &[u8], output: &[u8], work: &
     if !all_are(work, 0) || !untouched(output, written) {
         return MISMATCH;
     }
-    if o.refusal == 10 && o.verdict == 0 && written == 0 {
+    if o.refusal == 10 && o.verdict == Outcome::NONE && written == 0 {
         return CUT_SHORT;
     }
     if o.refusal != 0 || o.verdict != want {
@@ -81,7 +77,7 @@ fn judged(case: &[u8], o: Outcome, want: u32, one: &[u8], output: &[u8], work: &
     if !answer_right(case, front(output, written), want, one) {
         return MISMATCH;
     }
-    if want == EMPTY {
+    if want == Outcome::EMPTY {
         RIGHT_EMPTY
     } else {
         RIGHT_LASSO
@@ -125,7 +121,7 @@ pub(crate) fn damaged(case: &[u8], answer: &[u8], want: u32, seed: u32) -> usize
     write_bytes(&mut copy, 0, answer);
     put(&mut copy, below(seed, size), other_byte(next(seed)));
     let c = check_answer(case, front(&copy, size));
-    if c.verdict == 0 {
+    if c.verdict == Outcome::NONE {
         return DAMAGED_REFUSED;
     }
     if c.verdict == want {
