@@ -1,3 +1,4 @@
 -- What the desk programs share.
 pub mod Filling
 pub mod Lines
+pub mod Offering

@@ -1,6 +1,7 @@
 // Lines on standard output and standard error.
 ghost use Rattle.text.specs.Writing.{Chain};
 ghost use Rattle.desk.specs.Lines.{refused-parts};
+ghost use Rattle.desk.specs.Offering.{Offered, standard-output, standard-error};
 use libc::STDERR_FILENO;
 use libc::STDOUT_FILENO;
 use text::write::write_byte;
@@ -8,27 +9,19 @@ use text::write::write_bytes;
 use text::write::write_number;
 
 // Prints the bytes; if standard output does not take them, standard error says why.
-pub fn print(bytes: &[u8]) {
+pub fn print(bytes: &[u8])
+    ensures { λ r. ⌜ Offered standard-output (now (bytes .entry)) ⌝ }
+{
     if !io::write_all(STDOUT_FILENO, bytes) {
         os::fail(b"standard output");
     }
 }
 
 // Writes the bytes to standard error.
-pub fn complain(bytes: &[u8]) {
+pub fn complain(bytes: &[u8])
+    ensures { λ r. ⌜ Offered standard-error (now (bytes .entry)) ⌝ }
+{
     io::write_all(STDERR_FILENO, bytes);
-}
-
-// Writes a number to standard error.
-pub fn complain_number(n: usize) {
-    io::print_decimal(STDERR_FILENO, n as u64);
-}
-
-// Writes an argument to standard error.
-pub fn complain_argument(i: usize) {
-    let mut argument = io::buffer();
-    let n = os::arg(i, &mut argument);
-    io::write_all(STDERR_FILENO, &argument[..n]);
 }
 
 // The line of a refusal at the buffer's front; its length, or no room.

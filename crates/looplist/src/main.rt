@@ -1,6 +1,7 @@
 // Replays a recorded order of acts on a case, both files named on the command line, and prints what came of it: refusal,
 // verdict and acts, a line each, then the answer where there is one. No act is guessed: a bad list is not run.
 mod acts;
+mod complaint;
 mod page;
 
 ghost use Prim.Native.Nat.{_+_, _≤_};
@@ -11,6 +12,8 @@ ghost use Rattle.looplist.specs.Printing.{head-room, printed};
 use acts::Listed;
 use acts::list_acts;
 use casefile::Case;
+use complaint::complain_of_length;
+use complaint::complain_of_line;
 use desk::Filled;
 use page::write_head;
 use search::run_list;
@@ -32,7 +35,7 @@ const PAGE: usize = Case::LEAST_OUTPUT + 64;
 // Which argument names which file.
 const CASE: usize = 1;
 
-const ACTS: usize = 2;
+pub(crate) const ACTS: usize = 2;
 
 // What is to be printed of a case and a list, at the page's front; its length.
 fn replay(case: &[u8], acts: &[u32], output: &mut [u8], work: &mut [i32], page: &mut [u8]) -> usize
@@ -53,28 +56,12 @@ fn print_replay(case: &[u8], acts: &[u32]) {
     desk::print(&page[..n]);
 }
 
-fn complain_of_line(line: usize) {
-    desk::complain_argument(ACTS);
-    desk::complain(b": line ");
-    desk::complain_number(line);
-    desk::complain(
-        b": expected an act, a number of 1 to 9 digits without leading zeros, and a line feed\n",
-    );
-}
-
-fn complain_of_length() {
-    desk::complain_argument(ACTS);
-    desk::complain(b": more than ");
-    desk::complain_number(MOST_ACTS);
-    desk::complain(b" acts\n");
-}
-
 fn replay_text(case: &[u8], text: &[u8]) {
     let mut acts = [0u32; MOST_ACTS];
     match list_acts(text, &mut acts) {
         Listed::Acts(n) => print_replay(case, &acts[..n]),
         Listed::NoAct(line) => complain_of_line(line),
-        Listed::TooMany => complain_of_length(),
+        Listed::TooMany => complain_of_length(MOST_ACTS),
     }
 }
 
