@@ -1,4 +1,3 @@
 // What the programs that run the search share.
 pub mod buffers;
-pub mod line;
 pub mod rows;

@@ -1,7 +1,8 @@
 // Answers put to the checker: files at the limit of length, empty ones, and other runs' answers to K1.
+use crate::line::by_checker;
 use crate::sizes;
 use bench_kit::buffers::front;
-use bench_kit::line::by_checker;
+use model::Outcome;
 
 // The same of the checker, which judges the whole case before the answer.
 pub(crate) fn checker_cases(wrong: u32) -> u32 {
@@ -14,10 +15,17 @@ pub(crate) fn checker_cases(wrong: u32) -> u32 {
         front(&case, 65536),
         &answer,
         4,
-        0,
+        Outcome::NONE,
     );
-    let b = by_checker(a, b"check, case of 65,537 bytes", &case, &answer, 1, 0);
-    by_checker(b, b"check, empty case", b"", &answer, 2, 0)
+    let b = by_checker(
+        a,
+        b"check, case of 65,537 bytes",
+        &case,
+        &answer,
+        1,
+        Outcome::NONE,
+    );
+    by_checker(b, b"check, empty case", b"", &answer, 2, Outcome::NONE)
 }
 
 // K4's case with an answer at the limit of length.
@@ -28,7 +36,7 @@ fn check_k4(wrong: u32, name: &[u8], answer: &[u8], refusal: u32) -> u32 {
         b"version vertices edges source workers\n1 1 0 0 1\nvertex accepting owner\n0 1 0\nfrom to\n",
         answer,
         refusal,
-        0,
+        Outcome::NONE,
     )
 }
 
@@ -64,27 +72,27 @@ pub(crate) fn checker_answers(wrong: u32) -> u32 {
         b"check K1, its lasso",
         b"version verdict stem cycle reached\n1 lasso 1 2 0\nedge\n0\n1\n2\n",
         0,
-        1,
+        Outcome::LASSO,
     );
     let b = check_k1(
         a,
         b"check K1, version 2",
         b"version verdict stem cycle reached\n2 lasso 1 2 0\nedge\n0\n1\n2\n",
         3,
-        0,
+        Outcome::NONE,
     );
     let c = check_k1(
         b,
         b"check K1, K2's answer",
         b"version verdict stem cycle reached\n1 empty 0 0 3\nvertex distance\n0 0\n1 -1\n2 -1\n",
         13,
-        0,
+        Outcome::NONE,
     );
     check_k1(
         c,
         b"check K1, K3's answer",
         b"version verdict stem cycle reached\n1 lasso 0 1 0\nedge\n0\n",
         13,
-        0,
+        Outcome::NONE,
     )
 }

@@ -1,18 +1,14 @@
 // The table of kept runs, K1 to K11. Cases and answers stand here from line 2 on.
-use bench_kit::line::EMPTY;
-use bench_kit::line::LASSO;
-use bench_kit::line::NONE;
-use bench_kit::line::by_list;
-use bench_kit::line::by_rounds;
+use crate::line::Wanted;
+use crate::line::by_list;
+use crate::line::by_rounds;
 
 // K1 by a list of acts.
 pub(crate) fn list_of_k1(
     wrong: u32,
     name: &[u8],
     list: &[u32],
-    refusal: u32,
-    verdict: u32,
-    acts: u32,
+    wanted: Wanted,
     answer: &[u8],
 ) -> u32 {
     by_list(
@@ -20,9 +16,7 @@ pub(crate) fn list_of_k1(
         name,
         b"1 3 3 0 2\nvertex accepting owner\n0 0 0\n1 1 1\n2 0 0\nfrom to\n0 1\n1 2\n2 1\n",
         list,
-        refusal,
-        verdict,
-        acts,
+        wanted,
         answer,
     )
 }
@@ -32,9 +26,7 @@ fn k1(wrong: u32) -> u32 {
         wrong,
         b"K1",
         b"1 3 3 0 2\nvertex accepting owner\n0 0 0\n1 1 1\n2 0 0\nfrom to\n0 1\n1 2\n2 1\n",
-        0,
-        LASSO,
-        8,
+        Wanted::lasso(8),
         b"1 lasso 1 2 0\nedge\n0\n1\n2\n",
     )
 }
@@ -44,9 +36,7 @@ fn k2(wrong: u32) -> u32 {
         wrong,
         b"K2",
         b"1 3 3 0 2\nvertex accepting owner\n0 1 0\n1 0 1\n2 0 0\nfrom to\n0 1\n1 2\n2 1\n",
-        0,
-        EMPTY,
-        6,
+        Wanted::empty(6),
         b"1 empty 0 0 3\nvertex distance\n0 0\n1 -1\n2 -1\n",
     )
 }
@@ -56,9 +46,7 @@ fn k3(wrong: u32) -> u32 {
         wrong,
         b"K3",
         b"1 1 1 0 1\nvertex accepting owner\n0 1 0\nfrom to\n0 0\n",
-        0,
-        LASSO,
-        2,
+        Wanted::lasso(2),
         b"1 lasso 0 1 0\nedge\n0\n",
     )
 }
@@ -68,9 +56,7 @@ fn k4(wrong: u32) -> u32 {
         wrong,
         b"K4",
         b"1 1 0 0 1\nvertex accepting owner\n0 1 0\nfrom to\n",
-        0,
-        EMPTY,
-        1,
+        Wanted::empty(1),
         b"1 empty 0 0 1\nvertex distance\n0 0\n",
     )
 }
@@ -80,9 +66,7 @@ fn k5(wrong: u32) -> u32 {
         wrong,
         b"K5",
         b"1 1 1 0 1\nvertex accepting owner\n0 0 0\nfrom to\n0 0\n",
-        0,
-        EMPTY,
-        1,
+        Wanted::empty(1),
         b"1 empty 0 0 1\nvertex distance\n0 0\n",
     )
 }
@@ -92,16 +76,14 @@ fn k6(wrong: u32) -> u32 {
         wrong,
         b"K6",
         b"1 2 1 0 1\nvertex accepting owner\n0 0 0\n1 1 0\nfrom to\n1 1\n",
-        0,
-        EMPTY,
-        1,
+        Wanted::empty(1),
         b"1 empty 0 0 1\nvertex distance\n0 0\n",
     )
 }
 
 fn k7(wrong: u32) -> u32 {
     let none: [u32; 0] = [0; 0];
-    list_of_k1(wrong, b"K7", &none, 10, NONE, 0, b"")
+    list_of_k1(wrong, b"K7", &none, Wanted::cut_short(0), b"")
 }
 
 fn k8(wrong: u32) -> u32 {
@@ -109,16 +91,14 @@ fn k8(wrong: u32) -> u32 {
         wrong,
         b"K8",
         b"1 3 3 0 1\nvertex accepting owner\n0 0 0\n1 1 0\n2 0 0\nfrom to\n0 1\n1 2\n2 1\n",
-        0,
-        LASSO,
-        4,
+        Wanted::lasso(4),
         b"1 lasso 1 2 0\nedge\n0\n1\n2\n",
     )
 }
 
 fn k9(wrong: u32) -> u32 {
     let two = [2u32; 1];
-    list_of_k1(wrong, b"K9", &two, 10, NONE, 0, b"")
+    list_of_k1(wrong, b"K9", &two, Wanted::cut_short(0), b"")
 }
 
 fn k10(wrong: u32) -> u32 {
@@ -126,9 +106,7 @@ fn k10(wrong: u32) -> u32 {
         wrong,
         b"K10",
         b"2 3 3 0 2\nvertex accepting owner\n0 0 0\n1 1 1\n2 0 0\nfrom to\n0 1\n1 2\n2 1\n",
-        3,
-        NONE,
-        0,
+        Wanted::refused(3),
         b"",
     )
 }
@@ -138,9 +116,7 @@ fn k11(wrong: u32) -> u32 {
         wrong,
         b"K11",
         b"1 3 4 0 2\nvertex accepting owner\n0 0 0\n1 1 1\n2 0 0\nfrom to\n0 1\n1 2\n1 2\n2 1\n",
-        8,
-        NONE,
-        0,
+        Wanted::refused(8),
         b"",
     )
 }

@@ -1,22 +1,20 @@
 // Runs at the limits, and one past them: vertices, edges, workers, bytes, and the lent buffers.
+use crate::line::Wanted;
+use crate::line::list_in;
+use crate::line::list_of;
+use crate::line::rounds_in;
+use crate::line::rounds_of;
 use crate::sizes;
+use bench_kit::buffers::CELL;
+use bench_kit::buffers::MARK;
 use bench_kit::buffers::front;
 use bench_kit::buffers::front_acts;
-use bench_kit::line::EMPTY;
-use bench_kit::line::LASSO;
-use bench_kit::line::NONE;
-use bench_kit::line::list_in;
-use bench_kit::line::list_of;
-use bench_kit::line::rounds_in;
-use bench_kit::line::rounds_of;
 
 // K4 by rounds in these buffers.
 fn buffers_of_k4(
     wrong: u32,
     name: &[u8],
-    refusal: u32,
-    verdict: u32,
-    acts: u32,
+    wanted: Wanted,
     answer: &[u8],
     output: &mut [u8],
     work: &mut [i32],
@@ -25,9 +23,7 @@ fn buffers_of_k4(
         wrong,
         name,
         b"version vertices edges source workers\n1 1 0 0 1\nvertex accepting owner\n0 1 0\nfrom to\n",
-        refusal,
-        verdict,
-        acts,
+        wanted,
         answer,
         output,
         work,
@@ -36,14 +32,12 @@ fn buffers_of_k4(
 
 // Both buffers at their least.
 fn least_buffers(wrong: u32) -> u32 {
-    let mut output = [b'#'; 8192];
-    let mut work = [7i32; 16384];
+    let mut output = [MARK; 8192];
+    let mut work = [CELL; 16384];
     buffers_of_k4(
         wrong,
         b"8,192 bytes and 16,384 cells",
-        0,
-        EMPTY,
-        1,
+        Wanted::empty(1),
         b"version verdict stem cycle reached\n1 empty 0 0 1\nvertex distance\n0 0\n",
         &mut output,
         &mut work,
@@ -52,14 +46,12 @@ fn least_buffers(wrong: u32) -> u32 {
 
 // One byte or one cell too few.
 fn short_output(wrong: u32) -> u32 {
-    let mut output = [b'#'; 8191];
-    let mut work = [7i32; 16384];
+    let mut output = [MARK; 8191];
+    let mut work = [CELL; 16384];
     buffers_of_k4(
         wrong,
         b"8,191 bytes",
-        11,
-        NONE,
-        0,
+        Wanted::refused(11),
         b"",
         &mut output,
         &mut work,
@@ -67,14 +59,12 @@ fn short_output(wrong: u32) -> u32 {
 }
 
 fn short_work(wrong: u32) -> u32 {
-    let mut output = [b'#'; 8192];
-    let mut work = [7i32; 16383];
+    let mut output = [MARK; 8192];
+    let mut work = [CELL; 16383];
     buffers_of_k4(
         wrong,
         b"16,383 cells",
-        11,
-        NONE,
-        0,
+        Wanted::refused(11),
         b"",
         &mut output,
         &mut work,
@@ -83,15 +73,13 @@ fn short_work(wrong: u32) -> u32 {
 
 // 11 goes before every other refusal, by both entries.
 fn short_before_all(wrong: u32) -> u32 {
-    let mut output = [b'#'; 8191];
-    let mut work = [7i32; 16384];
+    let mut output = [MARK; 8191];
+    let mut work = [CELL; 16384];
     rounds_in(
         wrong,
         b"8,191 bytes, empty file",
         b"",
-        11,
-        NONE,
-        0,
+        Wanted::refused(11),
         b"",
         &mut output,
         &mut work,
@@ -99,17 +87,15 @@ fn short_before_all(wrong: u32) -> u32 {
 }
 
 fn short_before_acts(wrong: u32) -> u32 {
-    let mut output = [b'#'; 8191];
-    let mut work = [7i32; 16384];
+    let mut output = [MARK; 8191];
+    let mut work = [CELL; 16384];
     let past = [5u32; 1];
     list_in(
         wrong,
         b"8,191 bytes, empty file, by a list",
         b"",
         &past,
-        11,
-        NONE,
-        0,
+        Wanted::refused(11),
         b"",
         &mut output,
         &mut work,
@@ -132,9 +118,7 @@ fn ring_500(wrong: u32) -> u32 {
         wrong,
         b"500 vertices",
         front(&buffer, size),
-        0,
-        LASSO,
-        1000,
+        Wanted::lasso(1000),
         answer,
     )
 }
@@ -150,15 +134,13 @@ fn ring_16(wrong: u32) -> u32 {
         wrong,
         b"16 workers, 500 vertices",
         front(&buffer, size),
-        0,
-        LASSO,
-        2000,
+        Wanted::lasso(2000),
         answer,
     )
 }
 
 // By the first acts of a list that goes twice round it.
-fn ring_list(wrong: u32, name: &[u8], refusal: u32, verdict: u32, acts: u32, answer: &[u8]) -> u32 {
+fn ring_list(wrong: u32, name: &[u8], wanted: Wanted, answer: &[u8]) -> u32 {
     let mut buffer = [0u8; 65536];
     let mut list = [0u32; 2000];
     sizes::put_ring_acts(&mut list);
@@ -167,10 +149,8 @@ fn ring_list(wrong: u32, name: &[u8], refusal: u32, verdict: u32, acts: u32, ans
         wrong,
         name,
         front(&buffer, size),
-        front_acts(&list, acts as usize),
-        refusal,
-        verdict,
-        acts,
+        front_acts(&list, wanted.acts as usize),
+        wanted,
         answer,
     )
 }
@@ -182,12 +162,10 @@ fn ring_lists(wrong: u32) -> u32 {
     let a = ring_list(
         wrong,
         b"the same, 2,000 acts",
-        0,
-        LASSO,
-        2000,
+        Wanted::lasso(2000),
         front(&expected, n),
     );
-    ring_list(a, b"the same, 1,999 acts", 10, NONE, 1999, b"")
+    ring_list(a, b"the same, 1,999 acts", Wanted::cut_short(1999), b"")
 }
 
 // The first 2,000 edges of the complete graph on 500, none accepting: every vertex takes a turn. With 16 workers the owner
@@ -198,7 +176,13 @@ fn full(wrong: u32, name: &[u8], workers: u32, acts: u32) -> u32 {
     let n = sizes::write_full_answer(&mut expected);
     let answer = front(&expected, n);
     let size = sizes::write_full(&mut buffer, 500, 2000, workers, 500);
-    rounds_of(wrong, name, front(&buffer, size), 0, EMPTY, acts, answer)
+    rounds_of(
+        wrong,
+        name,
+        front(&buffer, size),
+        Wanted::empty(acts),
+        answer,
+    )
 }
 
 // The same with an accepting source, which the first edge leads back to: a turn, 468 deliveries, and the next turn.
@@ -209,9 +193,7 @@ fn full_lasso(wrong: u32) -> u32 {
         wrong,
         b"2,000 edges, accepting source",
         front(&buffer, size),
-        0,
-        LASSO,
-        470,
+        Wanted::lasso(470),
         b"version verdict stem cycle reached\n1 lasso 0 1 0\nedge\n0\n",
     )
 }
@@ -220,7 +202,7 @@ fn full_lasso(wrong: u32) -> u32 {
 fn too_many(wrong: u32, name: &[u8], n: u32, m: u32, workers: u32) -> u32 {
     let mut buffer = [0u8; 65536];
     let size = sizes::write_full(&mut buffer, n, m, workers, 500);
-    rounds_of(wrong, name, front(&buffer, size), 5, NONE, 0, b"")
+    rounds_of(wrong, name, front(&buffer, size), Wanted::refused(5), b"")
 }
 
 pub(crate) fn counts(wrong: u32) -> u32 {
@@ -236,13 +218,19 @@ pub(crate) fn counts(wrong: u32) -> u32 {
 fn long_file(wrong: u32, name: &[u8], size: usize, refusal: u32) -> u32 {
     let mut buffer = [b'x'; 65537];
     sizes::write_full(&mut buffer, 1, 0, 1, 0);
-    rounds_of(wrong, name, front(&buffer, size), refusal, NONE, 0, b"")
+    rounds_of(
+        wrong,
+        name,
+        front(&buffer, size),
+        Wanted::refused(refusal),
+        b"",
+    )
 }
 
 // A refusal of the file goes before 9.
 fn by_act_5(wrong: u32, name: &[u8], case: &[u8], refusal: u32) -> u32 {
     let past = [5u32; 1];
-    list_of(wrong, name, case, &past, refusal, NONE, 0, b"")
+    list_of(wrong, name, case, &past, Wanted::refused(refusal), b"")
 }
 
 fn long_by_list(wrong: u32) -> u32 {
@@ -254,6 +242,6 @@ fn long_by_list(wrong: u32) -> u32 {
 pub(crate) fn lengths(wrong: u32) -> u32 {
     let a = long_file(wrong, b"65,536 bytes", 65536, 4);
     let b = long_file(a, b"65,537 bytes", 65537, 1);
-    let c = rounds_of(long_by_list(b), b"empty file", b"", 2, NONE, 0, b"");
+    let c = rounds_of(long_by_list(b), b"empty file", b"", Wanted::refused(2), b"");
     by_act_5(c, b"empty file, by a list", b"", 2)
 }

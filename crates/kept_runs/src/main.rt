@@ -16,11 +16,12 @@
 mod answers;
 mod kept;
 mod limits;
+mod line;
 mod rules;
 mod sizes;
 
-use bench_kit::line::print;
-use bench_kit::line::print_number;
+use desk::print;
+use line::print_number;
 
 fn main() {
     let a = rules::shortcuts(rules::refusals_and_lists(kept::table(0)));

@@ -1,22 +1,18 @@
 // Runs that no table names: a list of whole rounds, lists that are refused or run out, refused lines, and the shortcuts
 // that would spoil a finding. Cases and answers stand here from line 2 on.
 use crate::kept::list_of_k1;
+use crate::line::Wanted;
+use crate::line::by_list;
+use crate::line::by_rounds;
 use crate::sizes::put_rounds;
 use bench_kit::buffers::front_acts;
-use bench_kit::line::EMPTY;
-use bench_kit::line::LASSO;
-use bench_kit::line::NONE;
-use bench_kit::line::by_list;
-use bench_kit::line::by_rounds;
 
 fn owner_too_large(wrong: u32) -> u32 {
     by_rounds(
         wrong,
         b"K1, owner 2",
         b"1 3 3 0 2\nvertex accepting owner\n0 0 0\n1 1 2\n2 0 0\nfrom to\n0 1\n1 2\n2 1\n",
-        6,
-        NONE,
-        0,
+        Wanted::refused(6),
         b"",
     )
 }
@@ -26,34 +22,16 @@ fn edge_to_no_vertex(wrong: u32) -> u32 {
         wrong,
         b"K1, edge to 3",
         b"1 3 3 0 2\nvertex accepting owner\n0 0 0\n1 1 1\n2 0 0\nfrom to\n0 1\n1 3\n2 1\n",
-        7,
-        NONE,
-        0,
+        Wanted::refused(7),
         b"",
     )
 }
 
 // K1 by so many acts of whole rounds.
-fn rounds_of_k1(
-    wrong: u32,
-    name: &[u8],
-    size: usize,
-    refusal: u32,
-    verdict: u32,
-    acts: u32,
-    answer: &[u8],
-) -> u32 {
+fn rounds_of_k1(wrong: u32, name: &[u8], size: usize, wanted: Wanted, answer: &[u8]) -> u32 {
     let mut list = [0u32; 30];
     put_rounds(&mut list);
-    list_of_k1(
-        wrong,
-        name,
-        front_acts(&list, size),
-        refusal,
-        verdict,
-        acts,
-        answer,
-    )
+    list_of_k1(wrong, name, front_acts(&list, size), wanted, answer)
 }
 
 // K1 to its end by whole rounds: the 8th act that does something is the 19th in all, act 3 of the fourth round.
@@ -62,24 +40,22 @@ fn whole_rounds(wrong: u32, name: &[u8], size: usize) -> u32 {
         wrong,
         name,
         size,
-        0,
-        LASSO,
-        8,
+        Wanted::lasso(8),
         b"1 lasso 1 2 0\nedge\n0\n1\n2\n",
     )
 }
 
 fn by_whole_rounds(wrong: u32) -> u32 {
     let a = whole_rounds(wrong, b"K1, six whole rounds", 30);
-    let b = rounds_of_k1(a, b"K1, three whole rounds", 15, 10, NONE, 6, b"");
-    let c = rounds_of_k1(b, b"K1, 18 acts of rounds", 18, 10, NONE, 7, b"");
+    let b = rounds_of_k1(a, b"K1, three whole rounds", 15, Wanted::cut_short(6), b"");
+    let c = rounds_of_k1(b, b"K1, 18 acts of rounds", 18, Wanted::cut_short(7), b"");
     whole_rounds(c, b"K1, 19 acts of rounds", 19)
 }
 
 // K1 by one act.
-fn one_act(wrong: u32, name: &[u8], act: u32, refusal: u32, acts: u32) -> u32 {
+fn one_act(wrong: u32, name: &[u8], act: u32, wanted: Wanted) -> u32 {
     let list = [act; 1];
-    list_of_k1(wrong, name, &list, refusal, NONE, acts, b"")
+    list_of_k1(wrong, name, &list, wanted, b"")
 }
 
 // 9 goes for the whole list, also after the run's end.
@@ -87,14 +63,20 @@ fn late_act(wrong: u32) -> u32 {
     let mut list = [0u32; 31];
     put_rounds(&mut list);
     list[30] = 5;
-    list_of_k1(wrong, b"K1, act 5 after the end", &list, 9, NONE, 0, b"")
+    list_of_k1(
+        wrong,
+        b"K1, act 5 after the end",
+        &list,
+        Wanted::refused(9),
+        b"",
+    )
 }
 
 // 9 at P + m and not below; 10 while all queues are empty and a message waits.
 fn by_one_act(wrong: u32) -> u32 {
-    let a = one_act(wrong, b"K1, the one act 4", 4, 10, 0);
-    let b = one_act(a, b"K1, the one act 5", 5, 9, 0);
-    one_act(late_act(b), b"K1, the one act 0", 0, 10, 1)
+    let a = one_act(wrong, b"K1, the one act 4", 4, Wanted::cut_short(0));
+    let b = one_act(a, b"K1, the one act 5", 5, Wanted::refused(9));
+    one_act(late_act(b), b"K1, the one act 0", 0, Wanted::cut_short(1))
 }
 
 // Delivered after a lower one has been taken.
@@ -105,9 +87,7 @@ fn late_offer(wrong: u32) -> u32 {
         b"late higher offer",
         b"1 3 3 0 2\nvertex accepting owner\n0 0 0\n1 1 0\n2 0 1\nfrom to\n0 1\n0 2\n1 2\n",
         &late,
-        0,
-        EMPTY,
-        5,
+        Wanted::empty(5),
         b"1 empty 0 0 3\nvertex distance\n0 0\n1 0\n2 -1\n",
     )
 }
@@ -120,9 +100,7 @@ fn meeting_offers(wrong: u32) -> u32 {
         b"offer that meets a waiting one",
         b"1 4 4 0 2\nvertex accepting owner\n0 0 0\n1 0 0\n2 1 0\n3 0 1\nfrom to\n0 1\n0 2\n1 3\n2 1\n",
         &met,
-        0,
-        EMPTY,
-        6,
+        Wanted::empty(6),
         b"1 empty 0 0 4\nvertex distance\n0 0\n1 -1\n2 0\n3 -1\n",
     )
 }
@@ -133,9 +111,7 @@ fn parted_offers(wrong: u32) -> u32 {
         wrong,
         b"the same by rounds",
         b"1 4 4 0 2\nvertex accepting owner\n0 0 0\n1 0 0\n2 1 0\n3 0 1\nfrom to\n0 1\n0 2\n1 3\n2 1\n",
-        0,
-        EMPTY,
-        8,
+        Wanted::empty(8),
         b"1 empty 0 0 4\nvertex distance\n0 0\n1 -1\n2 0\n3 -1\n",
     )
 }
@@ -145,9 +121,7 @@ fn accepting_stem(wrong: u32) -> u32 {
         wrong,
         b"accepting on the stem only",
         b"1 2 2 0 1\nvertex accepting owner\n0 1 0\n1 0 0\nfrom to\n0 1\n1 1\n",
-        0,
-        EMPTY,
-        2,
+        Wanted::empty(2),
         b"1 empty 0 0 2\nvertex distance\n0 0\n1 -1\n",
     )
 }
@@ -158,9 +132,7 @@ fn source_with_parent(wrong: u32) -> u32 {
         wrong,
         b"source with a parent",
         b"1 2 2 0 1\nvertex accepting owner\n0 1 0\n1 0 0\nfrom to\n0 1\n1 0\n",
-        0,
-        LASSO,
-        3,
+        Wanted::lasso(3),
         b"1 lasso 1 2 0\nedge\n0\n1\n0\n",
     )
 }

@@ -1,26 +1,60 @@
 // One run, one line: an entry is called on marked buffers, and a line says what came back and whether it is what must come.
-use crate::buffers::CELL;
-use crate::buffers::MARK;
-use crate::buffers::all_are;
-use crate::buffers::front;
-use crate::buffers::untouched;
+use bench_kit::buffers::CELL;
+use bench_kit::buffers::MARK;
+use bench_kit::buffers::all_are;
+use bench_kit::buffers::front;
+use bench_kit::buffers::untouched;
 use checker::check_answer;
+use desk::print;
+use libc::STDOUT_FILENO;
 use model::Outcome;
 use search::run_list;
 use search::run_rounds;
 use text::write::write_bytes;
 
-const STDOUT: i32 = 1;
-
 // The longest answer that is printed.
 const SHORT: usize = 100;
 
-// Verdicts.
-pub const NONE: u32 = 0;
+// What must come of a run, beside its answer.
+pub(crate) struct Wanted {
+    pub refusal: u32,
+    pub verdict: u32,
+    pub acts: u32,
+}
 
-pub const LASSO: u32 = 1;
+impl Wanted {
+    pub(crate) fn lasso(acts: u32) -> Wanted {
+        Wanted {
+            refusal: 0,
+            verdict: Outcome::LASSO,
+            acts: acts,
+        }
+    }
 
-pub const EMPTY: u32 = 2;
+    pub(crate) fn empty(acts: u32) -> Wanted {
+        Wanted {
+            refusal: 0,
+            verdict: Outcome::EMPTY,
+            acts: acts,
+        }
+    }
+
+    pub(crate) fn cut_short(acts: u32) -> Wanted {
+        Wanted {
+            refusal: 10,
+            verdict: Outcome::NONE,
+            acts: acts,
+        }
+    }
+
+    pub(crate) fn refused(refusal: u32) -> Wanted {
+        Wanted {
+            refusal: refusal,
+            verdict: Outcome::NONE,
+            acts: 0,
+        }
+    }
+}
 
 // What a run left in the work buffer.
 enum Work {
@@ -29,21 +63,24 @@ enum Work {
     Mixed,
 }
 
-pub fn print(bytes: &[u8]) {
-    io::write_all(STDOUT, bytes);
-}
-
-pub fn print_number(n: u32) {
-    io::print_decimal(STDOUT, n as u64);
+pub(crate) fn print_number(n: u32) {
+    io::print_decimal(STDOUT_FILENO, n as u64);
 }
 
 fn print_verdict(verdict: u32) {
-    match verdict {
-        0 => print(b"none"),
-        1 => print(b"lasso"),
-        2 => print(b"empty"),
-        _ => print(b"unknown"),
+    if verdict == Outcome::NONE {
+        print(b"none");
+        return;
     }
+    if verdict == Outcome::LASSO {
+        print(b"lasso");
+        return;
+    }
+    if verdict == Outcome::EMPTY {
+        print(b"empty");
+        return;
+    }
+    print(b"unknown");
 }
 
 // A line's end; the count of wrong runs, which never comes near its limit.
@@ -105,14 +142,14 @@ fn print_outcome(name: &[u8], o: Outcome) {
 }
 
 // Whether the counts are the wanted ones.
-fn same_outcome(o: Outcome, refusal: u32, verdict: u32, acts: u32) -> bool {
-    o.refusal == refusal && o.verdict == verdict && o.acts == acts
+fn same_outcome(o: Outcome, wanted: Wanted) -> bool {
+    o.refusal == wanted.refusal && o.verdict == wanted.verdict && o.acts == wanted.acts
 }
 
-// What the checker says of the answer in front of the output: its verdict, 0 where none was written.
+// What the checker says of the answer in front of the output: its verdict, none where nothing was written.
 fn checked_verdict(case: &[u8], answer: &[u8]) -> u32 {
     if answer.len() == 0 {
-        return 0;
+        return Outcome::NONE;
     }
     let c = check_answer(case, answer);
     print(b", checker ");
@@ -132,9 +169,7 @@ fn told(
     name: &[u8],
     case: &[u8],
     o: Outcome,
-    refusal: u32,
-    verdict: u32,
-    acts: u32,
+    wanted: Wanted,
     answer: &[u8],
     output: &[u8],
     work: &[i32],
@@ -146,103 +181,63 @@ fn told(
     let left = left_in(work);
     print_work(left);
     print_rest(rest);
-    let passed = checked_verdict(case, shown) == verdict;
-    let buffers = rest && work_right(left, refusal);
-    let same = same_outcome(o, refusal, verdict, acts) && check::same(shown, answer);
+    let passed = checked_verdict(case, shown) == wanted.verdict;
+    let buffers = rest && work_right(left, wanted.refusal);
+    let same = same_outcome(o, wanted) && check::same(shown, answer);
     let after = counted(wrong, same && passed && buffers);
     print_short(shown);
     after
 }
 
 // A run by rounds in these buffers, which hold the marks.
-pub fn rounds_in(
+pub(crate) fn rounds_in(
     wrong: u32,
     name: &[u8],
     case: &[u8],
-    refusal: u32,
-    verdict: u32,
-    acts: u32,
+    wanted: Wanted,
     answer: &[u8],
     output: &mut [u8],
     work: &mut [i32],
 ) -> u32 {
     let o = run_rounds(case, output, work);
-    told(
-        wrong,
-        name,
-        case,
-        o,
-        refusal,
-        verdict,
-        acts,
-        answer,
-        output,
-        work,
-    )
+    told(wrong, name, case, o, wanted, answer, output, work)
 }
 
 // A run by a list in these buffers, which hold the marks.
-pub fn list_in(
+pub(crate) fn list_in(
     wrong: u32,
     name: &[u8],
     case: &[u8],
     list: &[u32],
-    refusal: u32,
-    verdict: u32,
-    acts: u32,
+    wanted: Wanted,
     answer: &[u8],
     output: &mut [u8],
     work: &mut [i32],
 ) -> u32 {
     let o = run_list(case, list, output, work);
-    told(
-        wrong,
-        name,
-        case,
-        o,
-        refusal,
-        verdict,
-        acts,
-        answer,
-        output,
-        work,
-    )
+    told(wrong, name, case, o, wanted, answer, output, work)
 }
 
 // A run by rounds in buffers a little longer than they must be.
-pub fn rounds_of(
+pub(crate) fn rounds_of(
     wrong: u32,
     name: &[u8],
     case: &[u8],
-    refusal: u32,
-    verdict: u32,
-    acts: u32,
+    wanted: Wanted,
     answer: &[u8],
 ) -> u32 {
     let mut output = [MARK; 8200];
     let mut work = [CELL; 16400];
-    rounds_in(
-        wrong,
-        name,
-        case,
-        refusal,
-        verdict,
-        acts,
-        answer,
-        &mut output,
-        &mut work,
-    )
+    rounds_in(wrong, name, case, wanted, answer, &mut output, &mut work)
 }
 
 // The same by a list.
-pub fn list_of(
+pub(crate) fn list_of(
     wrong: u32,
     name: &[u8],
     case: &[u8],
     list: &[u32],
-    refusal: u32,
-    verdict: u32,
-    acts: u32,
+    wanted: Wanted,
     answer: &[u8],
 ) -> u32 {
     let mut output = [MARK; 8200];
@@ -252,9 +247,7 @@ pub fn list_of(
         name,
         case,
         list,
-        refusal,
-        verdict,
-        acts,
+        wanted,
         answer,
         &mut output,
         &mut work,
@@ -277,39 +270,27 @@ fn write_answer(out: &mut [u8], lines: &[u8]) -> usize {
 }
 
 // A run by rounds of a case and with an answer that are given from line 2 on.
-pub fn by_rounds(
+pub(crate) fn by_rounds(
     wrong: u32,
     name: &[u8],
     case: &[u8],
-    refusal: u32,
-    verdict: u32,
-    acts: u32,
+    wanted: Wanted,
     answer: &[u8],
 ) -> u32 {
     let mut text = [0u8; 256];
     let mut expected = [0u8; 256];
     let n = write_case(&mut text, case);
     let k = write_answer(&mut expected, answer);
-    rounds_of(
-        wrong,
-        name,
-        front(&text, n),
-        refusal,
-        verdict,
-        acts,
-        front(&expected, k),
-    )
+    rounds_of(wrong, name, front(&text, n), wanted, front(&expected, k))
 }
 
 // The same by a list.
-pub fn by_list(
+pub(crate) fn by_list(
     wrong: u32,
     name: &[u8],
     case: &[u8],
     list: &[u32],
-    refusal: u32,
-    verdict: u32,
-    acts: u32,
+    wanted: Wanted,
     answer: &[u8],
 ) -> u32 {
     let mut text = [0u8; 256];
@@ -321,15 +302,13 @@ pub fn by_list(
         name,
         front(&text, n),
         list,
-        refusal,
-        verdict,
-        acts,
+        wanted,
         front(&expected, k),
     )
 }
 
 // An answer put to the checker.
-pub fn by_checker(
+pub(crate) fn by_checker(
     wrong: u32,
     name: &[u8],
     case: &[u8],
