@@ -11,7 +11,7 @@ use Rattle.model.specs.Graph.{Edge, edge, edge-depth, total, accepting-count}
 use Rattle.model.specs.Case.{Case, owner, Sound, most-acts}
 use Rattle.model.specs.Run as R
 use Rattle.model.proofs.Shapes.{Shape, cell-in, not-broken}
-use Rattle.model.proofs.Few.{Paid, paid-acts, fresh-paid}
+use Rattle.model.proofs.Trace.{Trace, trace-acts, trace}
 use Rattle.model.proofs.Steps.{act-keeps, acted-keeps}
 use Rattle.first_draft.specs.File as D
 use Rattle.first_draft.specs.Run as O
@@ -186,18 +186,21 @@ act-same c ok a x s = rw (over-same x) (go (R.has-ended x) refl (ltb a (c .worke
     go false h true = turn-same c a (getD (x .queues) a []) x
     go false h false = delivery-same c (a - c .workers) (getD (x .cells) (a - c .workers) none) x (not-broken x h) (λ d e. cell-in c ok x (a - c .workers) d s e)
 
-pub acted-same : (c : Case) (ok : Sound c) (xs : List ℕ) (x : R.State) → Paid c x → O.acted (old-case c) xs (old-state x) ≡ old-state (R.acted c xs x)
+pub acted-same : (c : Case) (ok : Sound c) (xs : List ℕ) (x : R.State) → Trace c x → O.acted (old-case c) xs (old-state x) ≡ old-state (R.acted c xs x)
 unfolding O.acted R.acted
 acted-same c ok [] x p = refl
-acted-same c ok (a ∷ xs) x p = ap (O.acted (old-case c) xs) (act-same c ok a x (p .shape)) ∙ acted-same c ok xs (R.act c a x) (act-keeps c (Paid c) (paid-acts c ok) a x p)
+acted-same c ok (a ∷ xs) x p = ap (O.acted (old-case c) xs) (act-same c ok a x (p .traced .shape)) ∙ acted-same c ok xs (R.act c a x) (act-keeps c (Trace c) (trace-acts c ok) a x p)
 
 pub fresh-same : (c : Case) → O.fresh (old-case c) ≡ old-state (R.fresh c)
 unfolding O.fresh R.fresh old-state old-case owner
 fresh-same c = rw (many-same c, owner-same c (c .graph .source)) refl
 
+fresh-trace : (c : Case) (ok : Sound c) → Trace c (R.fresh c)
+fresh-trace c ok = unfold R.by-list R.acted in (trace c ok [])
+
 pub by-list-same : (c : Case) (ok : Sound c) (xs : List ℕ) → O.acted (old-case c) xs (O.fresh (old-case c)) ≡ old-state (R.by-list c xs)
 unfolding R.by-list
-by-list-same c ok xs = ap (O.acted (old-case c) xs) (fresh-same c) ∙ acted-same c ok xs (R.fresh c) (fresh-paid c ok)
+by-list-same c ok xs = ap (O.acted (old-case c) xs) (fresh-same c) ∙ acted-same c ok xs (R.fresh c) (fresh-trace c ok)
 
 -- ROUNDS
 numbers-same : (k i : ℕ) → O.numbers k i ≡ R.range k i
@@ -209,14 +212,14 @@ pub list-same : (c : Case) → O.numbers (old-case c .workers + length (old-case
 unfolding R.round-acts old-case
 list-same c = rw (edges-many (c .graph .edges)) (numbers-same (c .workers + length (c .graph .edges)) 0)
 
-round-same : (c : Case) (ok : Sound c) (x : R.State) → Paid c x → O.round (old-case c) (old-state x) ≡ old-state (R.acted c (R.round-acts c) x)
+round-same : (c : Case) (ok : Sound c) (x : R.State) → Trace c x → O.round (old-case c) (old-state x) ≡ old-state (R.acted c (R.round-acts c) x)
 unfolding O.round
 round-same c ok x p = ap (λ (l : List ℕ). O.acted (old-case c) l (old-state x)) (list-same c) ∙ acted-same c ok (R.round-acts c) x p
 
-rounds-same : (k : ℕ) (c : Case) (ok : Sound c) (x : R.State) → Paid c x → O.rounds k (old-case c) (old-state x) ≡ old-state (R.rounds k c x)
+rounds-same : (k : ℕ) (c : Case) (ok : Sound c) (x : R.State) → Trace c x → O.rounds k (old-case c) (old-state x) ≡ old-state (R.rounds k c x)
 unfolding O.rounds R.rounds
 rounds-same zero c ok x p = refl
-rounds-same (suc k) c ok x p = rw (over-same x, round-same c ok x p) (go (R.has-ended x) (rounds-same k c ok (R.acted c (R.round-acts c) x) (acted-keeps c (Paid c) (paid-acts c ok) (R.round-acts c) x p)))
+rounds-same (suc k) c ok x p = rw (over-same x, round-same c ok x p) (go (R.has-ended x) (rounds-same k c ok (R.acted c (R.round-acts c) x) (acted-keeps c (Trace c) (trace-acts c ok) (R.round-acts c) x p)))
   where
     go : (b : Bool) → O.rounds k (old-case c) (old-state (R.acted c (R.round-acts c) x)) ≡ old-state (R.rounds k c (R.acted c (R.round-acts c) x)) →
         cond b (old-state x) (O.rounds k (old-case c) (old-state (R.acted c (R.round-acts c) x))) ≡ old-state (cond b x (R.rounds k c (R.acted c (R.round-acts c) x)))
@@ -234,7 +237,7 @@ most-same c =
 
 -- so many rounds of a fresh run, ended by then or not
 pub rounds-fresh-same : (k : ℕ) (c : Case) (ok : Sound c) → O.rounds k (old-case c) (O.fresh (old-case c)) ≡ old-state (R.rounds k c (R.fresh c))
-rounds-fresh-same k c ok = rw (fresh-same c) (rounds-same k c ok (R.fresh c) (fresh-paid c ok))
+rounds-fresh-same k c ok = rw (fresh-same c) (rounds-same k c ok (R.fresh c) (fresh-trace c ok))
 
 pub by-rounds-same : (c : Case) (ok : Sound c) → O.rounds (O.most-acts (old-case c)) (old-case c) (O.fresh (old-case c)) ≡ old-state (R.by-rounds c)
 unfolding R.by-rounds
