@@ -119,14 +119,6 @@ unfolding F.first-of
 first-last zero = refl
 first-last (suc k) = rw (ne-eqb (suc k) 0 (λ e. omega arith)) refl
 
-first-not : (t : Bool) (k : ℕ) (ks : List ℕ) → F.first-of (F.refuse (not t) (suc k) ∷ ks) ≡ cond t (F.first-of ks) (suc k)
-first-not true k ks = first-refuse false k ks
-first-not false k ks = first-refuse true k ks
-
-cond-not : (t : Bool) (a b : ℕ) → cond (not t) a b ≡ cond t b a
-cond-not true a b = refl
-cond-not false a b = refl
-
 vertices-same : (k v p : ℕ) (ls : List L.Line) → D.vertices-refusal k v p (old-lines ls) ≡ F.vertices-refusal k v p ls
 unfolding D.vertices-refusal F.vertices-refusal old-lines L.line-at F.vertex-good
 vertices-same zero v p ls = refl
@@ -156,11 +148,6 @@ rises-same : (b : Option Edge) (e : Edge) → D.rises (old-before b) (old-edge e
 unfolding D.rises F.rises old-before old-edge D.edge-rises
 rises-same none e = refl
 rises-same (some d) e = refl
-
-length-same : (ls : List L.Line) → length (old-lines ls) ≡ length ls
-unfolding old-lines
-length-same [] = refl
-length-same (l ∷ ls) = ap suc (length-same ls)
 
 ltb-suc : (a b : ℕ) → ltb (suc a) (suc b) ≡ ltb a b
 ltb-suc a b = go (ltb a b) refl

@@ -1,13 +1,12 @@
 -- Answers: stems, cycles, distances, and their text. Assumes nothing: these are definitions.
-use mathlib.Core.Path.{_≡_}
-use mathlib.Core.Bool.{Bool, true, false, _&&_, _||_, not, cond}
+use mathlib.Core.Bool.{cond}
 use mathlib.Core.List.{List, [], _∷_, _++_}
 use mathlib.Core.Option.{Option, none, some}
-use Prim.Native.Nat.{ℕ, zero, suc, _+_, _*_, _-_, _/_, _%_, _^_, _≤_, _<_, min}
-use lib.Dec.{ltb, leb, eqb}
-use lib.ListN.{length, getD, set, take, drop, replicate}
-use Rattle.first_draft.specs.File.{Case, Edge}
-use Rattle.first_draft.specs.Run.{Running, edge, step-down, is-some}
+use Prim.Native.Nat.{ℕ, zero, suc, _+_, _/_, _%_}
+use lib.Dec.{ltb, eqb}
+use lib.ListN.{length, getD}
+use Rattle.first_draft.specs.File.{Case}
+use Rattle.first_draft.specs.Run.{Running, edge, is-some}
 
 unfoldable pub edge-or : Option ℕ → ℕ
 edge-or none = 2000

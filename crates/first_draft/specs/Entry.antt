@@ -1,11 +1,10 @@
 -- What runs answer and leave behind. Assumes nothing: these are definitions.
 use mathlib.Core.Path.{_≡_}
-use mathlib.Core.Bool.{Bool, true, false, _&&_, _||_, not, cond}
+use mathlib.Core.Bool.{Bool, true, false, _||_, cond}
 use mathlib.Core.List.{List, [], _∷_, _++_}
-use mathlib.Core.Option.{Option, none, some}
-use Prim.Native.Nat.{ℕ, zero, suc, _+_, _*_, _-_, _/_, _%_, _^_, _≤_, _<_, min}
-use lib.Dec.{ltb, leb, eqb}
-use lib.ListN.{length, getD, set, take, drop, replicate}
+use Prim.Native.Nat.{ℕ, zero, suc, _+_}
+use lib.Dec.{ltb, leb}
+use lib.ListN.{length, drop, replicate}
 use Rattle.first_draft.specs.File.{Case, case-refusal, case-in, or-else}
 use Rattle.first_draft.specs.Run.{Running, fresh, acted, rounds, over, is-some, most-acts}
 use Rattle.first_draft.specs.Answer.{answer}

@@ -1,13 +1,13 @@
 -- What is promised of runs. Each statement is a type whose proof is owed. Assumes nothing.
 use mathlib.Core.Path.{_≡_}
-use mathlib.Core.Bool.{Bool, true, false, _&&_, _||_, not, cond}
+use mathlib.Core.Bool.{Bool, true, false, _&&_}
 use mathlib.Core.List.{List, [], _∷_, _++_}
-use mathlib.Core.Option.{Option, none, some}
-use Prim.Native.Nat.{ℕ, zero, suc, _+_, _*_, _-_, _/_, _%_, _^_, _≤_, _<_, min}
+use mathlib.Core.Option.{none, some}
+use Prim.Native.Nat.{ℕ, zero, suc, _+_, _≤_}
 use lib.Dec.{ltb, leb, eqb}
-use lib.ListN.{length, getD, set, take, drop, replicate}
-use Rattle.first_draft.specs.File.{Case, Edge, case-refusal, case-in}
-use Rattle.first_draft.specs.Run.{Running, fresh, act, acted, numbers, rounds, over, is-some, most-acts, edge, step-down}
+use lib.ListN.{length, getD}
+use Rattle.first_draft.specs.File.{Case, case-refusal, case-in}
+use Rattle.first_draft.specs.Run.{Running, fresh, acted, numbers, rounds, over, is-some, most-acts, edge, step-down}
 use Rattle.first_draft.specs.Answer.{answer, stem, cycle}
 
 unfoldable pub accepted : List ℕ → Bool

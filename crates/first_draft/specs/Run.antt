@@ -1,11 +1,10 @@
 -- Acts, runs by a list and by rounds. A distance is never above 0; it is kept as how far it is below. Assumes nothing: these are definitions.
-use mathlib.Core.Path.{_≡_}
 use mathlib.Core.Bool.{Bool, true, false, _&&_, _||_, not, cond}
 use mathlib.Core.List.{List, [], _∷_, _++_}
 use mathlib.Core.Option.{Option, none, some}
-use Prim.Native.Nat.{ℕ, zero, suc, _+_, _*_, _-_, _/_, _%_, _^_, _≤_, _<_, min}
-use lib.Dec.{ltb, leb, eqb}
-use lib.ListN.{length, getD, set, take, drop, replicate}
+use Prim.Native.Nat.{ℕ, zero, suc, _+_, _*_, _-_}
+use lib.Dec.{ltb, eqb}
+use lib.ListN.{length, getD, set, replicate}
 use Rattle.first_draft.specs.File.{Case, Edge}
 
 abbrev pub no-edge : Edge

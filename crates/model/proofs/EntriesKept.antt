@@ -24,7 +24,7 @@ use Rattle.model.specs.declared.Outcome.{Outcome}
 use Rattle.text.proofs.Tests.{Same, same?, same, other, or-false, clash}
 use Rattle.model.proofs.Tools.{none-of, some-of}
 use Rattle.model.proofs.Few.{paid, few}
-use Rattle.model.proofs.Rounds.{rounds-listed, rounds-end}
+use Rattle.model.proofs.Rounds.{rounds-end}
 use Rattle.model.proofs.Findings.{known, finding}
 use Rattle.model.proofs.Accepting.{first-zero, zero-first, first-none}
 use Rattle.model.proofs.Refusals.{list-numbers, rounds-numbers, check-numbers}

@@ -1,7 +1,7 @@
 -- "The case file": refusals 1 to 8 in their order, and the case in a text. "Files are read front to back and the
 -- first fault decides; on one line, layout goes before values and values go left to right." Assumes nothing: these
 -- are definitions.
-use mathlib.Core.Bool.{Bool, true, false, _&&_, _||_, not, cond}
+use mathlib.Core.Bool.{Bool, true, _&&_, _||_, not, cond}
 use mathlib.Core.List.{List, [], _∷_}
 use mathlib.Core.Option.{Option, none, some}
 use Prim.Native.Nat.{ℕ, zero, suc, _+_}

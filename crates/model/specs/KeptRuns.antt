@@ -9,7 +9,7 @@ use lib.Dec.{eqb}
 use lib.ListN.{replicate}
 use Rattle.text.specs.Ascii.{ascii}
 use Rattle.text.specs.Lines.{equal}
-use Rattle.model.specs.Case.{Case, most-vertices, most-edges, most-workers, longest-file, least-output, least-work}
+use Rattle.model.specs.Case.{Case, longest-file, least-output, least-work}
 use Rattle.model.specs.CaseFile.{case-refusal, case-in}
 use Rattle.model.specs.Run.{State, has-ended, by-list, by-rounds}
 use Rattle.model.specs.Answer.{lasso-verdict, empty-verdict, no-verdict, answer}

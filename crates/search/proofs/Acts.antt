@@ -15,7 +15,6 @@ use lib.IntN.{ℤ, pos}
 use lib.Signed.{ltZ}
 use Rattle.model.specs.Case.{Case, most-vertices, most-edges, Sound, Within}
 use Rattle.model.specs.Run.{State, is-some, ended-lasso, has-ended, with-queues, with-cells, relax, scan, no-vertex, no-message, counted, depth-or, turn-of, turn, delivery-of, delivery, act, acted, Moment}
-use Rattle.model.proofs.Steps.{act-keeps}
 use Rattle.model.proofs.Shapes.{head-depth}
 use Rattle.model.proofs.Fits.{accepting-few}
 use Rattle.model.proofs.Few.{few}

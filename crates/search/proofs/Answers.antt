@@ -15,13 +15,11 @@ use Rattle.text.specs.Numbers.{decimal, signed-decimal}
 use Rattle.text.specs.Writing.{put, Writes, Puts}
 use Rattle.text.proofs.Writing.{put-front}
 use Rattle.text.proofs.Chains.{puts, puts-none, puts-then, puts-as}
-use Rattle.model.specs.Case.{most-edges}
 use Rattle.model.specs.Run.{distance}
 use Rattle.model.specs.Answer.{lasso-word, empty-word, edge-rows, vertex-rows}
 use Rattle.model.specs.Entry.{in-front}
-use Rattle.model.proofs.Fits.{All-below}
 use Rattle.search.specs.Cells.{Region, far, distance-at}
-use Rattle.search.specs.Writing.{head-text, Edges-at, Edges-say, Vertex-says, Vertices-say, Reached, Answers, Lasso-says, Empty-says}
+use Rattle.search.specs.Writing.{head-text, Edges-say, Vertex-says, Vertices-say, Reached, Answers, Lasso-says, Empty-says}
 use Rattle.search.proofs.Rows.{edges-none, edges-more, edges-all, vertices-none, vertices-more, vertices-all, no-vertex-line, vertex-line, rows-none, rows-same, rows-one, rows-all, lasso-parts, empty-parts}
 
 -- the whole, from the front on
@@ -37,16 +35,6 @@ answers {bs} {r} {o} {z} p h = record { written = f .0 ∙ zero-add (length bs);
 -- EDGES in the cells
 pub edge-is : (base : ℕ) (es : List ℕ) (w : List ℤ) (i r : ℕ) → Region pos 0 base es w → i < length es → getD w (base + i) (pos 0) ≡ pos r → r ≡ getD es i 0
 edge-is base es w i r g h e = let q = g .each i h in cc
-
-below-at : (m : ℕ) (es : List ℕ) → All-below m es → (i : ℕ) → i < length es → getD es i 0 < m
-below-at m [] a i h = absurd (omega arith)
-below-at m (e ∷ es) a zero h = a .0
-below-at m (e ∷ es) a (suc i) h = below-at m es (a .1) i (omega arith)
-
--- what a caller shows of a list that stands there
-pub edges-at : (base count m : ℕ) (es : List ℕ) (w : List ℤ) → Region pos 0 base es w → length es ≡ count → All-below m es → m ≤ most-edges → base + count ≤ length w → Edges-at base count w
-edges-at base count m es w g e a l h =
-    record { inside = h; each = λ i k. record { number = getD es i 0; is = g .each i (omega arith); less = omega (arith, below-at m es a i (omega arith)) } }
 
 -- i lines are written
 pub record Edges-done (at base count i here : ℕ) (w : List ℤ) (o z : List ℕ) : Type 0 where

@@ -16,9 +16,8 @@ use Rattle.model.specs.Case.{Case, owner, most-acts, Sound}
 use Rattle.model.specs.Run.{State, has-ended, fresh, with-queues, with-cells, scan, no-message, depth-or, delivery, act, acted, range, round-acts, rounds, by-rounds, Moment}
 use Rattle.text.proofs.Tests.{clash}
 use Rattle.model.proofs.Tools.{member-first, some-not-none, getD-out, getD-replicate-same, no-cell, no-cells}
-use Rattle.model.proofs.Steps.{scan-keeps, act-keeps, acted-keeps}
+use Rattle.model.proofs.Steps.{scan-keeps}
 use Rattle.model.proofs.Few.{relax-cells}
-use Rattle.model.proofs.Shapes.{Shape}
 use Rattle.model.proofs.Findings.{moment-known}
 use Rattle.model.proofs.ActRules.{moment-act, moment-acted}
 use Rattle.model.proofs.Rounds.{act-over, acted-over}

@@ -1,5 +1,5 @@
 -- `input::fill`: the bytes read so far are within the buffer, which keeps its length; each turn reads some.
-use mathlib.Core.Path.{_≡_, refl}
+use mathlib.Core.Path.{_≡_}
 use Prim.Native.Nat.{_-_, _≤_}
 use native.Mathlib.Omega.{arith}
 use lib.ListN.{length}

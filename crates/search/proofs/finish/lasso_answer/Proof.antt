@@ -1,10 +1,5 @@
 -- `finish::lasso_answer`: the lasso is shown in the cells and then written.
-use mathlib.Core.Path.{_≡_, sym, subst, _∙_}
-use mathlib.Core.Option.{some}
-use Prim.Native.Nat.{ℕ, _-_}
 use native.Mathlib.Omega.{arith}
-use Rattle.search.specs.Show.{Shows, Showable}
-use Rattle.search.specs.Finish.{Lasso-done, Gone}
 use Rattle.search.proofs.Ends.{above-none, there, asked-shown, asked-written, lasso-shown}
 use borrow.Author.Needs.{needs}
 use Rattle.search.proofs.finish.lasso_answer.Statement.{statement}

@@ -1,7 +1,6 @@
 -- `search::load::load_edge`: two stores and, if the edge leaves a vertex that has no first edge yet, one fill.
 use native.Mathlib.Omega.{arith}
 use borrow.Author.Needs.{needs}
-use Prim.Native.Nat.{_<_, _^_}
 use Rattle.search.proofs.Loads.{pair-kept, pair-new}
 use Rattle.search.proofs.load.load_edge.Statement.{statement}
 use Rattle.search.proofs.load.load_edge.Tie as tie

@@ -1,4 +1,3 @@
-use native.Mathlib.Omega.{arith}
 use mir.Facts.{toZ-ofZ}
 use borrow.Author.Needs.{needs}
 use Rattle.search.proofs.run.below_floor.Statement.{statement}

@@ -1,5 +1,5 @@
 use Rattle.model.proofs.Fits.{accepting-few}
-use mathlib.Core.Path.{_≡_, sym, ap, _∙_}
+use mathlib.Core.Path.{_≡_, sym, _∙_}
 use mathlib.Core.Bool.{true, false}
 use mathlib.Core.Option.{none}
 use Prim.Native.Nat.{ℕ, _+_, _<_}
