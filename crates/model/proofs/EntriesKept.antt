@@ -9,7 +9,7 @@ use native.Mathlib.Omega.{arith}
 use borrow.Author.Tests.{eq-eqb, lt-leb}
 use lib.Dec.{leb}
 use lib.ListN.{length, take, drop}
-use lib.Seq.{take-append-seam}
+use lib.Seq.{take-append-seam, drop-append-seam}
 use lib.IntN.{ℤ}
 use Rattle.text.specs.Lines.{lines, line-at}
 use Rattle.model.specs.Graph.{Graph, Has-lasso, No-lasso}
@@ -26,6 +26,7 @@ use Rattle.model.proofs.Tools.{none-of, some-of}
 use Rattle.model.proofs.Few.{paid, few}
 use Rattle.model.proofs.Rounds.{rounds-end}
 use Rattle.model.proofs.Findings.{known, finding}
+use Rattle.model.proofs.ActRules.{counts}
 use Rattle.model.proofs.Accepting.{first-zero, zero-first, first-none}
 use Rattle.model.proofs.Refusals.{list-numbers, rounds-numbers, check-numbers}
 use Rattle.model.proofs.CheckerSound.{checker-sound}
@@ -196,9 +197,10 @@ ten-exactly bs xs r o z w v s = let x = by-list (case-in bs) xs in let k = list-
       only = λ e. absurd (not-ten j q (sym (t .refusal) ∙ e));
       always = λ n _. absurd (omega (arith, q, n));
       below = λ e. absurd (not-ten j q (sym (t .refusal) ∙ e));
+      counted = λ e. absurd (not-ten j q (sym (t .refusal) ∙ e));
     })
-    (λ n b t. record { only = λ e. absurd (omega (arith, t .refusal)); always = λ _ f. clash (has-ended (by-list (case-in bs) xs)) b f; below = λ e. absurd (omega (arith, t .refusal)) })
-    (λ n b t. record { only = λ _. (n, b); always = λ _ _. t .refusal; below = λ _. below (list-accepted bs xs (length o) (length w) n) b (t .acts) })
+    (λ n b t. record { only = λ e. absurd (omega (arith, t .refusal)); always = λ _ f. clash (has-ended (by-list (case-in bs) xs)) b f; below = λ e. absurd (omega (arith, t .refusal)); counted = λ e. absurd (omega (arith, t .refusal)) })
+    (λ n b t. record { only = λ _. (n, b); always = λ _ _. t .refusal; below = λ _. below (list-accepted bs xs (length o) (length w) n) b (t .acts); counted = λ _. t .acts ∙ counts (case-in bs) xs })
   where
     not-ten : (j : ℕ) → list-refusal bs xs (length o) (length w) ≡ suc j → suc j ≡ 10 → ⊥
     not-ten j q e = list-numbers (λ n. n ≡ 10 → ⊥) (λ n l e. omega arith) (λ e. omega arith) (λ e. omega arith) bs xs (length o) (length w) (q ∙ e)
@@ -254,11 +256,15 @@ rounds-never-ten bs r o z w v s e = let x = by-rounds (case-in bs) in says-cases
     rounds-past-end-end bs n = unfold by-rounds in (rounds-end (case-in bs) (accepted-by bs n .0))
 
 -- THE FIRST DEMAND
+rest-kept : (written : ℕ) (new o z : List ℕ) → written ≡ length new → z ≡ in-front new o → drop written z ≡ drop written o
+unfolding in-front
+rest-kept k new o z e f = rw (e, f) (drop-append-seam new (drop (length new) o))
+
 definite-says : (k : ℕ) (b : Bool) (c : Case) (x : State) (r : Outcome) (o z : List ℕ) (w v : List ℤ) → k ≤ 11 → (k ≡ 10 → ⊥) → Run-says k b c x r o z w v → Definite r o z w v
 definite-says k b c x r o z w v l n s = says-cases (Definite r o z w v) k b c x r o z w v s
-    (λ j q t. record { listed = omega (arith, q, t .refusal); output = λ _. t .output; work = λ _ _. t .work; zeroed = λ e. absurd (n (q ∙ sym (t .refusal) ∙ e)); length-zero = λ _. t .written; acts-zero = λ _ _. t .acts })
-    (λ q _ t. record { listed = omega (arith, t .refusal); output = λ n. absurd (n (t .refusal)); work = λ n _. absurd (n (t .refusal)); zeroed = λ e. absurd (omega (arith, t .refusal)); length-zero = λ n. absurd (n (t .refusal)); acts-zero = λ n _. absurd (n (t .refusal)) })
-    (λ q _ t. record { listed = omega (arith, t .refusal); output = λ _. t .output; work = λ _ n. absurd (n (t .refusal)); zeroed = λ _. t .work; length-zero = λ _. t .written; acts-zero = λ _ n. absurd (n (t .refusal)) })
+    (λ j q t. record { listed = omega (arith, q, t .refusal); output = λ _. t .output; work = λ _ _. t .work; zeroed = λ e. absurd (n (q ∙ sym (t .refusal) ∙ e)); length-zero = λ _. t .written; acts-zero = λ _ _. t .acts; rest = λ e. absurd (omega (arith, sym (t .refusal) ∙ e)); cleared = λ e. absurd (omega (arith, sym (t .refusal) ∙ e)) })
+    (λ q _ t. record { listed = omega (arith, t .refusal); output = λ n. absurd (n (t .refusal)); work = λ n _. absurd (n (t .refusal)); zeroed = λ e. absurd (omega (arith, t .refusal)); length-zero = λ n. absurd (n (t .refusal)); acts-zero = λ n _. absurd (n (t .refusal)); rest = λ _. rest-kept (r .written) (answer (c .graph) x) o z (t .written) (t .output); cleared = λ _. t .work })
+    (λ q _ t. record { listed = omega (arith, t .refusal); output = λ _. t .output; work = λ _ n. absurd (n (t .refusal)); zeroed = λ _. t .work; length-zero = λ _. t .written; acts-zero = λ _ n. absurd (n (t .refusal)); rest = λ e. absurd (omega (arith, sym (t .refusal) ∙ e)); cleared = λ e. absurd (omega (arith, sym (t .refusal) ∙ e)) })
 
 pub runs-definite : Runs-definite
 unfolding Runs-definite Says List-says Rounds-say

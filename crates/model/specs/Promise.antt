@@ -6,7 +6,7 @@ use mathlib.Core.List.{List, [], _∷_, _++_}
 use mathlib.Core.Logic.{_⊎_}
 use mathlib.Core.Option.{Option, none, some}
 use Prim.Native.Nat.{ℕ, zero, suc, _+_, _^_, _≤_, _<_}
-use lib.ListN.{length, getD, set, take}
+use lib.ListN.{length, getD, set, take, drop}
 use lib.IntN.{ℤ, pos, negℤ}
 use lib.Signed.{leZ, ltZ}
 use Rattle.model.specs.Graph.{Graph, edge, edge-depth, accepting-count, walk-end, Reaches, is-lasso, Has-lasso, No-lasso, Has-walk, Distance, Fewest}
@@ -136,7 +136,8 @@ unfoldable pub Says : (case : List ℕ) → Outcome → (output output-now : Lis
 Says bs r o z w v = ((xs : List ℕ) × List-says bs xs r o z w v) ⊎ Rounds-say bs r o z w v
 
 -- demand 1: "a result or a listed refusal"; "A refused call leaves the output buffer untouched, and the work buffer
--- too, save that refusal 10 leaves the latter all zeros"
+-- too, save that refusal 10 leaves the latter all zeros"; "After a result the answer is at the front of the output, the
+-- rest unchanged, and the work buffer all zeros"
 pub record Definite (r : Outcome) (o z : List ℕ) (w v : List ℤ) : Type 0 where
   pub listed : r .refusal ≤ 11
   pub output : (r .refusal ≡ 0 → ⊥) → z ≡ o
@@ -144,6 +145,8 @@ pub record Definite (r : Outcome) (o z : List ℕ) (w v : List ℤ) : Type 0 whe
   pub zeroed : r .refusal ≡ 10 → v ≡ zeros w
   pub length-zero : (r .refusal ≡ 0 → ⊥) → r .written ≡ 0
   pub acts-zero : (r .refusal ≡ 0 → ⊥) → (r .refusal ≡ 10 → ⊥) → r .acts ≡ 0
+  pub rest : r .refusal ≡ 0 → drop (r .written) z ≡ drop (r .written) o
+  pub cleared : r .refusal ≡ 0 → v ≡ zeros w
 
 unfoldable pub Runs-definite : Type 0
 Runs-definite = (bs : List ℕ) (r : Outcome) (o z : List ℕ) (w v : List ℤ) → Says bs r o z w v → Definite r o z w v
@@ -197,11 +200,12 @@ Rounds-as-list =
     List-says bs (whole-rounds k (case-in bs)) r o z w v
 
 -- "Refusal 10 is given exactly when the list leaves the run unended and no other refusal applies"; so it comes only
--- with fewer acts than the bound, and never by rounds
+-- with fewer acts than the bound, and never by rounds; "10 returns the acts counted"
 pub record Ten (bs xs : List ℕ) (r : Outcome) (output work : ℕ) : Type 0 where
   pub only : r .refusal ≡ 10 → (list-refusal bs xs output work ≡ 0) × (has-ended (by-list (case-in bs) xs) ≡ false)
   pub always : list-refusal bs xs output work ≡ 0 → has-ended (by-list (case-in bs) xs) ≡ false → r .refusal ≡ 10
   pub below : r .refusal ≡ 10 → r .acts < most-acts (case-in bs)
+  pub counted : r .refusal ≡ 10 → r .acts ≡ acts-done (case-in bs) xs (fresh (case-in bs))
 
 unfoldable pub Ten-exactly : Type 0
 Ten-exactly = (bs xs : List ℕ) (r : Outcome) (o z : List ℕ) (w v : List ℤ) → List-says bs xs r o z w v → Ten bs xs r (length o) (length w)
