@@ -11,7 +11,7 @@ use lib.ListN.{length, drop, length-drop}
 use borrow.Author.Tests.{eqb-true, eqb-false, lt-ltb, le-ltb, le-leb, lt-leb, ne-eqb}
 use Rattle.text.specs.Lines.{Line, lines, line-at, line-is, field}
 use Rattle.text.specs.Numbers.{numbers-line, number-at}
-use Rattle.text.specs.Reading.{line-here, past-line, field-here, field-number-here, skip}
+use Rattle.text.specs.Reading.{line-here, past-line, field-here, number-in, skip}
 use Rattle.text.specs.declared.read.Number.{Number}
 use Rattle.text.specs.declared.read.Number.the-variants.{Is, Not}
 use Rattle.text.proofs.Reading.{Row, No-row, no-lines, some-lines, Line-named, number-is, number-not}
@@ -280,16 +280,17 @@ module _ {s : List ℕ} {n m u p rows : ℕ} (h : Headed s n m u p rows) where
               rw (right, many) (unfold case-in in (rw (h .counts .vertices, h .counts .source, h .counts .workers) refl))
 
 -- THE VERSION: line 2's first field
-version-field : (s : List ℕ) (z : ℕ) → z ≡ past-line s 0 → field-here s z ≡ field (line-at (lines s) 1) 0
-version-field s z e = ap (λ (l : Line). field l 0) (rw (e, ← skip-one s 0) (skip-line 1 s 0))
+version-field : (s w : List ℕ) → w ≡ field-here s (past-line s 0) → w ≡ field (line-at (lines s) 1) 0
+version-field s w e = e ∙ ap (λ (l : Line). field l 0) (rw (← skip-one s 0) (skip-line 1 s 0))
 
-pub version-none : (s : List ℕ) {z : ℕ} {r : Number} → z ≡ past-line s 0 → r ≡ field-number-here s z → r ≡ Not → false ≡ other-version (lines s)
-unfolding other-version
-version-none s {z} e f g = rw (← version-field s z e, number-not s z f g) refl
+module _ (s w : List ℕ) (e : w ≡ field-here s (past-line s 0)) {r : Number} (f : r ≡ number-in w) where
+  pub version-none : r ≡ Not → false ≡ other-version (lines s)
+  unfolding other-version
+  version-none g = rw (← version-field s w e, number-not w f g) refl
 
-pub version-some : (s : List ℕ) {z v : ℕ} {r : Number} → z ≡ past-line s 0 → r ≡ field-number-here s z → r ≡ Is v → not (eqb v known-version) ≡ other-version (lines s)
-unfolding other-version
-version-some s {z} {v} e f g = let n = number-is s z f g in rw (← version-field s z e, n .0, n .1) refl
+  pub version-some : {v : ℕ} → r ≡ Is v → not (eqb v known-version) ≡ other-version (lines s)
+  unfolding other-version
+  version-some g = let n = number-is w f g in rw (← version-field s w e, n .0, n .1) refl
 
 -- COUNTS in range, test by test
 module _ (n m u p : ℕ) where

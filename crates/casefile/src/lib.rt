@@ -15,12 +15,12 @@ use text::read::Row2;
 use text::read::Row3;
 use text::read::Row5;
 use text::read::begins_at;
-use text::read::field_number;
 use text::read::name_line;
-use text::read::next_line;
+use text::read::number_in;
 use text::read::row_of_2;
 use text::read::row_of_3;
 use text::read::row_of_5;
+use text::reader::second_line_field;
 
 // The counts of an accepted case.
 pub struct Case {
@@ -61,7 +61,7 @@ pub enum Judged {
 pub fn other_version(text: &[u8]) -> bool
     ensures { λ r. ⌜ r ≡ other-version (lines (now (text .entry))) ⌝ }
 {
-    match field_number(text, next_line(text, 0)) {
+    match number_in(second_line_field(text)) {
         Number::Not => false,
         Number::Is(v) => v != Case::VERSION,
     }

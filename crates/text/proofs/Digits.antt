@@ -1,6 +1,6 @@
 -- Laws of the digits that stand in front of a text: a number that is read digit by digit is the field there. Assumes nothing.
 use mathlib.Core.Path.{_≡_, refl, sym, ap, _∙_}
-use mathlib.Core.Bool.{Bool, true, false, cond, and-false, or-true}
+use mathlib.Core.Bool.{Bool, true, false, _&&_, cond, and-false, or-true}
 use mathlib.Core.List.{List, [], _∷_, _++_, append-nil}
 use Prim.Native.Nat.{ℕ, zero, suc, _+_, _*_, _-_, _^_, _≤_, _<_, min}
 use native.Mathlib.Omega.{arith}
@@ -12,11 +12,11 @@ use lib.Seq.{drop-cons, drop-drop, getD-drop}
 use borrow.Author.Tests.{le-leb, lt-leb, eq-eqb, ne-eqb, leb-true, leb-false}
 use Rattle.text.specs.Ascii.{digit-0, digit-9}
 use Rattle.text.specs.Numbers.{most-digits, is-digit, all-digits, no-leading-zero, is-number, value, value-from}
-use Rattle.text.specs.Reading.{field-here, run, run-here, Digits-read, digits-here, is-separator, field-number-here, number-before}
+use Rattle.text.specs.Reading.{field-here, run, run-here, Digits-read, digits-here, is-separator, number-in, number-before}
 use Rattle.text.specs.declared.read.Number.the-variants.{Is, Not}
 use Rattle.text.specs.declared.read.Row1.{Row1}
 use Rattle.text.specs.declared.read.Row1.the-variants.{Read as Read1, Fault as Fault1}
-use Rattle.text.proofs.Tests.{and-both}
+use Rattle.text.proofs.Tests.{and-both, clash}
 use Rattle.text.proofs.Lines.{field-in, field-nil, field-stop, field-byte, ended}
 
 -- THE RUN of digits, k at most
@@ -250,10 +250,6 @@ module _ (s : List ℕ) (at : ℕ) {r : Row1} (p : r ≡ digits-here s at) (q : 
   unfolding number-before
   before-none stop = sym (rw run-fault)
 
-  pub field-none : Not ≡ field-number-here s at
-  unfolding field-number-here
-  field-none = sym (rw run-fault)
-
 -- whether the field ends at a place
 ended-past : (s : List ℕ) (e : ℕ) → length s ≤ e → ended (drop e s) ≡ true
 unfolding ended
@@ -273,20 +269,6 @@ module _ {s : List ℕ} {at v e : ℕ} (g : Run-read s at v e) where
   run-no-field : ended (drop e s) ≡ false → is-number (field-here s at) ≡ false
   run-no-field h = run-other (drop at s) (ap ended run-rest ∙ h)
 
-  field-is : ended (drop e s) ≡ true → Is v ≡ field-number-here s at
-  unfolding field-number-here
-  field-is h = sym (rw (run-is-field h, g .number, g .worth))
-
-  pub field-last : length s ≤ e → Is v ≡ field-number-here s at
-  field-last l = field-is (ended-past s e l)
-
-  pub field-parted : e < length s → is-separator (getD s e 0) ≡ true → Is v ≡ field-number-here s at
-  field-parted l h = field-is (ended-at s e l ∙ h)
-
-  pub field-not : e < length s → is-separator (getD s e 0) ≡ false → Not ≡ field-number-here s at
-  unfolding field-number-here
-  field-not l h = sym (rw (run-no-field (ended-at s e l ∙ h)))
-
   pub before-is : (stop : ℕ) → e < length s → is-separator stop ≡ true → getD s e 0 ≡ stop → Read1 v (e + 1) ≡ number-before s at stop
   unfolding number-before
   before-is stop l h q =
@@ -303,3 +285,51 @@ module _ {s : List ℕ} {at v e : ℕ} (g : Run-read s at v e) where
 
   pub before-end : (stop : ℕ) → is-separator stop ≡ true → length s ≤ e → Fault1 ≡ number-before s at stop
   before-end stop h l = before-other stop (λ q. no-separator stop (sym (List·getD-eq-default s 0 l) ∙ q) h)
+
+-- A WHOLE PART is a number where the digits in front are one and nothing follows them
+run-whole : (k : ℕ) (w : List ℕ) → all-digits w ≡ true → length w ≤ k → run k w ≡ w
+unfolding run all-digits
+run-whole zero [] d h = refl
+run-whole zero (b ∷ w) d h = absurd (omega arith)
+run-whole (suc k) [] d h = refl
+run-whole (suc k) (b ∷ w) d h =
+    let q = and-both (is-digit b) (all-digits w) d in
+    rw (q .0) (ap (λ (l : List ℕ). b ∷ l) (run-whole k w (q .1) (omega arith)))
+
+run-full : (k : ℕ) (w : List ℕ) → length w ≤ length (run k w) → run k w ≡ w
+unfolding run
+run-full zero [] h = refl
+run-full zero (b ∷ w) h = absurd (omega arith)
+run-full (suc k) [] h = refl
+run-full (suc k) (b ∷ w) h = go (is-digit b) refl h (λ l. run-full k w l)
+  where
+    go : (t : Bool) → is-digit b ≡ t → suc (length w) ≤ length (cond t (b ∷ run k w) []) → (length w ≤ length (run k w) → run k w ≡ w) → cond t (b ∷ run k w) [] ≡ b ∷ w
+    go true e l ih = ap (λ (x : List ℕ). b ∷ x) (ih (omega arith))
+    go false e l ih = absurd (omega arith)
+
+number-run : (w : List ℕ) → is-number w ≡ true → run most-digits w ≡ w
+unfolding is-number
+number-run w h =
+    let p = and-both (leb 1 (length w) && leb (length w) most-digits) (all-digits w && no-leading-zero w) h in
+    let few = and-both (leb 1 (length w)) (leb (length w) most-digits) (p .0) .1 in
+    run-whole most-digits w (and-both (all-digits w) (no-leading-zero w) (p .1) .0) (leb-true (length w) most-digits few)
+
+no-number : (w : List ℕ) → (is-number w ≡ true → ⊥) → Not ≡ number-in w
+unfolding number-in
+no-number w h = go (is-number w) refl
+  where
+    go : (t : Bool) → is-number w ≡ t → Not ≡ cond t (Is (value w)) Not
+    go true e = absurd (h e)
+    go false e = refl
+
+pub part-none : (w : List ℕ) {r : Row1} → r ≡ digits-here w 0 → r ≡ Fault1 → Not ≡ number-in w
+unfolding digits-here
+part-none w p q = no-number w (λ h. clash _ (ap is-number (number-run w h) ∙ h) (fault-go (is-number (run-here w 0)) (value (run-here w 0)) (0 + length (run-here w 0)) (sym p ∙ q)))
+
+module _ {w : List ℕ} {v e : ℕ} (g : Run-read w 0 v e) where
+  pub part-longer : e < length w → Not ≡ number-in w
+  part-longer l = no-number w (λ h. omega (arith, g .ends, ap length (number-run w h)))
+
+  pub part-number : length w ≤ e → Is v ≡ number-in w
+  unfolding number-in
+  part-number l = let f = run-full most-digits w (omega (arith, g .ends)) in sym (rw (rw f at (g .number), rw f at (g .worth)))

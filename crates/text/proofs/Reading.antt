@@ -12,7 +12,7 @@ use borrow.Author.Tests.{leb-true, leb-false, eqb-true, eqb-false, ne-eqb, not-t
 use Rattle.text.specs.Ascii.{line-feed, digit-0}
 use Rattle.text.specs.Lines.{Line, lines, put-byte, fields, field, equal, begins, line-is}
 use Rattle.text.specs.Numbers.{most-digits, is-digit, all-digits, no-leading-zero, is-number, value, value-from, all-numbers, numbers-line, number-at}
-use Rattle.text.specs.Reading.{line-here, past-line, field-here, named-here, field-number-here, leading-here, row1-here, row2-here, row3-here, row5-here}
+use Rattle.text.specs.Reading.{line-here, past-line, field-here, named-here, number-in, leading-here, row1-here, row2-here, row3-here, row5-here}
 use Rattle.text.specs.declared.read.Number.{Number}
 use Rattle.text.specs.declared.read.Number.the-variants.{Is, Not}
 use Rattle.text.specs.declared.read.Named.{Named}
@@ -356,7 +356,7 @@ pub row5-none : {s : List ℕ} {at : ℕ} → No-row 5 s at → Fault5 ≡ row5-
 unfolding row5-here
 row5-none r = sym (rw (r .none))
 
--- THE FIELD AS A NUMBER
+-- A PART AS A NUMBER
 is-go : (t : Bool) (x v : ℕ) → cond t (Is x) Not ≡ Is v → (t ≡ true) × (x ≡ v)
 is-go true x v h = (refl, cc)
 is-go false x v h = (cc, cc)
@@ -365,13 +365,13 @@ not-go : (t : Bool) (x : ℕ) → cond t (Is x) Not ≡ Not → t ≡ false
 not-go true x h = cc
 not-go false x h = refl
 
-pub number-is : (s : List ℕ) (at : ℕ) {v : ℕ} {r : Number} → r ≡ field-number-here s at → r ≡ Is v → (is-number (field-here s at) ≡ true) × (value (field-here s at) ≡ v)
-unfolding field-number-here
-number-is s at {v} p q = is-go (is-number (field-here s at)) (value (field-here s at)) v (sym p ∙ q)
+pub number-is : (w : List ℕ) {v : ℕ} {r : Number} → r ≡ number-in w → r ≡ Is v → (is-number w ≡ true) × (value w ≡ v)
+unfolding number-in
+number-is w {v} p q = is-go (is-number w) (value w) v (sym p ∙ q)
 
-pub number-not : (s : List ℕ) (at : ℕ) {r : Number} → r ≡ field-number-here s at → r ≡ Not → is-number (field-here s at) ≡ false
-unfolding field-number-here
-number-not s at p q = not-go (is-number (field-here s at)) (value (field-here s at)) (sym p ∙ q)
+pub number-not : (w : List ℕ) {r : Number} → r ≡ number-in w → r ≡ Not → is-number w ≡ false
+unfolding number-in
+number-not w p q = not-go (is-number w) (value w) (sym p ∙ q)
 
 -- THE FIRST NUMBER OF A LONGER LINE: the fields that follow it are those at p, and the line ends where the one at p does
 pub leading-read : {s : List ℕ} {at v p : ℕ} {r : Row1} → r ≡ leading-here s at → r ≡ Read1 v p → Parted s at v p

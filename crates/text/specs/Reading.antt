@@ -53,9 +53,9 @@ pub record Part (text : RefT (List ℕ)) (at : ℕ) (part : RefT (List ℕ)) : T
 unfoldable pub named-here : (text : List ℕ) → (at : ℕ) → (names : List ℕ) → Named
 named-here s at names = cond (begins (names ++ line-feed ∷ []) (drop at s)) (Past (at + suc (length names))) Other
 
--- NUMBERS: the field at a place as a number
-unfoldable pub field-number-here : (text : List ℕ) → (at : ℕ) → Number
-field-number-here s at = cond (is-number (field-here s at)) (Is (value (field-here s at))) Not
+-- NUMBERS: a part of a text as a number
+unfoldable pub number-in : (part : List ℕ) → Number
+number-in w = cond (is-number w) (Is (value w)) Not
 
 -- the number in the first field of a longer line, and the place past its space
 unfoldable pub leading-here : (text : List ℕ) → (at : ℕ) → Row1

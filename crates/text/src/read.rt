@@ -5,7 +5,7 @@ ghost use Prim.Native.Nat.{_+_, min};
 ghost use lib.ListN.{length, drop};
 ghost use Rattle.text.specs.Lines.{begins};
 ghost use Rattle.text.specs.Numbers.{is-digit, most-digits, has-minus};
-ghost use Rattle.text.specs.Reading.{past-line, field-here, Part, is-separator, Digits-read, field-number-here, named-here, digits-here, number-before, leading-here, row1-here, row2-here, row3-here, row5-here, signed-last, signed-row-here};
+ghost use Rattle.text.specs.Reading.{past-line, field-here, Part, is-separator, Digits-read, number-in, named-here, digits-here, number-before, leading-here, row1-here, row2-here, row3-here, row5-here, signed-last, signed-row-here};
 
 const LINE_FEED: u8 = 10;
 
@@ -140,20 +140,17 @@ pub enum Number {
     Not,
 }
 
-// The field at `at` as a number.
-pub fn field_number(text: &[u8], at: usize) -> Number
-    ensures { λ r. ⌜ r ≡ field-number-here (now (text .entry)) at ⌝ }
+// A whole part of a text as a number.
+pub fn number_in(part: &[u8]) -> Number
+    ensures { λ r. ⌜ r ≡ number-in (now (part .entry)) ⌝ }
 {
-    let Row1::Read(v, e) = digits_at(text, at) else {
+    let Row1::Read(v, e) = digits_at(part, 0) else {
         return Number::Not;
     };
-    if text.len() <= e {
-        return Number::Is(v);
+    if e < part.len() {
+        return Number::Not;
     }
-    if separates(text[e]) {
-        return Number::Is(v);
-    }
-    Number::Not
+    Number::Is(v)
 }
 
 // Whether `front` stands at `at`.

@@ -1,6 +1,6 @@
-// A reader opened on a text: it shows the field or the row at its place, and moves on a line. Each function takes it apart and calls the one of src/read.rt.
+// A reader opened on a text: it shows the field at its place, and moves on a line. Each function takes it apart and calls the one of src/read.rt.
 ghost use mathlib.Core.Path.{_≡_};
-ghost use Rattle.text.specs.Reading.{Part, past-line, row3-here};
+ghost use Rattle.text.specs.Reading.{Part, past-line};
 use crate::read;
 
 // A text and a place in it.
@@ -22,13 +22,6 @@ impl<'a> Reader<'a> {
         ensures { λ r. ⌜ Part (self .entry .text) (self .entry .at) r ⌝ }
     {
         read::field(self.text, self.at)
-    }
-
-    // The row of three numbers at its place, and the place past the line.
-    pub fn row3(self) -> read::Row3
-        ensures { λ r. ⌜ r ≡ row3-here (now (self .entry .text)) (self .entry .at) ⌝ }
-    {
-        read::row_of_3(self.text, self.at)
     }
 
     // The reader past the line at its place.
