@@ -11,9 +11,11 @@ use text::read::Named;
 use text::read::Row1;
 use text::read::Row3;
 use text::read::begins_at;
+use text::read::field;
 use text::read::leading_number;
 use text::read::name_line;
 use text::read::row_of_3;
+use text::read::same;
 
 // Line 2: whether it says "lasso", its three counts, and the place past it.
 enum Head {
@@ -37,11 +39,16 @@ fn read_head(text: &[u8], at: usize) -> Head
     let Row1::Read(_, p) = leading_number(text, at) else {
         return Head::Fault;
     };
-    if begins_at(text, p, b"lasso ") {
-        return read_counts(text, p + 6, true);
+    let verdict = field(text, p);
+    let end = p + verdict.len();
+    if !begins_at(text, end, b" ") {
+        return Head::Fault;
     }
-    if begins_at(text, p, b"empty ") {
-        return read_counts(text, p + 6, false);
+    if same(verdict, b"lasso") {
+        return read_counts(text, end + 1, true);
+    }
+    if same(verdict, b"empty") {
+        return read_counts(text, end + 1, false);
     }
     Head::Fault
 }

@@ -1,15 +1,16 @@
 -- Laws of the first line and the first field of a text, over plain lists. Assumes nothing.
 use mathlib.Core.Path.{_≡_, refl, sym, ap, _∙_}
-use mathlib.Core.Bool.{Bool, true, false, _||_, cond}
+use mathlib.Core.Bool.{Bool, true, false, _||_, cond, and-false}
 use mathlib.Core.List.{List, [], _∷_, _++_, append-nil}
 use Prim.Native.Nat.{ℕ, suc, _+_, _≤_}
 use native.Mathlib.Omega.{arith}
 use native.Mathlib.Nat.{suc-add, zero-add}
 use lib.Dec.{eqb}
 use lib.ListN.{length, getD, take, drop}
+use lib.Seq.{take-length}
 use borrow.Author.Tests.{eqb-true}
 use Rattle.text.specs.Ascii.{line-feed, space}
-use Rattle.text.specs.Lines.{Line, lines, line-at, put-byte, put-first, fields, field, open-line, closed-line, equal}
+use Rattle.text.specs.Lines.{Line, lines, line-at, put-byte, put-first, fields, field, open-line, closed-line, equal, begins}
 use Rattle.text.specs.Reading.{is-separator}
 use Rattle.text.proofs.Tests.{and-both, clash}
 
@@ -215,6 +216,17 @@ module _ (bs : List ℕ) where
   end-closed h = field-first bs .closed ∙ rw (h, first-nil)
 
 -- EQUAL BYTES are the same
+pub equal-long : (a b : List ℕ) → (length a ≡ length b → ⊥) → equal a b ≡ false
+unfolding equal
+equal-long [] [] n = absurd (n refl)
+equal-long [] (y ∷ b) n = refl
+equal-long (x ∷ a) [] n = refl
+equal-long (x ∷ a) (y ∷ b) n = rw (equal-long a b (λ e. n (omega arith)), and-false) refl
+
+pub begins-whole : (a b : List ℕ) → length a ≡ length b → begins b a ≡ equal a b
+unfolding begins
+begins-whole a b e = rw (← e, take-length a) refl
+
 pub equal-true : (a b : List ℕ) → equal a b ≡ true → a ≡ b
 unfolding equal
 equal-true [] [] e = refl

@@ -162,7 +162,13 @@ module _ (s : List ℕ) (at : ℕ) where
       (λ (t : Bool). cond (is-number (field-here s at) && t) (Read1 (value (field-here s at)) (at + suc (length (field-here s at)))) Fault1)
       (sym (fields-more s at))
 
--- the first field at a place is a number, a space parts it from the line at p
+-- a space parts the first field at a place from the line at p
+pub record Spaced (s : List ℕ) (at p : ℕ) : Type 0 where
+  pub pieces : fields (line-here s at .text) ≡ field-here s at ∷ fields (line-here s p .text)
+  pub closed : line-here s at .closed ≡ line-here s p .closed
+  pub past : past-line s at ≡ past-line s p
+
+-- and that field is a number
 pub record Parted (s : List ℕ) (at v p : ℕ) : Type 0 where
   pub number : is-number (field-here s at) ≡ true
   pub worth : value (field-here s at) ≡ v
@@ -184,18 +190,20 @@ space-go s at (at-space q h) e = record { rest = q; is = h }
 space-go s at (at-feed q h) e = let z : _≡_ {A = ℕ} line-feed space = rw h at e in absurd (omega arith)
 space-go s at (at-end h) e = let z : _≡_ {A = ℕ} 0 space = rw h at e in absurd (omega arith)
 
-parted-go : (s : List ℕ) (at v : ℕ) → Space s at → is-number (field-here s at) ≡ true → value (field-here s at) ≡ v → Parted s at v (at + suc (length (field-here s at)))
-parted-go s at v g n w =
+pub spaced : (s : List ℕ) (at : ℕ) → getD s (at + length (field-here s at)) 0 ≡ space → Spaced s at (at + suc (length (field-here s at)))
+spaced s at e =
+    let g = space-go s at (stop-here s at) (next-here s at ∙ e) in
     let p = at + suc (length (field-here s at)) in
     let r : g .rest ≡ drop p s = ap (λ (t : List ℕ). drop 1 t) (sym (g .is)) ∙ rest-here s at in
     let h : after-field (drop at s) ≡ space ∷ drop p s = g .is ∙ ap (λ (t : List ℕ). space ∷ t) r in
     record {
-      number = n;
-      worth = w;
       pieces = space-pieces (drop at s) (drop p s) h;
       closed = space-closed (drop at s) (drop p s) h;
       past = past-size s at ∙ ap (λ (k : ℕ). at + k) (space-long (drop at s) (drop p s) h) ∙ omega arith ∙ sym (past-size s p);
     }
+
+with-number : {s : List ℕ} {at v p : ℕ} → is-number (field-here s at) ≡ true → value (field-here s at) ≡ v → Spaced s at p → Parted s at v p
+with-number n w f = record { number = n; worth = w; pieces = f .pieces; closed = f .closed; past = f .past }
 
 pub parted : {s : List ℕ} {at v p : ℕ} {r : Row1} → r ≡ number-before s at space → r ≡ Read1 v p → Parted s at v p
 unfolding number-before
@@ -204,7 +212,8 @@ parted {s} {at} {v} {p} h q =
     let b = eqb (getD s (at + length (field-here s at)) 0) space in
     let g = read-go (n && b) (value (field-here s at)) (at + suc (length (field-here s at))) v p (sym h ∙ q) in
     let t = and-both n b (g .0) in
-    rw (g .2) at (parted-go s at v (space-go s at (stop-here s at) (next-here s at ∙ eqb-true (getD s (at + length (field-here s at)) 0) space (t .1))) (t .0) (g .1))
+    let f = spaced s at (eqb-true (getD s (at + length (field-here s at)) 0) space (t .1)) in
+    rw (g .2) at (with-number (t .0) (g .1) f)
 
 pub not-parted : (s : List ℕ) (at : ℕ) {r : Row1} → r ≡ number-before s at space → r ≡ Fault1 → Not-parted s at
 unfolding number-before

@@ -6,10 +6,10 @@ use Prim.Native.Nat.{ℕ, suc, _+_, _-_, _≤_, _<_}
 use native.Mathlib.Omega.{arith}
 use native.Mathlib.Numerals.{add-one}
 use native.Mathlib.Nat.{add-assoc, add-sub-cancel-left}
-use lib.Dec.{eqb}
+use lib.Dec.{leb, eqb}
 use lib.ListN.{length, getD, take, drop, drop-of-length-le, length-drop, List·getD-eq-default}
 use lib.Seq.{drop-cons, getD-drop}
-use borrow.Author.Tests.{eq-eqb, ne-eqb}
+use borrow.Author.Tests.{leb-true, leb-false, eq-eqb, ne-eqb}
 use Rattle.text.specs.Ascii.{line-feed}
 use Rattle.text.specs.Lines.{equal, begins}
 use Rattle.text.specs.Reading.{past-line, line-here, field-here, is-separator, named-here}
@@ -50,6 +50,14 @@ module _ (s : List ℕ) (e : ℕ) where
 -- a field lies in the text, and its bytes are a part of it
 pub field-within : (s : List ℕ) (at : ℕ) → at ≤ length s → at + length (field-here s at) ≤ length s
 field-within s at h = omega (arith, field-first (drop at s) .long, size-within (drop at s), length-drop at s)
+
+-- the place where it ends is no greater than this one and the text's end
+pub field-low : (s : List ℕ) (at n : ℕ) → at ≤ n → length s ≤ n → at + length (field-here s at) ≤ n
+field-low s at n h l = go (leb at (length s)) refl
+  where
+    go : (t : Bool) → leb at (length s) ≡ t → at + length (field-here s at) ≤ n
+    go true e = omega (arith, field-within s at (leb-true at (length s) e))
+    go false e = omega (arith, field-ends s at (omega (arith, leb-false at (length s) e)))
 
 pub field-part : (s : List ℕ) (at : ℕ) → take (at + length (field-here s at) - at) (drop at s) ≡ field-here s at
 field-part s at = rw (add-sub-cancel-left at (length (field-here s at))) (field-first (drop at s) .bytes)

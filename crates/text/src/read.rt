@@ -3,7 +3,7 @@ ghost use mathlib.Core.Path.{_≡_};
 ghost use mathlib.Core.Bool.{true};
 ghost use Prim.Native.Nat.{_+_, min};
 ghost use lib.ListN.{length, drop};
-ghost use Rattle.text.specs.Lines.{begins};
+ghost use Rattle.text.specs.Lines.{equal, begins};
 ghost use Rattle.text.specs.Numbers.{is-digit, most-digits, has-minus};
 ghost use Rattle.text.specs.Reading.{past-line, field-here, Part, is-separator, Digits-read, number-in, named-here, digits-here, number-before, leading-here, row1-here, row2-here, row3-here, row5-here, signed-last, signed-row-here};
 
@@ -170,6 +170,16 @@ pub fn begins_at(text: &[u8], at: usize, front: &[u8]) -> bool
         i += 1;
     }
     true
+}
+
+// Whether two texts are the same.
+pub fn same(a: &[u8], b: &[u8]) -> bool
+    ensures { λ r. ⌜ r ≡ equal (now (a .entry)) (now (b .entry)) ⌝ }
+{
+    if a.len() != b.len() {
+        return false;
+    }
+    begins_at(a, 0, b)
 }
 
 // The place past a line that is as asked for; or it is another.
