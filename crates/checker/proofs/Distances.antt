@@ -3,7 +3,7 @@ use mathlib.Core.Path.{_≡_, refl, sym, _∙_}
 use mathlib.Core.Bool.{Bool, true, false, _&&_, _||_, not, cond}
 use mathlib.Core.List.{List, [], _∷_}
 use mathlib.Core.Option.{some}
-use Prim.Native.Nat.{ℕ, zero, suc, _+_, _*_, _-_, _≤_}
+use Prim.Native.Nat.{ℕ, _+_, _*_, _-_, _≤_}
 use native.Mathlib.Omega.{arith}
 use lib.Dec.{leb, eqb}
 use lib.ListN.{length}
@@ -22,7 +22,7 @@ use Rattle.model.specs.Case.{farthest}
 use Rattle.model.specs.Passing.{distance-good}
 use Rattle.model.proofs.Signs.{abs-neg}
 use Rattle.checker.specs.Checking.{held, signed-by}
-use Rattle.checker.proofs.Signs.{low-fits}
+use Rattle.checker.proofs.Signs.{held-yes, low-fits}
 
 -- THE NUMBER 0 is `0` alone
 value-rises : (v : ℕ) (w : List ℕ) → v ≤ value-from v w
@@ -88,10 +88,7 @@ abs-by true d = abs-neg d
 abs-by false d = refl
 
 pub held-by : (b : Bool) (d : ℕ) → d ≤ farthest → held (signed-by b d) ≡ some (signed-by b d)
-unfolding held signed-by
-held-by true zero h = refl
-held-by true (suc d) h = refl
-held-by false d h = rw (le-leb d farthest h) refl
+held-by b d h = held-yes (signed-by b d) (rw (abs-by b d) (le-leb d farthest h))
 
 pub fits-by : (b : Bool) (d : ℕ) → d ≤ farthest → SFits w32 (signed-by b d)
 unfolding signed-by

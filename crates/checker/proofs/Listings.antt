@@ -8,8 +8,7 @@ use Prim.Native.Nat.{ℕ, zero, suc, _+_, _-_, _≤_, _<_}
 use native.Mathlib.Omega.{arith}
 use native.Mathlib.Numerals.{add-one}
 use lib.Dec.{ltb, leb, eqb}
-use lib.IntN.{ℤ, pos, negℤ}
-use lib.Signed.{ltZ}
+use lib.IntN.{ℤ, pos, negℤ, natAbs}
 use lib.ListN.{length, getD, set, take, drop, replicate, length-set, length-replicate}
 use lib.Seq.{getD-set-same, getD-set-other}
 use borrow.Author.Tests.{leb-true, eq-eqb, ne-eqb, le-leb, ltb-true}
@@ -26,7 +25,7 @@ use Rattle.text.proofs.Places.{skip-none, skip-first}
 use Rattle.casefile.proofs.Refusals.{first-one, first-decides}
 use Rattle.checker.specs.Checking.{Tables, not-listed, held, signed-by, Blank, Listing-read, Listing-says, length-by, Lead-says, vertex-lines-refusal, Empty-says}
 use Rattle.checker.specs.declared.listing.Block.the-variants.{Refused, Past}
-use Rattle.checker.proofs.Signs.{held-high, held-low}
+use Rattle.checker.proofs.Signs.{held-no, held-yes}
 use Rattle.checker.proofs.Ends.{more-lines, no-more-lines}
 use Rattle.checker.proofs.Distances.{held-by, signed-is, distance-is}
 
@@ -227,13 +226,13 @@ module _ (s : List ℕ) (at k n m u : ℕ) (marks froms tos : List ℕ) where
       source-is : (g : Graph) → g .source ≡ u → number-of (listed-in (take k (lines (drop at s)))) (g .source) ≡ held a
       source-is g e = rw (e, is-a) (sym (w .kept u))
 
-      pub source-lost : ltZ (pos farthest) a ≡ true → Empty-says s at k n m u marks froms tos 13
-      source-lost h g x e f = sym (rest-is g f {p = false} (unfold passes-empty is-listed in (rw (source-is g e, held-high a h) refl)) ∙ (unfold refuse in refl))
+      pub source-lost : leb (natAbs a) farthest ≡ false → Empty-says s at k n m u marks froms tos 13
+      source-lost h g x e f = sym (rest-is g f {p = false} (unfold passes-empty is-listed in (rw (source-is g e, held-no a h) refl)) ∙ (unfold refuse in refl))
 
-      module _ (h : ltZ (pos farthest) a ≡ false) {r : Bool} (is-r : Lead-says m marks froms tos t r) where
+      module _ (h : leb (natAbs a) farthest ≡ true) {r : Bool} (is-r : Lead-says m marks froms tos t r) where
         passes-is : (g : Graph) → Tables g m marks froms tos → g .source ≡ u → passes-empty g (listed-in (take k (lines (drop at s)))) ≡ r
         unfolding passes-empty is-listed
-        passes-is g x e = rw (source-is g e, held-low a h, x .many) (sym (is-r g x (listed-in (take k (lines (drop at s)))) (w .kept)))
+        passes-is g x e = rw (source-is g e, held-yes a h, x .many) (sym (is-r g x (listed-in (take k (lines (drop at s)))) (w .kept)))
 
         pub empty-passes : r ≡ true → Empty-says s at k n m u marks froms tos 0
         empty-passes q g x e f = sym (rest-is g f (passes-is g x e ∙ q) ∙ (unfold refuse in refl))

@@ -7,8 +7,7 @@ use mathlib.Core.Option.{Option, none, some}
 use Prim.Native.Nat.{ℕ, zero, suc, _+_, _≤_, _<_}
 use lib.Dec.{ltb, leb, eqb}
 use lib.ListN.{length, getD, take, drop}
-use lib.IntN.{ℤ, pos, negsuc, negℤ}
-use lib.Signed.{leZ}
+use lib.IntN.{ℤ, pos, negsuc, negℤ, natAbs}
 use Rattle.text.specs.Lines.{Line, lines, line-at, line-is}
 use Rattle.text.specs.Numbers.{numbers-line, number-at}
 use Rattle.text.specs.Reading.{line-here, past-line, skip}
@@ -102,12 +101,12 @@ Lasso-says s at x y m u marks froms tos r = (g : Graph) → Tables g m marks fro
 abbrev pub Lasso-checked : (answer : List ℕ) → (m source : ℕ) → (marks froms tos : List ℕ) → ℕ → Type 0
 Lasso-checked s m u marks froms tos r = (g : Graph) → Tables g m marks froms tos → g .source ≡ u → r ≡ lasso-refusal g (line-at (lines s) 1) (lines s)
 
--- VERTEX LINES and their numbers. A table holds one number for each vertex, `not-listed` where there is none
+-- VERTEX LINES and their numbers. A table holds one number for each vertex, `not-listed`, which is too far, where there is none
 abbrev pub not-listed : ℤ
 not-listed = pos (suc farthest)
 
 unfoldable pub held : (number : ℤ) → Option ℤ
-held z = cond (leZ z (pos farthest)) (some z) none
+held z = cond (leb (natAbs z) farthest) (some z) none
 
 unfoldable pub signed-by : (minus : Bool) → (number : ℕ) → ℤ
 signed-by b d = cond b (negℤ (pos d)) (pos d)
@@ -125,7 +124,7 @@ abbrev pub Listing-says : (text : List ℕ) → (at k n : ℕ) → (numbers : Li
 Listing-says s at k n t (Bad-block j) = (listed-vertices-refusal k n none (lines (drop at s)) ≡ j) × (0 < j)
 Listing-says s at k n t (Past z) = Listing-read s at k n t z
 
--- the length of an edge that leaves a vertex of this mark
+-- the length of an edge that leaves a vertex of this mark: model's edge-length, since a mark is 0 or 1
 unfoldable pub length-by : (mark : ℕ) → ℤ
 length-by zero = pos 0
 length-by (suc k) = negsuc 0

@@ -3,6 +3,7 @@ ghost use mathlib.Core.Path.{_≡_};
 ghost use mathlib.Core.Bool.{_&&_, not};
 ghost use Prim.Native.Nat.{_≤_};
 ghost use lib.Dec.{ltb, leb, eqb};
+ghost use lib.IntN.{natAbs};
 ghost use lib.ListN.{getD};
 ghost use Rattle.model.specs.Case.{most-vertices, farthest};
 ghost use Rattle.model.specs.Passing.{leads};
@@ -15,11 +16,21 @@ use text::read::SignedRow;
 use text::read::name_line;
 use text::read::signed_row;
 
-// The farthest number of a vertex that is listed.
-const FARTHEST: i32 = Case::MOST_VERTICES as i32;
+// A vertex that is listed has a number from −FARTHEST to FARTHEST.
+const FARTHEST: i32 = Case::FARTHEST as i32;
 
-// The number of a vertex that is not listed: one more than any that is.
+// The number of a vertex that is not listed.
 const NOT_LISTED: i32 = FARTHEST + 1;
+
+// Whether a number is that of a vertex that is listed.
+fn is_held(number: i32) -> bool
+    ensures { λ r. ⌜ r ≡ leb (natAbs number) farthest ⌝ }
+{
+    if number < -FARTHEST {
+        return false;
+    }
+    number <= FARTHEST
+}
 
 // The number of a vertex.
 fn number_of(t: &[i32], v: usize) -> i32
@@ -45,7 +56,7 @@ fn in_order(v: usize, n: usize, least: usize) -> bool
 fn is_distance(minus: bool, d: u32) -> bool
     ensures { λ r. ⌜ r ≡ (leb d farthest && not (minus && eqb d 0)) ⌝ }
 {
-    if Case::MOST_VERTICES < d as usize {
+    if Case::FARTHEST < d {
         return false;
     }
     if minus {
@@ -98,20 +109,27 @@ fn vertex_lines(text: &[u8], at: usize, k: usize, n: usize, numbers: &mut [i32])
     Block::Past(here)
 }
 
+// The length of an edge that leaves a vertex of this mark: −1 where it accepts, else 0.
+fn edge_length(mark: usize) -> i32
+    ensures { λ r. ⌜ r ≡ length-by mark ⌝ }
+{
+    if mark == 0 {
+        return 0;
+    }
+    -1
+}
+
 // Whether an edge leads right between vertices of these numbers, from one of this mark.
 fn leads_right(mark: usize, a: i32, b: i32) -> bool
     ensures { λ r. ⌜ r ≡ leads (held a) (held b) (length-by mark) ⌝ }
 {
-    if FARTHEST < a {
+    if !is_held(a) {
         return true;
     }
-    if FARTHEST < b {
+    if !is_held(b) {
         return false;
     }
-    if mark == 0 {
-        return b <= a;
-    }
-    b < a
+    b <= a + edge_length(mark)
 }
 
 // Whether every edge of m leads right.
@@ -154,7 +172,7 @@ fn listed(
             if last < text.len() {
                 return 12;
             }
-            if FARTHEST < number_of(&numbers, source) {
+            if !is_held(number_of(&numbers, source)) {
                 return 13;
             }
             if all_lead(m, marks, froms, tos, &numbers) {

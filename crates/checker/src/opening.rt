@@ -76,13 +76,13 @@ fn suits(lasso: bool, stem: usize, cycle: usize, reached: usize) -> bool
 fn few(stem: usize, cycle: usize, reached: usize) -> bool
     ensures { λ r. ⌜ r ≡ (leb stem most-listed && (leb cycle most-listed && leb reached most-listed)) ⌝ }
 {
-    if Case::MOST_VERTICES < stem {
+    if Case::MOST_LISTED < stem {
         return false;
     }
-    if Case::MOST_VERTICES < cycle {
+    if Case::MOST_LISTED < cycle {
         return false;
     }
-    reached <= Case::MOST_VERTICES
+    reached <= Case::MOST_LISTED
 }
 
 fn right(lasso: bool, stem: usize, cycle: usize, reached: usize) -> bool
