@@ -16,7 +16,7 @@ use Rattle.model.specs.Graph.{Graph, Has-lasso, No-lasso}
 use Rattle.model.specs.Case.{Case, most-acts, Sound, Within}
 use Rattle.model.specs.CaseFile.{refuse, first-of, case-refusal, accepted, case-in}
 use Rattle.model.specs.Run.{State, is-some, range, ended-lasso, has-ended, taken, round-acts, by-list, by-rounds}
-use Rattle.model.specs.Answer.{cycle-start, cycle, stem, answer-of, answer}
+use Rattle.model.specs.Answer.{lasso-verdict, empty-verdict, cycle-start, cycle, stem, answer-of, answer}
 use Rattle.model.specs.Passing.{says-lasso, answer-refusal, check-refusal, answer-verdict}
 use Rattle.model.specs.Entry.{any-at-or-above, acts-refusal, list-refusal, rounds-refusal, verdict, in-front, Refused, Cut-short, Finished, Run-says, List-says, Rounds-say}
 use Rattle.model.specs.Promise.{Ended, Finding, whole-rounds, Agree, Checker-sound, Says, Definite, Runs-definite, Checks-definite, True-verdict, Shows-lasso, Shows-distances, Runs-right, Check-right, Runs-agree, Rounds-as-list, Ten, Ten-exactly, Rounds-never-ten}
@@ -38,15 +38,15 @@ true-verdict c ok x e = go (x .broken) refl
     F : Finding (c .graph) x
     F = finding c ok x e
 
-    says : (o : Option ℕ) → x .broken ≡ o → verdict x ≡ cond (is-some o) 1 2
+    says : (o : Option ℕ) → x .broken ≡ o → verdict x ≡ cond (is-some o) lasso-verdict empty-verdict
     says o h = unfold verdict ended-lasso in (rw h refl)
 
     go : (o : Option ℕ) → x .broken ≡ o → True-verdict (c .graph) (verdict x)
     go none h =
-        let v : verdict x ≡ 2 = says none h ∙ (unfold is-some in refl) in
+        let v : verdict x ≡ empty-verdict = says none h ∙ (unfold is-some in refl) in
         record { lasso = λ q. absurd (omega arith); empty = λ _. F .none-there h; either = inr v }
     go (some b) h =
-        let v : verdict x ≡ 1 = says (some b) h ∙ (unfold is-some in refl) in
+        let v : verdict x ≡ lasso-verdict = says (some b) h ∙ (unfold is-some in refl) in
         record { lasso = λ _. record { stem = _; cycle = _; lasso = F .shown b h }; empty = λ q. absurd (omega arith); either = inl v }
 
 accepted-by : (bs : List ℕ) → case-refusal bs ≡ 0 → Sound (case-in bs) × Within (case-in bs)
@@ -105,19 +105,19 @@ result bs r o z w v (inr s) e = let x = by-rounds (case-in bs) in says-cases (Re
     (λ k b t. finished bs x r o z w v (rounds-accepted bs (length o) (length w) k) (record { ended = b; run = inr refl }) t)
     (λ k b t. absurd (omega (arith, t .refusal)))
 
-verdict-one : (x : State) → verdict x ≡ 1 → ended-lasso x ≡ true
+verdict-one : (x : State) → verdict x ≡ lasso-verdict → ended-lasso x ≡ true
 unfolding verdict
 verdict-one x e = go (ended-lasso x) e
   where
-    go : (b : Bool) → _≡_ {A = ℕ} (cond b 1 2) 1 → b ≡ true
+    go : (b : Bool) → _≡_ {A = ℕ} (cond b lasso-verdict empty-verdict) lasso-verdict → b ≡ true
     go true e = refl
     go false e = absurd (omega arith)
 
-verdict-two : (x : State) → verdict x ≡ 2 → ended-lasso x ≡ false
+verdict-two : (x : State) → verdict x ≡ empty-verdict → ended-lasso x ≡ false
 unfolding verdict
 verdict-two x e = go (ended-lasso x) e
   where
-    go : (b : Bool) → _≡_ {A = ℕ} (cond b 1 2) 2 → b ≡ false
+    go : (b : Bool) → _≡_ {A = ℕ} (cond b lasso-verdict empty-verdict) empty-verdict → b ≡ false
     go true e = absurd (omega arith)
     go false e = refl
 
@@ -179,13 +179,13 @@ check-right bs ts r s e =
     let v : r .verdict ≡ answer-verdict ts = s .verdict ∙ (rw z refl) in
     record { lasso = λ q. k .0 (sym v ∙ q); empty = λ q. k .1 (sym v ∙ q); either = either ts (r .verdict) v }
   where
-    sound-of : (g : Graph) (ts : List ℕ) → answer-refusal g ts ≡ 0 → (answer-verdict ts ≡ 1 → Has-lasso g) × (answer-verdict ts ≡ 2 → No-lasso g)
+    sound-of : (g : Graph) (ts : List ℕ) → answer-refusal g ts ≡ 0 → (answer-verdict ts ≡ lasso-verdict → Has-lasso g) × (answer-verdict ts ≡ empty-verdict → No-lasso g)
     sound-of = unfold Checker-sound in checker-sound
 
-    either : (ts : List ℕ) (n : ℕ) → n ≡ answer-verdict ts → (n ≡ 1) ⊎ (n ≡ 2)
+    either : (ts : List ℕ) (n : ℕ) → n ≡ answer-verdict ts → (n ≡ lasso-verdict) ⊎ (n ≡ empty-verdict)
     either ts n = unfold answer-verdict in (go (says-lasso (line-at (lines ts) 1)))
       where
-        go : (b : Bool) → n ≡ cond b 1 2 → (n ≡ 1) ⊎ (n ≡ 2)
+        go : (b : Bool) → n ≡ cond b lasso-verdict empty-verdict → (n ≡ lasso-verdict) ⊎ (n ≡ empty-verdict)
         go true e = inl e
         go false e = inr e
 

@@ -13,7 +13,7 @@ use Rattle.model.specs.Graph.{Graph, edge}
 use Rattle.model.specs.Case.{Case, least-output, most-acts, Sound, Within}
 use Rattle.model.specs.CaseFile.{accepted, case-in}
 use Rattle.model.specs.Run.{State, is-some, ended-lasso, has-ended, fresh, acted, round-acts, rounds, by-list, by-rounds}
-use Rattle.model.specs.Answer.{cycle-start, cycle, stem, lasso-text, empty-text, answer-of, answer}
+use Rattle.model.specs.Answer.{lasso-verdict, empty-verdict, cycle-start, cycle, stem, lasso-text, empty-text, answer-of, answer}
 use Rattle.model.specs.Passing.{answer-refusal, answer-verdict}
 use Rattle.model.specs.Entry.{verdict}
 use Rattle.model.specs.Promise.{Ended, Finding, whole-rounds, Runs-kept, Moments-kept, Limits-kept, Of-cases, One-stem, Agree, Same-finding, Files-sound, Of-files, Files-agree}
@@ -75,7 +75,7 @@ moments-kept c ok = record {
 
 -- WHAT AN ENDED RUN WRITES is read back and passes
 complete-at : (c : Case) (ok : Sound c) → Within c → (x : State) → Known c x → (o : Option ℕ) → x .broken ≡ o → (is-some o ≡ true) ⊎ (x .ended-empty ≡ true) →
-    (answer-refusal (c .graph) (answer-of (c .graph) o (x .parents) (x .depths)) ≡ 0) × (answer-verdict (answer-of (c .graph) o (x .parents) (x .depths)) ≡ cond (is-some o) 1 2)
+    (answer-refusal (c .graph) (answer-of (c .graph) o (x .parents) (x .depths)) ≡ 0) × (answer-verdict (answer-of (c .graph) o (x .parents) (x .depths)) ≡ cond (is-some o) lasso-verdict empty-verdict)
 unfolding answer-of is-some
 complete-at c ok w x k none h (inl i) = clash false i refl
 complete-at c ok w x k none h (inr i) =

@@ -10,7 +10,7 @@ use lib.IntN.{ℤ, pos}
 use borrow.Author.Tests.{eq-eqb, ne-eqb}
 use Rattle.model.specs.Case.{Case, least-output}
 use Rattle.model.specs.Run.{State, is-some, ended-lasso, has-ended}
-use Rattle.model.specs.Answer.{stem, cycle, cycle-start, lasso-text, empty-text, answer-of, answer}
+use Rattle.model.specs.Answer.{lasso-verdict, empty-verdict, stem, cycle, cycle-start, lasso-text, empty-text, answer-of, answer}
 use Rattle.model.specs.Entry.{verdict, zeros, Run-says}
 use Rattle.model.proofs.Fits.{cycle-few, answer-fits}
 use Rattle.search.specs.Cells.{more, cycle-at, cells-end}
@@ -106,7 +106,7 @@ module _ {c : Case} {x : State} {k : Run} {n s : ℕ} {w : List ℤ} {o : List �
   unfolding verdict ended-lasso
   verdict-is = go (x .broken) refl
     where
-      go : (q : Option ℕ) → x .broken ≡ q → verdict-of k ≡ cond (is-some (x .broken)) 1 2
+      go : (q : Option ℕ) → x .broken ≡ q → verdict-of k ≡ cond (is-some (x .broken)) lasso-verdict empty-verdict
       go none h = rw (h, eq-eqb (k .broken) 0 (g .rep .counted .broke ∙ ap more h)) (unfold is-some in refl)
       go (some b) h = rw (h, ne-eqb (k .broken) 0 (λ z. omega (arith, g .rep .counted .broke ∙ ap more h))) (unfold is-some in refl)
 

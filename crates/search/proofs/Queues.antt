@@ -13,7 +13,7 @@ use Rattle.model.specs.Case.{Case, owner}
 use Rattle.model.specs.Run.{member}
 use Rattle.text.proofs.Tests.{or-false, or-cases, or-right}
 use Rattle.model.proofs.Tools.{member-first, member-later}
-use Rattle.search.specs.Rep.{link, Chain, Ends, Lined}
+use Rattle.search.specs.Rep.{link, Linked, Ends, Lined}
 use Rattle.search.proofs.Regions.{same-or}
 
 pub true-or : (b : Bool) → (b ≡ true) ⊎ (b ≡ false)
@@ -54,7 +54,7 @@ walk-end-snoc v (x ∷ []) = refl
 walk-end-snoc v (x ∷ y ∷ q) = walk-end-snoc v (y ∷ q)
 
 -- chains
-chain-kept : (N : List ℕ) (j a : ℕ) (q : List ℕ) → Chain N q → member j q ≡ false → Chain (set N j a) q
+chain-kept : (N : List ℕ) (j a : ℕ) (q : List ℕ) → Linked N q → member j q ≡ false → Linked (set N j a) q
 unfolding member
 chain-kept N j a [] h m = tt
 chain-kept N j a (v ∷ q) h m =
@@ -62,7 +62,7 @@ chain-kept N j a (v ∷ q) h m =
     let n : v ≡ j → ⊥ = λ e. eqb-false j v (t .0) (sym e) in
     (getD-set-other N j v a 0 n ∙ h .0, h .1, chain-kept N j a q (h .2) (t .1))
 
-pub chain-marked : (N : List ℕ) (v : ℕ) (q : List ℕ) → Chain N q → member v q ≡ true → 1 ≤ getD N v 0
+pub chain-marked : (N : List ℕ) (v : ℕ) (q : List ℕ) → Linked N q → member v q ≡ true → 1 ≤ getD N v 0
 unfolding member
 chain-marked N v [] h m = let z : _≡_ {A = ℕ} 0 1 = cc in omega arith
 chain-marked N v (x ∷ q) h m = ⊎-elim (λ t. first (eqb-true v x t) q (h .0)) (λ t. chain-marked N v q (h .2) t) (or-cases (eqb v x) (member v q) m)
@@ -72,8 +72,8 @@ chain-marked N v (x ∷ q) h m = ⊎-elim (λ t. first (eqb-true v x t) q (h .0)
     first e (y ∷ r) g = rw (e, g) (omega arith)
 
 -- v joins behind t
-chain-snoc : (N : List ℕ) (t v u : ℕ) (q : List ℕ) → Chain N (u ∷ q) → Ends t (u ∷ q) → member v (u ∷ q) ≡ false → t < length N → v < length N
-    → Chain (set (set N t (v + 2)) v 1) ((u ∷ q) ++ (v ∷ []))
+chain-snoc : (N : List ℕ) (t v u : ℕ) (q : List ℕ) → Linked N (u ∷ q) → Ends t (u ∷ q) → member v (u ∷ q) ≡ false → t < length N → v < length N
+    → Linked (set (set N t (v + 2)) v 1) ((u ∷ q) ++ (v ∷ []))
 unfolding member
 chain-snoc N t v u [] h e m a b =
     let s = or-false (eqb v u) false m in
@@ -147,7 +147,7 @@ module _ (c : Case) (qs : List (List ℕ)) (N H T : List ℕ) (v p : ℕ) (L : L
       let j : p < length H = omega arith in
       record {
         sized = length-set qs p (getD qs p [] ++ (v ∷ [])) ∙ L .sized;
-        chains = at-set (λ (r : ℕ) (q : List ℕ). Chain (set N v 1) q) qs p (getD qs p [] ++ (v ∷ [])) [] pq (rw e (getD-set-same N v 1 0 k, no-member v, tt))
+        chains = at-set (λ (r : ℕ) (q : List ℕ). Linked (set N v 1) q) qs p (getD qs p [] ++ (v ∷ [])) [] pq (rw e (getD-set-same N v 1 0 k, no-member v, tt))
             (λ r n. chain-kept N v 1 (getD qs r []) (L .chains r) (elsewhere c qs N H T v p r L o n));
         heads = at-set (λ (r : ℕ) (q : List ℕ). r < c .workers → getD (set H p (v + 2)) r 0 ≡ link q) qs p (getD qs p [] ++ (v ∷ [])) [] pq
             (λ g. rw e (getD-set-same H p (v + 2) 0 j)) (λ r n g. getD-set-other H p r (v + 2) 0 n ∙ L .heads r g);
@@ -172,7 +172,7 @@ module _ (c : Case) (qs : List (List ℕ)) (N H T : List ℕ) (v p : ℕ) (L : L
           let kt : t < length N = omega (arith, tb .0) in
           record {
             sized = length-set qs p (getD qs p [] ++ (v ∷ [])) ∙ L .sized;
-            chains = at-set (λ (r : ℕ) (q : List ℕ). Chain (set (set N t (v + 2)) v 1) q) qs p (getD qs p [] ++ (v ∷ [])) [] pq
+            chains = at-set (λ (r : ℕ) (q : List ℕ). Linked (set (set N t (v + 2)) v 1) q) qs p (getD qs p [] ++ (v ∷ [])) [] pq
                 (rw e (chain-snoc N t v u q (rw e at (L .chains p)) ends (rw e at fresh) kt k))
                 (λ r n. chain-kept (set N t (v + 2)) v 1 (getD qs r [])
                 (chain-kept N t (v + 2) (getD qs r []) (L .chains r) (elsewhere c qs N H T t p r L (tb .1) n)) (elsewhere c qs N H T v p r L o n));
@@ -193,14 +193,14 @@ pub leave : (c : Case) (qs : List (List ℕ)) (N H T : List ℕ) (v p : ℕ) (q 
     → length N ≡ c .graph .vertices → length H ≡ c .workers → Lined c (set qs p q) (set N v 0) (set H p (link q)) T
 leave c qs N H T v p q L e pw ln lh =
     let pq : p < length qs = omega (arith, L .sized) in
-    let ch : Chain N (v ∷ q) = rw e at (L .chains p) in
+    let ch : Linked N (v ∷ q) = rw e at (L .chains p) in
     let vm : member v (getD qs p []) ≡ true = rw e (member-first v q) in
     let vb = L .mine p v vm in
     let j : p < length H = omega arith in
     let k : v < length N = omega (arith, vb .0) in
     record {
       sized = length-set qs p q ∙ L .sized;
-      chains = at-set (λ (r : ℕ) (q : List ℕ). Chain (set N v 0) q) qs p q [] pq (chain-kept N v 0 q (ch .2) (ch .1))
+      chains = at-set (λ (r : ℕ) (q : List ℕ). Linked (set N v 0) q) qs p q [] pq (chain-kept N v 0 q (ch .2) (ch .1))
           (λ r n. chain-kept N v 0 (getD qs r []) (L .chains r) (elsewhere c qs N H T v p r L (vb .1) n));
       heads = at-set (λ (r : ℕ) (s : List ℕ). r < c .workers → getD (set H p (link q)) r 0 ≡ link s) qs p q [] pq
           (λ g. getD-set-same H p (link q) 0 j) (λ r n g. getD-set-other H p r (link q) 0 n ∙ L .heads r g);
@@ -220,7 +220,7 @@ pub link-low : (n : ℕ) (q : List ℕ) → ((u : ℕ) → member u q ≡ true �
 link-low n [] f = omega arith
 link-low n (u ∷ q) f = omega (arith, f u (member-first u q))
 
-chain-low : (n : ℕ) (N : List ℕ) (v : ℕ) (q : List ℕ) → Chain N q → ((u : ℕ) → member u q ≡ true → u < n) → member v q ≡ true → getD N v 0 < n + 2
+chain-low : (n : ℕ) (N : List ℕ) (v : ℕ) (q : List ℕ) → Linked N q → ((u : ℕ) → member u q ≡ true → u < n) → member v q ≡ true → getD N v 0 < n + 2
 unfolding member
 chain-low n N v [] h f m = let z : _≡_ {A = ℕ} 0 1 = cc in omega arith
 chain-low n N v (x ∷ q) h f m =

@@ -71,9 +71,9 @@ abbrev pub link : List ℕ → ℕ
 link [] = 1
 link (v ∷ q) = coded v
 
-abbrev pub Chain : (links queue : List ℕ) → Type 0
-Chain N [] = Unit {0}
-Chain N (v ∷ q) = (getD N v 0 ≡ link q) × (member v q ≡ false) × Chain N q
+abbrev pub Linked : (links queue : List ℕ) → Type 0
+Linked N [] = Unit {0}
+Linked N (v ∷ q) = (getD N v 0 ≡ link q) × (member v q ≡ false) × Linked N q
 
 abbrev pub Ends : (tail : ℕ) → (queue : List ℕ) → Type 0
 Ends t [] = Unit {0}
@@ -82,7 +82,7 @@ Ends t (v ∷ u ∷ q) = Ends t (u ∷ q)
 
 pub record Lined (c : Case) (qs : List (List ℕ)) (N H T : List ℕ) : Type 0 where
   pub sized : length qs ≡ c .workers
-  pub chains : (p : ℕ) → Chain N (getD qs p [])
+  pub chains : (p : ℕ) → Linked N (getD qs p [])
   pub heads : (p : ℕ) → p < c .workers → getD H p 0 ≡ link (getD qs p [])
   pub tails : (p : ℕ) → p < c .workers → Ends (getD T p 0) (getD qs p [])
   pub mine : (p v : ℕ) → member v (getD qs p []) ≡ true → (v < c .graph .vertices) × (owner c v ≡ p)
