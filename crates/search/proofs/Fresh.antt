@@ -119,15 +119,8 @@ module _ (c : Case) (w w1 w2 w3 w4 w5 w6 : List ℤ) (laid : Laid c w) (f1 : Fil
 -- the source has distance 0
 abbrev pub started : Case → (s : ℕ) → State
 started c s =
-    record {
-      depths = set (replicate (c .graph .vertices) none) s (some 0);
-      parents = replicate (c .graph .vertices) none;
-      queues = replicate (c .workers) [];
-      cells = replicate (length (c .graph .edges)) none;
-      broken = none;
-      ended-empty = false;
-      count = 0;
-    }
+    let x = blank c in
+    record { depths = set (x .depths) s (some 0); parents = x .parents; queues = x .queues; cells = x .cells; broken = x .broken; ended-empty = x .ended-empty; count = x .count }
 
 pub rep-started : (c : Case) (k : Run) (w : List ℤ) (s : ℕ) → Rep c (blank c) k w → s < c .graph .vertices → Rep c (started c s) k (set w (distance-at + s) (pos 0))
 rep-started c k w s rep h =
