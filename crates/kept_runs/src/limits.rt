@@ -9,6 +9,7 @@ use bench_kit::buffers::CELL;
 use bench_kit::buffers::MARK;
 use bench_kit::buffers::front;
 use bench_kit::buffers::front_acts;
+use desk::print;
 
 // K4 by rounds in these buffers.
 fn buffers_of_k4(
@@ -90,9 +91,9 @@ fn short_before_acts(wrong: u32) -> u32 {
     let mut output = [MARK; 8191];
     let mut work = [CELL; 16384];
     let past = [5u32; 1];
+    print(b"8,191 bytes, empty file, by a list");
     list_in(
         wrong,
-        b"8,191 bytes, empty file, by a list",
         b"",
         &past,
         Wanted::refused(11),

@@ -129,8 +129,7 @@ fn print_rest(rest: bool) {
     }
 }
 
-fn print_outcome(name: &[u8], o: Outcome) {
-    print(name);
+fn print_outcome(o: Outcome) {
     print(b": refusal ");
     print_number(o.refusal);
     print(b", ");
@@ -163,10 +162,10 @@ fn print_short(answer: &[u8]) {
     }
 }
 
-// A run's line: its outcome, what the buffers hold, what the checker says, and whether all of it is what must come.
+// A run's line behind its name: its outcome, what the buffers hold, what the checker says, and whether all of it is what must
+// come.
 fn told(
     wrong: u32,
-    name: &[u8],
     case: &[u8],
     o: Outcome,
     wanted: Wanted,
@@ -174,7 +173,7 @@ fn told(
     output: &[u8],
     work: &[i32],
 ) -> u32 {
-    print_outcome(name, o);
+    print_outcome(o);
     let written = o.written as usize;
     let shown = front(output, written);
     let rest = untouched(output, written);
@@ -200,13 +199,13 @@ pub(crate) fn rounds_in(
     work: &mut [i32],
 ) -> u32 {
     let o = run_rounds(case, output, work);
-    told(wrong, name, case, o, wanted, answer, output, work)
+    print(name);
+    told(wrong, case, o, wanted, answer, output, work)
 }
 
-// A run by a list in these buffers, which hold the marks.
+// A run by a list in these buffers, which hold the marks; its name is printed already.
 pub(crate) fn list_in(
     wrong: u32,
-    name: &[u8],
     case: &[u8],
     list: &[u32],
     wanted: Wanted,
@@ -215,7 +214,7 @@ pub(crate) fn list_in(
     work: &mut [i32],
 ) -> u32 {
     let o = run_list(case, list, output, work);
-    told(wrong, name, case, o, wanted, answer, output, work)
+    told(wrong, case, o, wanted, answer, output, work)
 }
 
 // A run by rounds in buffers a little longer than they must be.
@@ -242,16 +241,8 @@ pub(crate) fn list_of(
 ) -> u32 {
     let mut output = [MARK; 8200];
     let mut work = [CELL; 16400];
-    list_in(
-        wrong,
-        name,
-        case,
-        list,
-        wanted,
-        answer,
-        &mut output,
-        &mut work,
-    )
+    print(name);
+    list_in(wrong, case, list, wanted, answer, &mut output, &mut work)
 }
 
 // A case's line 1, and the lines after it; its length.

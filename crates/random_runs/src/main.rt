@@ -102,24 +102,30 @@ fn try_case(
     try_lists(totals, case, limit, want, one, next(seed))
 }
 
+// A graph beside its edges and marks: how many vertices, its source, and the verdict that it must get.
+struct Drawn {
+    n: usize,
+    source: usize,
+    want: u32,
+}
+
 // The graph owned by 1 to 16 workers.
 fn try_owners(
     totals: &mut [u32],
     edges: &[u8],
     marks: &[u8],
-    n: usize,
-    source: usize,
-    want: u32,
+    drawn: Drawn,
     one: &[u8],
     seed: u32,
 ) -> u32 {
     let mut text = [0u8; 24576];
     let mut owners = [0u8; 128];
     let workers = 1 + below(seed, 16);
+    let n = drawn.n;
     let x = graph::draw_owners(&mut owners, n, workers, seed);
-    let size = graph::write_case(&mut text, n, source, workers, edges, marks, &owners);
+    let size = graph::write_case(&mut text, n, drawn.source, workers, edges, marks, &owners);
     let limit = workers + graph::count_edges(edges);
-    try_case(totals, front(&text, size), limit, want, one, x)
+    try_case(totals, front(&text, size), limit, drawn.want, one, x)
 }
 
 // The answer by rounds with one worker, which is tried too; its length.
@@ -127,20 +133,18 @@ fn first_answer(
     totals: &mut [u32],
     edges: &[u8],
     marks: &[u8],
-    n: usize,
-    source: usize,
-    want: u32,
+    drawn: Drawn,
     output: &mut [u8],
 ) -> usize {
     let mut text = [0u8; 24576];
     let owners = [0u8; 128];
-    let size = graph::write_case(&mut text, n, source, 1, edges, marks, &owners);
+    let size = graph::write_case(&mut text, drawn.n, drawn.source, 1, edges, marks, &owners);
     let case = front(&text, size);
     let written = runs::first_run(case, output);
     count(
         totals,
         BY_ROUNDS,
-        runs::by_rounds(case, want, front(output, written)),
+        runs::by_rounds(case, drawn.want, front(output, written)),
     );
     written
 }
@@ -156,12 +160,13 @@ fn try_graph(
 ) -> u32 {
     let want = verdict(nested::has_lasso(edges, marks, n, source));
     let mut output = [MARK; 8192];
-    let size = first_answer(totals, edges, marks, n, source, want, &mut output);
+    let drawn = Drawn { n, source, want };
+    let size = first_answer(totals, edges, marks, drawn, &mut output);
     let one = front(&output, size);
     count(totals, FOUND, want as usize);
-    let x = try_owners(totals, edges, marks, n, source, want, one, seed);
-    let y = try_owners(totals, edges, marks, n, source, want, one, next(x));
-    try_owners(totals, edges, marks, n, source, want, one, next(y))
+    let x = try_owners(totals, edges, marks, drawn, one, seed);
+    let y = try_owners(totals, edges, marks, drawn, one, next(x));
+    try_owners(totals, edges, marks, drawn, one, next(y))
 }
 
 // A graph drawn, and tried.
