@@ -35,34 +35,65 @@ out-of-range-requires : tie.Need-out-of-range-requires
 out-of-range-requires c κs = search needs
 
 returns : tie.Need-returns
-returns c = acts-refused _ (c .before .before .before .before .before .before .before .before .before .before .read-case .ensures .answer) (c .before .before .before .before .c .given .1) _ _ (sym (c .before .out-of-range .ensures) ∙ c .if1 .taken)
+returns c =
+    let accepted = c .before .before .before .before in
+    let read = accepted .before .before .before .before .before .before .read-case in
+    acts-refused _ (read .ensures .answer) (accepted .c .given .1) _ _ (sym (c .before .out-of-range .ensures) ∙ c .if1 .taken)
 
 array-share-prefix-marks : tie.Need-array-share-prefix-marks
-array-share-prefix-marks c = omega (arith, counts-few _ (c .before .before .before .before .before .before .before .before .before .before .before .read-case .ensures .answer) (c .before .before .before .before .before .c .given .1) .2)
+array-share-prefix-marks c =
+    let accepted = c .before .before .before .before .before in
+    let read = accepted .before .before .before .before .before .before .read-case in
+    omega (arith, counts-few _ (read .ensures .answer) (accepted .c .given .1) .2)
 
 slice-aggregate-load-case : tie.Need-slice-aggregate-load-case
-slice-aggregate-load-case c = sym (length-take-le _ _ (omega (arith, counts-few _ (c .before .before .before .before .before .before .before .before .before .before .before .before .read-case .ensures .answer) (c .before .before .before .before .before .before .c .given .1) .2, c .before .before .before .before .before .before .before .before .before .before .before .before .read-case .kept .1 .0)))
+slice-aggregate-load-case c =
+    let accepted = c .before .before .before .before .before .before in
+    let read = accepted .before .before .before .before .before .before .read-case in
+    sym (length-take-le _ _ (omega (arith, counts-few _ (read .ensures .answer) (accepted .c .given .1) .2, read .kept .1 .0)))
 
 array-share-prefix-owners : tie.Need-array-share-prefix-owners
-array-share-prefix-owners c = omega (arith, counts-few _ (c .before .before .before .before .before .before .before .before .before .before .before .before .read-case .ensures .answer) (c .before .before .before .before .before .before .c .given .1) .2)
+array-share-prefix-owners c =
+    let accepted = c .before .before .before .before .before .before in
+    let read = accepted .before .before .before .before .before .before .read-case in
+    omega (arith, counts-few _ (read .ensures .answer) (accepted .c .given .1) .2)
 
 slice-aggregate-load-case-2 : tie.Need-slice-aggregate-load-case-2
-slice-aggregate-load-case-2 c = sym (length-take-le _ _ (omega (arith, counts-few _ (c .before .before .before .before .before .before .before .before .before .before .before .before .before .read-case .ensures .answer) (c .before .before .before .before .before .before .before .c .given .1) .2, c .before .before .before .before .before .before .before .before .before .before .before .before .before .read-case .kept .1 .1 .0)))
+slice-aggregate-load-case-2 c =
+    let accepted = c .before .before .before .before .before .before .before in
+    let read = accepted .before .before .before .before .before .before .read-case in
+    sym (length-take-le _ _ (omega (arith, counts-few _ (read .ensures .answer) (accepted .c .given .1) .2, read .kept .1 .1 .0)))
 
 array-share-prefix-froms : tie.Need-array-share-prefix-froms
-array-share-prefix-froms c = omega (arith, counts-few _ (c .before .before .before .before .before .before .before .before .before .before .before .before .before .read-case .ensures .answer) (c .before .before .before .before .before .before .before .c .given .1) .1)
+array-share-prefix-froms c =
+    let accepted = c .before .before .before .before .before .before .before in
+    let read = accepted .before .before .before .before .before .before .read-case in
+    omega (arith, counts-few _ (read .ensures .answer) (accepted .c .given .1) .1)
 
 slice-aggregate-load-case-3 : tie.Need-slice-aggregate-load-case-3
-slice-aggregate-load-case-3 c = sym (length-take-le _ _ (omega (arith, counts-few _ (c .before .before .before .before .before .before .before .before .before .before .before .before .before .before .read-case .ensures .answer) (c .before .before .before .before .before .before .before .before .c .given .1) .1, c .before .before .before .before .before .before .before .before .before .before .before .before .before .before .read-case .kept .1 .1 .1 .0)))
+slice-aggregate-load-case-3 c =
+    let accepted = c .before .before .before .before .before .before .before .before in
+    let read = accepted .before .before .before .before .before .before .read-case in
+    sym (length-take-le _ _ (omega (arith, counts-few _ (read .ensures .answer) (accepted .c .given .1) .1, read .kept .1 .1 .1 .0)))
 
 array-share-prefix-tos : tie.Need-array-share-prefix-tos
-array-share-prefix-tos c = omega (arith, counts-few _ (c .before .before .before .before .before .before .before .before .before .before .before .before .before .before .read-case .ensures .answer) (c .before .before .before .before .before .before .before .before .c .given .1) .1)
+array-share-prefix-tos c =
+    let accepted = c .before .before .before .before .before .before .before .before in
+    let read = accepted .before .before .before .before .before .before .read-case in
+    omega (arith, counts-few _ (read .ensures .answer) (accepted .c .given .1) .1)
 
 slice-aggregate-load-case-4 : tie.Need-slice-aggregate-load-case-4
-slice-aggregate-load-case-4 c = sym (length-take-le _ _ (omega (arith, counts-few _ (c .before .before .before .before .before .before .before .before .before .before .before .before .before .before .before .read-case .ensures .answer) (c .before .before .before .before .before .before .before .before .before .c .given .1) .1, c .before .before .before .before .before .before .before .before .before .before .before .before .before .before .before .read-case .kept .1 .1 .1 .1 .0)))
+slice-aggregate-load-case-4 c =
+    let accepted = c .before .before .before .before .before .before .before .before .before in
+    let read = accepted .before .before .before .before .before .before .read-case in
+    sym (length-take-le _ _ (omega (arith, counts-few _ (read .ensures .answer) (accepted .c .given .1) .1, read .kept .1 .1 .1 .1 .0)))
 
 load-case-requires : tie.Need-load-case-requires
-load-case-requires c κs = tables-ask _ (c .before .before .before .before .before .before .before .before .before .before .before .before .before .before .before .read-case .ensures) (c .before .before .before .before .before .before .before .before .before .c .given .1) (omega arith, omega arith) (omega arith, omega arith) (c .before .before .before .before .before .before .before .before .before .before .before .before .before .before .before .read-case .kept .1 .0, c .before .before .before .before .before .before .before .before .before .before .before .before .before .before .before .read-case .kept .1 .1 .0, c .before .before .before .before .before .before .before .before .before .before .before .before .before .before .before .read-case .kept .1 .1 .1 .0, c .before .before .before .before .before .before .before .before .before .before .before .before .before .before .before .read-case .kept .1 .1 .1 .1 .0) (c .before .before .before .before .before .before .before .before .before .before .before .before .before .before .before .before .before .before .before .before .before .before .pre)
+load-case-requires c κs =
+    let accepted = c .before .before .before .before .before .before .before .before .before in
+    let read = accepted .before .before .before .before .before .before in
+    let s = read .before .before .before .before .before .before .before .pre in
+    tables-ask _ (read .read-case .ensures) (accepted .c .given .1) (omega arith, omega arith) (omega arith, omega arith) (read .read-case .kept .1 .0, read .read-case .kept .1 .1 .0, read .read-case .kept .1 .1 .1 .0, read .read-case .kept .1 .1 .1 .1 .0) s
 
 returns-2 : tie.Need-returns-2
 returns-2 c = text-refused _ (c .before .before .before .before .before .before .before .read-case .ensures .answer) _ _ (c .before .k .given .1)
@@ -71,7 +102,13 @@ same-length : tie.Need-same-length
 same-length c = search needs
 
 returns-3 : tie.Need-returns-3
-returns-3 c = case-laid _ (c .before .before .before .before .before .before .before .before .before .before .before .before .before .before .before .before .before .read-case .ensures) (c .before .before .before .before .before .before .before .before .before .before .before .c .given .1) (omega arith, omega arith) (omega arith, omega arith) (c .before .before .before .before .before .before .before .before .before .before .before .before .before .before .before .before .before .read-case .kept .1 .0, c .before .before .before .before .before .before .before .before .before .before .before .before .before .before .before .before .before .read-case .kept .1 .1 .0, c .before .before .before .before .before .before .before .before .before .before .before .before .before .before .before .before .before .read-case .kept .1 .1 .1 .0, c .before .before .before .before .before .before .before .before .before .before .before .before .before .before .before .before .before .read-case .kept .1 .1 .1 .1 .0) _ (sym (c .before .before .before .before .before .before .before .before .out-of-range .ensures) ∙ c .before .before .before .before .before .before .before .if1 .left) (c .before .before .before .before .before .before .before .before .before .before .before .before .before .before .before .before .before .before .before .before .before .before .before .before .pre) (c .before .load-case .ensures)
+returns-3 c =
+    let inside = c .before .before .before .before .before .before .before in
+    let ranged = inside .before in
+    let accepted = ranged .before .before .before in
+    let read = accepted .before .before .before .before .before .before in
+    let s = read .before .before .before .before .before .before .before .pre in
+    case-laid _ (read .read-case .ensures) (accepted .c .given .1) (omega arith, omega arith) (omega arith, omega arith) (read .read-case .kept .1 .0, read .read-case .kept .1 .1 .0, read .read-case .kept .1 .1 .1 .0, read .read-case .kept .1 .1 .1 .1 .0) _ (sym (ranged .out-of-range .ensures) ∙ inside .if1 .left) s (c .before .load-case .ensures)
 
 pub load-text-spec : {M : Type 1} → statement M
 load-text-spec =

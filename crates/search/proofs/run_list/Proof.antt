@@ -32,16 +32,30 @@ fresh-requires : tie.Need-fresh-requires
 fresh-requires c κs = fresh-asks _ _ _ _ _ _ (loads-laid (c .before .before .before .before .before .load-text .ensures) (c .before .before .c .given .1))
 
 act-list-requires : tie.Need-act-list-requires
-act-list-requires c κs = list-asks _ _ _ _ _ _ (loads-laid (c .before .before .before .before .before .before .before .before .load-text .ensures) (c .before .before .before .before .before .c .given .1)) _ _ (c .before .before .fresh .ensures)
+act-list-requires c κs =
+    let begun = c .before .before in
+    let laid = begun .before .before .before in
+    let loaded = laid .before .before .before .load-text in
+    list-asks _ _ _ _ _ _ (loads-laid (loaded .ensures) (laid .c .given .1)) _ _ (begun .fresh .ensures)
 
 finish-requires : tie.Need-finish-requires
-finish-requires c κs = list-finish _ _ _ _ _ _ (loads-laid (c .before .before .before .before .before .before .before .before .before .before .before .before .load-text .ensures) (c .before .before .before .before .before .before .before .before .before .c .given .1)) _ _ (c .before .before .before .before .before .before .fresh .ensures) _ _ _ (sym (c .before .before .before .before .before .before .before .before .before .before .before .before .before .before .before .too-short .ensures) ∙ c .before .before .before .before .before .before .before .before .before .before .before .before .before .before .if1 .left) (c .before .before .before .act-list .ensures)
+finish-requires c κs =
+    let acted = c .before .before .before in
+    let begun = acted .before .before .before in
+    let laid = begun .before .before .before in
+    let loaded = laid .before .before .before in
+    let roomy = loaded .before .before in
+    list-finish _ _ _ _ _ _ (loads-laid (loaded .load-text .ensures) (laid .c .given .1)) _ _ (begun .fresh .ensures) _ _ _ (sym (roomy .before .too-short .ensures) ∙ roomy .if1 .left) (acted .act-list .ensures)
 
 same-length : tie.Need-same-length
 same-length c = search needs
 
 returns-2 : tie.Need-returns-2
-returns-2 c = rw (c .refused2 .ensures) (list-turned _ _ _ _ (sym (c .before .before .before .before .before .before .before .before .too-short .ensures) ∙ c .before .before .before .before .before .before .before .if1 .left) _ _ (loads-refused _ _ (c .before .before .before .before .before .load-text .ensures) (c .before .before .k .given .1)))
+returns-2 c =
+    let refused = c .before .before in
+    let loaded = refused .before .before .before in
+    let roomy = loaded .before .before in
+    rw (c .refused2 .ensures) (list-turned _ _ _ _ (sym (roomy .before .too-short .ensures) ∙ roomy .if1 .left) _ _ (loads-refused _ _ (loaded .load-text .ensures) (refused .k .given .1)))
 
 same-length-2 : tie.Need-same-length-2
 same-length-2 c = search needs
@@ -50,7 +64,14 @@ same-length-3 : tie.Need-same-length-3
 same-length-3 c = search needs
 
 returns-3 : tie.Need-returns-3
-returns-3 c = list-says _ _ _ _ _ _ (loads-laid (c .before .before .before .before .before .before .before .before .before .before .before .before .before .before .before .before .load-text .ensures) (c .before .before .before .before .before .before .before .before .before .before .before .before .before .c .given .1)) _ _ (c .before .before .before .before .before .before .before .before .before .before .fresh .ensures) _ _ _ (sym (c .before .before .before .before .before .before .before .before .before .before .before .before .before .before .before .before .before .before .before .too-short .ensures) ∙ c .before .before .before .before .before .before .before .before .before .before .before .before .before .before .before .before .before .before .if1 .left) (c .before .before .before .before .before .before .before .act-list .ensures) (c .before .before .before .finish .ensures) (omega (arith, c .before .before .before .before .before .before .before .act-list .kept .0, c .before .before .before .before .before .before .before .before .before .before .fresh .kept .0, c .before .before .before .before .before .before .before .before .before .before .before .before .before .before .before .before .load-text .kept .1 .1 .0))
+returns-3 c =
+    let finished = c .before .before .before in
+    let acted = finished .before .before .before .before in
+    let begun = acted .before .before .before in
+    let laid = begun .before .before .before in
+    let loaded = laid .before .before .before in
+    let roomy = loaded .before .before in
+    list-says _ _ _ _ _ _ (loads-laid (loaded .load-text .ensures) (laid .c .given .1)) _ _ (begun .fresh .ensures) _ _ _ (sym (roomy .before .too-short .ensures) ∙ roomy .if1 .left) (acted .act-list .ensures) (finished .finish .ensures) (omega (arith, acted .act-list .kept .0, begun .fresh .kept .0, loaded .load-text .kept .1 .1 .0))
 
 pub run-list-spec : {M : Type 1} → statement M
 run-list-spec =

@@ -21,7 +21,11 @@ slice-aggregate-load-text : tie.Need-slice-aggregate-load-text
 slice-aggregate-load-text c = search needs
 
 load-text-requires : tie.Need-load-text-requires
-load-text-requires c κs = buffers-enough (length (c .before .before .before .before .before .before .args .output .now)) _ (sym (c .before .before .before .too-short .ensures) ∙ c .before .before .if1 .left) .1
+load-text-requires c κs =
+    let roomy = c .before .before in
+    let sized = roomy .before in
+    let a = sized .before .before .before .args in
+    buffers-enough (length (a .output .now)) _ (sym (sized .too-short .ensures) ∙ roomy .if1 .left) .1
 
 enum-known-k : tie.Need-enum-known-k
 enum-known-k c = search needs
@@ -36,16 +40,30 @@ fresh-requires : tie.Need-fresh-requires
 fresh-requires c κs = fresh-asks _ _ _ _ _ _ (loads-laid (c .before .before .before .before .before .load-text .ensures) (c .before .before .c .given .1))
 
 run-by-rounds-requires : tie.Need-run-by-rounds-requires
-run-by-rounds-requires c κs = rounds-asks _ _ _ _ _ _ (loads-laid (c .before .before .before .before .before .before .before .before .load-text .ensures) (c .before .before .before .before .before .c .given .1)) _ _ (c .before .before .fresh .ensures)
+run-by-rounds-requires c κs =
+    let begun = c .before .before in
+    let laid = begun .before .before .before in
+    let loaded = laid .before .before .before .load-text in
+    rounds-asks _ _ _ _ _ _ (loads-laid (loaded .ensures) (laid .c .given .1)) _ _ (begun .fresh .ensures)
 
 finish-requires : tie.Need-finish-requires
-finish-requires c κs = rounds-finish _ _ _ _ _ _ (loads-laid (c .before .before .before .before .before .before .before .before .before .before .before .before .load-text .ensures) (c .before .before .before .before .before .before .before .before .before .c .given .1)) _ _ (c .before .before .before .before .before .before .fresh .ensures) _ _ _ (sym (c .before .before .before .before .before .before .before .before .before .before .before .before .before .before .before .before .too-short .ensures) ∙ c .before .before .before .before .before .before .before .before .before .before .before .before .before .before .before .if1 .left) (c .before .before .before .run-by-rounds .ensures)
+finish-requires c κs =
+    let ran = c .before .before .before in
+    let begun = ran .before .before .before in
+    let laid = begun .before .before .before in
+    let loaded = laid .before .before .before in
+    let roomy = loaded .before .before .before in
+    rounds-finish _ _ _ _ _ _ (loads-laid (loaded .load-text .ensures) (laid .c .given .1)) _ _ (begun .fresh .ensures) _ _ _ (sym (roomy .before .too-short .ensures) ∙ roomy .if1 .left) (ran .run-by-rounds .ensures)
 
 same-length : tie.Need-same-length
 same-length c = search needs
 
 returns-2 : tie.Need-returns-2
-returns-2 c = rw (c .refused2 .ensures) (rounds-turned _ [] _ _ (sym (c .before .before .before .before .before .before .before .before .before .too-short .ensures) ∙ c .before .before .before .before .before .before .before .before .if1 .left) _ _ (loads-refused _ _ (c .before .before .before .before .before .load-text .ensures) (c .before .before .k .given .1)))
+returns-2 c =
+    let refused = c .before .before in
+    let loaded = refused .before .before .before in
+    let roomy = loaded .before .before .before in
+    rw (c .refused2 .ensures) (rounds-turned _ [] _ _ (sym (roomy .before .too-short .ensures) ∙ roomy .if1 .left) _ _ (loads-refused _ _ (loaded .load-text .ensures) (refused .k .given .1)))
 
 same-length-2 : tie.Need-same-length-2
 same-length-2 c = search needs
@@ -54,7 +72,14 @@ same-length-3 : tie.Need-same-length-3
 same-length-3 c = search needs
 
 returns-3 : tie.Need-returns-3
-returns-3 c = rounds-say _ _ _ _ _ _ (loads-laid (c .before .before .before .before .before .before .before .before .before .before .before .before .before .before .before .before .load-text .ensures) (c .before .before .before .before .before .before .before .before .before .before .before .before .before .c .given .1)) _ _ (c .before .before .before .before .before .before .before .before .before .before .fresh .ensures) _ _ _ (sym (c .before .before .before .before .before .before .before .before .before .before .before .before .before .before .before .before .before .before .before .before .too-short .ensures) ∙ c .before .before .before .before .before .before .before .before .before .before .before .before .before .before .before .before .before .before .before .if1 .left) (c .before .before .before .before .before .before .before .run-by-rounds .ensures) (c .before .before .before .finish .ensures) (omega (arith, c .before .before .before .before .before .before .before .run-by-rounds .kept .0, c .before .before .before .before .before .before .before .before .before .before .fresh .kept .0, c .before .before .before .before .before .before .before .before .before .before .before .before .before .before .before .before .load-text .kept .1 .1 .0))
+returns-3 c =
+    let finished = c .before .before .before in
+    let ran = finished .before .before .before .before in
+    let begun = ran .before .before .before in
+    let laid = begun .before .before .before in
+    let loaded = laid .before .before .before in
+    let roomy = loaded .before .before .before in
+    rounds-say _ _ _ _ _ _ (loads-laid (loaded .load-text .ensures) (laid .c .given .1)) _ _ (begun .fresh .ensures) _ _ _ (sym (roomy .before .too-short .ensures) ∙ roomy .if1 .left) (ran .run-by-rounds .ensures) (finished .finish .ensures) (omega (arith, ran .run-by-rounds .kept .0, begun .fresh .kept .0, loaded .load-text .kept .1 .1 .0))
 
 pub run-rounds-spec : {M : Type 1} → statement M
 run-rounds-spec =

@@ -30,7 +30,11 @@ loop-less : tie.Need-loop-less Inv-loop μ-loop
 loop-less c = omega arith
 
 loop-again : tie.Need-loop-again Inv-loop μ-loop
-loop-again c = edges-step (c .before .before .before .before .before .before .loop .inv) (c .before .before .before .before .before .loop-test .taken) (c .before .before .before .before .load-below .ensures .0) (c .before .before .write-field .ensures) (c .before .before .write-field .kept .0)
+loop-again c =
+    let field = c .before .before in
+    let read = field .before .before in
+    let test = read .before in
+    edges-step (test .before .loop .inv) (test .loop-test .taken) (read .load-below .ensures .0) (field .write-field .ensures) (field .write-field .kept .0)
 
 same-length : tie.Need-same-length Inv-loop μ-loop
 same-length c = c .before .loop .inv .kept

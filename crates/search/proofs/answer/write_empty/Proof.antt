@@ -27,7 +27,11 @@ same-length c = search needs
 
 returns : tie.Need-returns
 returns c =
-    empty-says (c .before .before .before .before .before .before .before .before .before .before .before .before .before .before .reached .ensures) (c .before .before .before .before .before .before .before .before .before .before .before .write-head .ensures) (c .before .before .before .before .before .before .write-bytes .ensures) (c .before .before .write-vertices .ensures)
+    let vertices = c .before .before in
+    let bytes = vertices .before .before .before .before in
+    let head = bytes .before .before .before .before .before in
+    let reached = head .before .before .before .reached in
+    empty-says (reached .ensures) (head .write-head .ensures) (bytes .write-bytes .ensures) (vertices .write-vertices .ensures)
 
 pub write-empty-spec : {M : Type 1} → statement M
 write-empty-spec =

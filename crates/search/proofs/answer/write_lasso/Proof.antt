@@ -27,7 +27,11 @@ same-length c = search needs
 
 returns : tie.Need-returns
 returns c =
-    lasso-says (c .before .before .before .before .before .before .before .before .before .before .before .before .before .before .before .write-head .ensures) (c .before .before .before .before .before .before .before .before .before .before .write-bytes .ensures) (c .before .before .before .before .before .before .write-edges .ensures) (c .before .before .write-edges2 .ensures)
+    let cycle = c .before .before in
+    let stem = cycle .before .before .before .before in
+    let bytes = stem .before .before .before .before in
+    let head = bytes .before .before .before .before .before .write-head in
+    lasso-says (head .ensures) (bytes .write-bytes .ensures) (stem .write-edges .ensures) (cycle .write-edges2 .ensures)
 
 pub write-lasso-spec : {M : Type 1} → statement M
 write-lasso-spec =

@@ -19,8 +19,12 @@ same-length c = search needs
 
 returns : tie.Need-returns
 returns c =
-    rw (toZ-ofZ (c .before .before .before .before .before .before .before .before .before .before .before .before .before .before .fits .distance)) at
-    (vertex-some (c .before .before .before .before .before .before .before .before .before .before .before .before .if1 .taken) (c .before .before .before .before .before .before .before .before .before .before .write-field .ensures) (c .before .before .before .before .before .before .write-signed .ensures) (c .before .before .write-byte .ensures))
+    let byte = c .before .before in
+    let signed = byte .before .before .before .before in
+    let field = signed .before .before .before .before in
+    let reached = field .before .before in
+    rw (toZ-ofZ (reached .before .before .fits .distance)) at
+    (vertex-some (reached .if1 .taken) (field .write-field .ensures) (signed .write-signed .ensures) (byte .write-byte .ensures))
 
 returns-2 : tie.Need-returns-2
 returns-2 c = vertex-none _ _ _ _ (rw (toZ-ofZ (c .before .before .fits .distance)) at (c .if1 .left))

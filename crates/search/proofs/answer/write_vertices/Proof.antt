@@ -38,7 +38,11 @@ loop-less : tie.Need-loop-less Inv-loop μ-loop
 loop-less c = omega arith
 
 loop-again : tie.Need-loop-again Inv-loop μ-loop
-loop-again c = vertices-step (c .before .before .before .before .before .before .loop .inv) (c .before .before .before .before .before .loop-test .taken) (toZ-ofZ (loaded (c .before .before .before)) ∙ c .before .before .before .load .ensures) (c .before .before .write-vertex .ensures) (c .before .before .write-vertex .kept .0)
+loop-again c =
+    let written = c .before .before in
+    let read = written .before in
+    let test = read .before .before in
+    vertices-step (test .before .loop .inv) (test .loop-test .taken) (toZ-ofZ (loaded read) ∙ read .load .ensures) (written .write-vertex .ensures) (written .write-vertex .kept .0)
 
 same-length : tie.Need-same-length Inv-loop μ-loop
 same-length c = c .before .loop .inv .kept

@@ -17,7 +17,9 @@ same-length : tie.Need-same-length
 same-length c = search needs
 
 returns : tie.Need-returns
-returns c = finish-cut _ (sym (c .before .before .before .before .is-over .ensures) ∙ refuted _ _ (c .before .before .before .if1 .taken) refl) (c .before .clear .ensures)
+returns c =
+    let unfinished = c .before .before .before in
+    finish-cut _ (sym (unfinished .before .is-over .ensures) ∙ refuted _ _ (unfinished .if1 .taken) refl) (c .before .clear .ensures)
 
 write-answer-requires : tie.Need-write-answer-requires
 write-answer-requires c κs = search needs
@@ -29,7 +31,11 @@ verdict-requires : tie.Need-verdict-requires
 verdict-requires c κs = search needs
 
 cast-t20 : tie.Need-cast-t20
-cast-t20 c = record { fits = omega (arith, done-written (c .before .before .before .before .before .before .before .before .before .before .before .before .before .pre .gone) (sym (c .before .before .before .before .before .before .before .before .before .before .before .is-over .ensures) ∙ upheld _ _ (c .before .before .before .before .before .before .before .before .before .before .if1 .left) refl) (c .before .before .before .before .before .before .before .write-answer .ensures)) }
+cast-t20 c =
+    let written = c .before .before .before .before .before .before .before in
+    let finished = written .before .before .before in
+    let over = finished .before in
+    record { fits = omega (arith, done-written (over .before .before .pre .gone) (sym (over .is-over .ensures) ∙ upheld _ _ (finished .if1 .left) refl) (written .write-answer .ensures)) }
 
 same-length-2 : tie.Need-same-length-2
 same-length-2 c = search needs
@@ -38,7 +44,11 @@ same-length-3 : tie.Need-same-length-3
 same-length-3 c = search needs
 
 returns-2 : tie.Need-returns-2
-returns-2 c = finish-done _ (sym (c .before .before .before .before .before .before .before .before .before .before .before .is-over .ensures) ∙ upheld _ _ (c .before .before .before .before .before .before .before .before .before .before .if1 .left) refl) (c .before .before .before .before .before .before .before .write-answer .ensures) (c .before .before .clear2 .ensures) (c .before .before .before .before .before .before .before .write-answer .kept .1 .0) (c .verdict .ensures)
+returns-2 c =
+    let cleared = c .before .before in
+    let written = cleared .before .before .before .before .before in
+    let finished = written .before .before .before in
+    finish-done _ (sym (finished .before .is-over .ensures) ∙ upheld _ _ (finished .if1 .left) refl) (written .write-answer .ensures) (cleared .clear2 .ensures) (written .write-answer .kept .1 .0) (c .verdict .ensures)
 
 pub finish-spec : {M : Type 1} → statement M
 finish-spec =

@@ -15,13 +15,22 @@ add-end : tie.Need-add-end
 add-end c = search needs
 
 sub-write-lasso : tie.Need-sub-write-lasso
-sub-write-lasso c = let s = c .before .before .before .before .before .before .before .pre in omega (arith, there (s .0 .gone) (s .1) _ _ _ (c .before .before .before .show-lasso .ensures) .stem .ends)
+sub-write-lasso c =
+    let shown = c .before .before .before in
+    let s = shown .before .before .before .before .pre in
+    omega (arith, there (s .0 .gone) (s .1) _ _ _ (shown .show-lasso .ensures) .stem .ends)
 
 sub-write-lasso-2 : tie.Need-sub-write-lasso-2
-sub-write-lasso-2 c = let s = c .before .before .before .before .before .before .before .pre in omega (arith, there (s .0 .gone) (s .1) _ _ _ (c .before .before .before .show-lasso .ensures) .cycle .ends)
+sub-write-lasso-2 c =
+    let shown = c .before .before .before in
+    let s = shown .before .before .before .before .pre in
+    omega (arith, there (s .0 .gone) (s .1) _ _ _ (shown .show-lasso .ensures) .cycle .ends)
 
 write-lasso-requires : tie.Need-write-lasso-requires
-write-lasso-requires c κs = let s = c .before .before .before .before .before .before .before .pre in asked-written (s .0 .gone) (s .1) _ _ _ (c .before .before .before .show-lasso .ensures)
+write-lasso-requires c κs =
+    let shown = c .before .before .before in
+    let s = shown .before .before .before .before .pre in
+    asked-written (s .0 .gone) (s .1) _ _ _ (shown .show-lasso .ensures)
 
 same-length : tie.Need-same-length
 same-length c = search needs
@@ -30,7 +39,11 @@ same-length-2 : tie.Need-same-length-2
 same-length-2 c = search needs
 
 returns : tie.Need-returns
-returns c = let s = c .before .before .before .before .before .before .before .before .before .before .pre in lasso-shown _ _ _ _ _ _ _ (s .1) (c .before .before .before .before .before .before .show-lasso .ensures) (c .before .before .write-lasso .ensures)
+returns c =
+    let written = c .before .before in
+    let shown = written .before .before .before .before in
+    let s = shown .before .before .before .before .pre in
+    lasso-shown _ _ _ _ _ _ _ (s .1) (shown .show-lasso .ensures) (written .write-lasso .ensures)
 
 pub lasso-answer-spec : {M : Type 1} → statement M
 lasso-answer-spec =

@@ -15,7 +15,9 @@ same-length c = search needs
 
 returns : tie.Need-returns
 returns c =
-    both-loaded (c .before .before .before .before .before .before .before .before .before .before .pre .rows) (c .before .before .before .before .load-vertices .ensures) (c .before .load-edges .ensures)
+    let vertices = c .before .before .before .before in
+    let s = vertices .before .before .before .before .before .before .pre in
+    both-loaded (s .rows) (vertices .load-vertices .ensures) (c .before .load-edges .ensures)
 
 pub load-case-spec : {M : Type 1} → statement M
 load-case-spec =

@@ -33,7 +33,11 @@ sub-fill-number : tie.Need-sub-fill-number
 sub-fill-number c = omega (arith, c .before .if1 .left)
 
 fill-number-requires : tie.Need-fill-number-requires
-fill-number-requires c κs = let p = c .before .before .before .before .before .before .before .before .pre in (omega (arith, p .from, p .most, p .long, c .before .if1 .left, c .before .before .before .store-number2 .kept .0, c .before .before .before .before .before .before .store-number .kept .0), omega (arith, p .number))
+fill-number-requires c κs =
+    let to = c .before .before .before in
+    let from = to .before .before .before in
+    let p = from .before .before .pre in
+    (omega (arith, p .from, p .most, p .long, c .before .if1 .left, to .store-number2 .kept .0, from .store-number .kept .0), omega (arith, p .number))
 
 add-result : tie.Need-add-result
 add-result c = omega (arith, c .before .before .before .before .before .before .before .before .before .before .pre .from)
@@ -43,7 +47,10 @@ same-length-2 c = search needs
 
 returns-2 : tie.Need-returns-2
 returns-2 c =
-    pair-new _ _ _ _ _ _ (omega (arith, c .before .before .before .if1 .left)) (rw (c .before .before .before .before .before .store-number2 .ensures, c .before .before .before .before .before .before .before .before .store-number .ensures) at (c .before .fill-number .ensures))
+    let jump = c .before .before .before in
+    let to = jump .before .before in
+    let from = to .before .before .before .store-number in
+    pair-new _ _ _ _ _ _ (omega (arith, jump .if1 .left)) (rw (to .store-number2 .ensures, from .ensures) at (c .before .fill-number .ensures))
 
 pub load-edge-spec : {M : Type 1} → statement M
 load-edge-spec =

@@ -19,10 +19,14 @@ few : (c : tie.In-loop Inv-loop μ-loop) → c .before .loop .e < most-edges
 few c = omega (arith, c .loop-test .taken, c .before .before .before .before .pre .many)
 
 from-low : (c : tie.In-loop Inv-loop μ-loop) → getD (c .before .before .before .before .args .froms .now) (c .before .loop .e) 0 < most-vertices
-from-low c = omega (arith, c .before .before .before .before .pre .from _ (c .loop-test .taken), c .before .before .before .before .pre .vertices)
+from-low c =
+    let s = c .before .before .before .before .pre in
+    omega (arith, s .from _ (c .loop-test .taken), s .vertices)
 
 to-low : (c : tie.In-loop Inv-loop μ-loop) → getD (c .before .before .before .before .args .tos .now) (c .before .loop .e) 0 < most-vertices
-to-low c = omega (arith, c .before .before .before .before .pre .to _ (c .loop-test .taken), c .before .before .before .before .pre .vertices)
+to-low c =
+    let s = c .before .before .before .before .pre in
+    omega (arith, s .to _ (c .loop-test .taken), s .vertices)
 
 loop-holds : tie.Need-loop-holds Inv-loop μ-loop
 loop-holds c = pairs-start _ _ _ _
@@ -46,7 +50,11 @@ cast-load-edge-2 : tie.Need-cast-load-edge-2 Inv-loop μ-loop
 cast-load-edge-2 c = omega (arith, to-low (c .before .before .before))
 
 load-edge-requires : tie.Need-load-edge-requires Inv-loop μ-loop
-load-edge-requires c κs = pair-asks (c .before .before .before .before .loop .inv) (c .before .before .before .before .before .before .before .pre) (c .before .before .before .loop-test .taken)
+load-edge-requires c κs =
+    let test = c .before .before .before in
+    let loop = test .before in
+    let s = loop .before .before .before .pre in
+    pair-asks (loop .loop .inv) s (test .loop-test .taken)
 
 add-e : tie.Need-add-e Inv-loop μ-loop
 add-e c = omega (arith, few (c .before .before .before .before .before))
@@ -55,7 +63,11 @@ loop-less : tie.Need-loop-less Inv-loop μ-loop
 loop-less c = omega (arith, c .before .before .before .before .before .loop-test .taken)
 
 loop-again : tie.Need-loop-again Inv-loop μ-loop
-loop-again c = pairs-step (c .before .before .before .before .before .before .loop .inv) (c .before .before .before .before .before .before .before .before .before .pre) (c .before .before .before .before .before .loop-test .taken) (c .before .load-edge .ensures)
+loop-again c =
+    let test = c .before .before .before .before .before in
+    let loop = test .before in
+    let s = loop .before .before .before .pre in
+    pairs-step (loop .loop .inv) s (test .loop-test .taken) (c .before .load-edge .ensures)
 
 add-fill-number : tie.Need-add-fill-number Inv-loop μ-loop
 add-fill-number c = omega (arith, c .before .before .loop .inv .within, c .before .before .before .before .before .pre .vertices)
@@ -76,7 +88,11 @@ same-length : tie.Need-same-length Inv-loop μ-loop
 same-length c = omega (arith, c .before .fill-number .kept .0, c .before .before .before .before .loop .inv .long)
 
 returns : tie.Need-returns Inv-loop μ-loop
-returns c = pairs-end (c .before .before .before .before .loop .inv) (c .before .before .before .before .before .before .before .pre) (c .before .before .before .loop-test .left) (c .before .fill-number .ensures)
+returns c =
+    let left = c .before .before .before in
+    let loop = left .before in
+    let s = loop .before .before .before .pre in
+    pairs-end (loop .loop .inv) s (left .loop-test .left) (c .before .fill-number .ensures)
 
 pub load-edges-spec : {M : Type 1} → statement M
 load-edges-spec =

@@ -40,7 +40,11 @@ add-store-number : tie.Need-add-store-number Inv-loop μ-loop
 add-store-number c = omega (arith, few (c .before .before))
 
 store-number-requires : tie.Need-store-number-requires Inv-loop μ-loop
-store-number-requires c κs = (omega (arith, few (c .before .before), c .before .before .before .before .before .before .pre .long, c .before .before .before .loop .inv .long), omega (arith, marked (c .before .before)))
+store-number-requires c κs =
+    let test = c .before .before in
+    let loop = test .before in
+    let s = loop .before .before .before .pre in
+    (omega (arith, few test, s .long, loop .loop .inv .long), omega (arith, marked test))
 
 add-store-number-2 : tie.Need-add-store-number-2 Inv-loop μ-loop
 add-store-number-2 c = omega (arith, few (c .before .before .before .before .before))
@@ -49,16 +53,26 @@ mul-store-number : tie.Need-mul-store-number Inv-loop μ-loop
 mul-store-number c = search needs
 
 shared-slice-read-store-number : tie.Need-shared-slice-read-store-number Inv-loop μ-loop
-shared-slice-read-store-number c = omega (arith, c .before .before .before .before .before .before .loop-test .taken, c .before .before .before .before .before .before .before .before .before .before .pre .owned)
+shared-slice-read-store-number c =
+    let test = c .before .before .before .before .before .before in
+    let s = test .before .before .before .before .pre in
+    omega (arith, test .loop-test .taken, s .owned)
 
 cast-store-number : tie.Need-cast-store-number Inv-loop μ-loop
 cast-store-number c = omega (arith, owned (c .before .before .before .before .before .before))
 
 store-number-requires-2 : tie.Need-store-number-requires-2 Inv-loop μ-loop
-store-number-requires-2 c κs = (omega (arith, few (c .before .before .before .before .before .before), c .before .before .before .before .before .before .before .before .before .before .pre .long, c .before .before .before .before .before .before .before .loop .inv .long, c .before .before .before .store-number .kept .0), omega (arith, owned (c .before .before .before .before .before .before)))
+store-number-requires-2 c κs =
+    let mark = c .before .before .before in
+    let test = mark .before .before .before in
+    let loop = test .before in
+    let s = loop .before .before .before .pre in
+    (omega (arith, few test, s .long, loop .loop .inv .long, mark .store-number .kept .0), omega (arith, owned test))
 
 add-count : tie.Need-add-count Inv-loop μ-loop
-add-count c = omega (arith, few (c .before .before .before .before .before .before .before .before), marked (c .before .before .before .before .before .before .before .before), c .before .before .before .before .before .before .before .before .before .loop .inv .few)
+add-count c =
+    let test = c .before .before .before .before .before .before .before .before in
+    omega (arith, few test, marked test, test .before .loop .inv .few)
 
 add-v : tie.Need-add-v Inv-loop μ-loop
 add-v c = omega (arith, few (c .before .before .before .before .before .before .before .before))
@@ -67,7 +81,12 @@ loop-less : tie.Need-loop-less Inv-loop μ-loop
 loop-less c = omega (arith, c .before .before .before .before .before .before .before .before .loop-test .taken)
 
 loop-again : tie.Need-loop-again Inv-loop μ-loop
-loop-again c = rw (c .before .store-number2 .ensures, c .before .before .before .before .before .store-number .ensures) (rows-step (c .before .before .before .before .before .before .before .before .before .loop .inv) (c .before .before .before .before .before .before .before .before .before .before .before .before .pre) (c .before .before .before .before .before .before .before .before .loop-test .taken))
+loop-again c =
+    let mark = c .before .before .before .before .before in
+    let test = mark .before .before .before in
+    let loop = test .before in
+    let s = loop .before .before .before .pre in
+    rw (c .before .store-number2 .ensures, mark .store-number .ensures) (rows-step (loop .loop .inv) s (test .loop-test .taken))
 
 same-length : tie.Need-same-length Inv-loop μ-loop
 same-length c = c .before .loop .inv .long

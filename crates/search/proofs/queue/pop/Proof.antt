@@ -43,10 +43,12 @@ same-length c = search needs
 returns : tie.Need-returns
 unfolding Pop-says
 returns c = λ q x r rep pw head.
-    let e = c .before .before .before .before .before .before .before .before .load-below .ensures .0 in
+    let unlinked = c .before .before .before in
+    let headed = unlinked .before .before .before in
+    let e = headed .before .before .load-below .ensures .0 in
     let b : busy r ≡ 0 = busy-rest r .0 (sym (next-is q x _ _ _ _ r rep pw head _ e) ∙ c .before .if1 .taken) in
     let m = some-queued q x _ _ _ _ r rep pw head in
-    rw (c .before .before .before .store-number2 .ensures, c .before .before .before .before .before .before .store-number .ensures) (pop-step q x _ _ _ _ r rep pw head _ _ e (omega arith))
+    rw (unlinked .store-number2 .ensures, headed .store-number .ensures) (pop-step q x _ _ _ _ r rep pw head _ _ e (omega arith))
 
 same-length-2 : tie.Need-same-length-2
 same-length-2 c = search needs
@@ -54,9 +56,11 @@ same-length-2 c = search needs
 returns-2 : tie.Need-returns-2
 unfolding Pop-says
 returns-2 c = λ q x r rep pw head.
-    let e = c .before .before .before .before .before .before .before .load-below .ensures .0 in
+    let unlinked = c .before .before in
+    let headed = unlinked .before .before .before in
+    let e = headed .before .before .load-below .ensures .0 in
     let b : busy r ≡ 1 = busy-rest r .1 (λ i. c .if1 .left (next-is q x _ _ _ _ r rep pw head _ e ∙ i)) in
-    rw (c .before .before .store-number2 .ensures, c .before .before .before .before .before .store-number .ensures) (pop-step q x _ _ _ _ r rep pw head _ _ e (omega arith))
+    rw (unlinked .store-number2 .ensures, headed .store-number .ensures) (pop-step q x _ _ _ _ r rep pw head _ _ e (omega arith))
 
 pub pop-spec : {M : Type 1} → statement M
 pop-spec =

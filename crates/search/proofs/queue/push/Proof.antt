@@ -51,8 +51,10 @@ add-load-below-5 : tie.Need-add-load-below-5
 add-load-below-5 c = search needs
 
 load-below-requires-3 : tie.Need-load-below-requires-3
-load-below-requires-3 c κs = let s = c .before .before .before .before .before .before .pre in
-    (omega arith, head-there (s .case) (s .state) _ _ _ (s .rep) (worker-below (s .case) (s .state) _ _ _ (s .rep) (s .below) _ (free (c .before .before .before)) (c .before .load-below2 .ensures .0)))
+load-below-requires-3 c κs =
+    let absent = c .before .before .before in
+    let s = absent .before .before .before .pre in
+    (omega arith, head-there (s .case) (s .state) _ _ _ (s .rep) (worker-below (s .case) (s .state) _ _ _ (s .rep) (s .below) _ (free absent) (c .before .load-below2 .ensures .0)))
 
 add-store-number : tie.Need-add-store-number
 add-store-number c = search needs
@@ -85,15 +87,25 @@ same-length-2 c = search needs
 returns-2 : tie.Need-returns-2
 unfolding Push-says
 returns-2 c = λ q x rep below.
-    rw (c .before .before .store-number3 .ensures, c .before .before .before .before .before .store-number2 .ensures, c .before .before .before .before .before .before .before .before .store-number .ensures)
-    (push-first q x _ _ _ rep below _ (free (c .before .before .before .before .before .before .before .before .before .before .before .before .before .before .before)) (c .before .before .before .before .before .before .before .before .before .before .before .before .before .load-below2 .ensures .0) (c .before .before .before .before .before .before .before .before .before .before .before .load-below3 .ensures .0 ∙ ap pos (c .before .before .before .before .before .before .before .before .before .before .if2 .taken)))
+    let tailed = c .before .before in
+    let headed = tailed .before .before .before in
+    let linked = headed .before .before .before in
+    let empty = linked .before .before in
+    let head = empty .before in
+    let owner = head .before .before in
+    rw (tailed .store-number3 .ensures, headed .store-number2 .ensures, linked .store-number .ensures)
+    (push-first q x _ _ _ rep below _ (free (owner .before .before)) (owner .load-below2 .ensures .0) (head .load-below3 .ensures .0 ∙ ap pos (empty .if2 .taken)))
 
 add-load-below-6 : tie.Need-add-load-below-6
 add-load-below-6 c = search needs
 
 load-below-requires-4 : tie.Need-load-below-requires-4
-load-below-requires-4 c κs = let s = c .before .before .before .before .before .before .before .before .before .pre in
-    (omega arith, tail-there (s .case) (s .state) _ _ _ (s .rep) (s .below) _ (free (c .before .before .before .before .before .before)) (c .before .before .before .before .load-below2 .ensures .0) _ (c .before .before .load-below3 .ensures .0) (c .before .if2 .left))
+load-below-requires-4 c κs =
+    let head = c .before .before in
+    let owner = head .before .before in
+    let absent = owner .before .before in
+    let s = absent .before .before .before .pre in
+    (omega arith, tail-there (s .case) (s .state) _ _ _ (s .rep) (s .below) _ (free absent) (owner .load-below2 .ensures .0) _ (head .load-below3 .ensures .0) (c .before .if2 .left))
 
 add-store-number-5 : tie.Need-add-store-number-5
 add-store-number-5 c = search needs
@@ -122,8 +134,14 @@ same-length-3 c = search needs
 returns-3 : tie.Need-returns-3
 unfolding Push-says
 returns-3 c = λ q x rep below.
-    rw (c .before .store-number6 .ensures, c .before .before .before .before .store-number5 .ensures, c .before .before .before .before .before .before .before .store-number4 .ensures)
-    (push-next q x _ _ _ rep below _ (free (c .before .before .before .before .before .before .before .before .before .before .before .before .before .before .before .before)) (c .before .before .before .before .before .before .before .before .before .before .before .before .before .before .load-below2 .ensures .0) _ _ (c .before .before .before .before .before .before .before .before .before .before .before .before .load-below3 .ensures .0) (c .before .before .before .before .before .before .before .before .before .before .before .if2 .left) (c .before .before .before .before .before .before .before .before .before .load-below4 .ensures .0))
+    let linked = c .before .before .before .before in
+    let joined = linked .before .before .before in
+    let tail = joined .before .before in
+    let filled = tail .before .before in
+    let head = filled .before in
+    let owner = head .before .before in
+    rw (c .before .store-number6 .ensures, linked .store-number5 .ensures, joined .store-number4 .ensures)
+    (push-next q x _ _ _ rep below _ (free (owner .before .before)) (owner .load-below2 .ensures .0) _ _ (head .load-below3 .ensures .0) (filled .if2 .left) (tail .load-below4 .ensures .0))
 
 pub push-spec : {M : Type 1} → statement M
 push-spec =

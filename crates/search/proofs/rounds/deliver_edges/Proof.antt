@@ -29,7 +29,8 @@ abbrev μ-loop : tie.MeasureT-loop
 μ-loop work₀ v p end e₀ r₀ work e r = end - e
 
 -- the numbers that were loaded are the vertex's first edge and the next vertex's
-start-is : (c : tie.After-load-below2 Inv-loop μ-loop) (q : Case) (F : List ℕ) → Laid q (c .before .before .before .before .args .work .now) → c .before .before .before .before .args .v < q .graph .vertices → Firsts (q .graph) F → c .load-below2 .result ≡ getD F (c .before .before .before .before .args .v) 0
+start-is : (c : tie.After-load-below2 Inv-loop μ-loop) (q : Case) (F : List ℕ) → let a = c .before .before .before .before .args in
+    Laid q (a .work .now) → a .v < q .graph .vertices → Firsts (q .graph) F → c .load-below2 .result ≡ getD F (a .v) 0
 start-is c q F laid h f =
     let v = c .before .before .before .before .args .v in
     let l : v ≤ q .graph .vertices = omega arith in
@@ -79,9 +80,12 @@ same-length c = c .before .before .before .loop .inv .0
 returns : tie.Need-returns Inv-loop μ-loop
 unfolding Edges-say
 returns c = λ q x F rep m w h f.
+    let loop = c .before .before .before in
+    let first = loop .before in
+    let end = first .before .before in
     let laid = rep .held .laid in
-    let u = c .before .before .before .loop .inv .1 q x rep m w (end-low (c .before .before .before .before .before .before) q laid h) in
-    edges-rep q x _ _ (c .before .before .before .before .before .before .before .before .args .p) (c .before .before .before .before .load-below2 .result) (c .before .before .before .before .before .before .load-below .result) _ _ w (start-is (c .before .before .before .before) q F laid h f) (end-is (c .before .before .before .before .before .before) q F laid h f)
+    let u = loop .loop .inv .1 q x rep m w (end-low end q laid h) in
+    edges-rep q x _ _ (end .before .before .args .p) (first .load-below2 .result) (end .load-below .result) _ _ w (start-is first q F laid h f) (end-is end q F laid h f)
     (along-over q x _ _ _ _ _ u (over-is q (u .at) _ _ (u .rep) ∙ sym (c .before .is-over .ensures) ∙ c .if1 .taken))
 
 -- the run has not ended where the loop goes on
@@ -89,10 +93,14 @@ goes : (c : tie.Else1 Inv-loop μ-loop) (q : Case) (x : State) → Rep q x (c .b
 goes c q x rep = over-is q x _ _ rep ∙ sym (c .before .is-over .ensures) ∙ c .if1 .left
 
 deliver-requires : tie.Need-deliver-requires Inv-loop μ-loop
-deliver-requires c κs = let s = c .before .before .before .before .before .before .before .before .before .pre in
-    let l = end-low (c .before .before .before .before .before .before .before) (s .case) (s .rep .held .laid) (s .below) in
-    let u = c .before .before .before .before .loop .inv .1 (s .case) (s .state) (s .rep) (s .moment) (s .workers) l in
-    record { case = s .case; state = u .at; rep = u .rep; moment = u .moment; whole = not-broken (u .at) (goes (c .before) (s .case) (u .at) (u .rep)); below = omega (arith, l, c .before .before .before .loop-test .taken) }
+deliver-requires c κs =
+    let test = c .before .before .before in
+    let loop = test .before in
+    let end = loop .before .before .before in
+    let s = end .before .before .pre in
+    let l = end-low end (s .case) (s .rep .held .laid) (s .below) in
+    let u = loop .loop .inv .1 (s .case) (s .state) (s .rep) (s .moment) (s .workers) l in
+    record { case = s .case; state = u .at; rep = u .rep; moment = u .moment; whole = not-broken (u .at) (goes (c .before) (s .case) (u .at) (u .rep)); below = omega (arith, l, test .loop-test .taken) }
 
 add-e : tie.Need-add-e Inv-loop μ-loop
 add-e c = omega (arith, c .before .before .before .before .before .loop-test .taken)
@@ -102,17 +110,20 @@ loop-less c = omega (arith, c .before .before .before .before .before .loop-test
 
 loop-again : tie.Need-loop-again Inv-loop μ-loop
 unfolding Deliver-says
-loop-again c = (
-  omega (arith, c .before .deliver .kept .0, c .before .before .before .before .before .before .loop .inv .0),
-  λ q x rep m w l.
-      let p = c .before .before .before .before .before .before .before .before .before .before .before .args .p in
-      let e = c .before .before .before .before .before .before .loop .e in
-      let z : p + (e + 1) ≡ p + e + 1 = omega arith in
-      let t = c .before .before .before .before .before .loop-test .taken in
-      let u = c .before .before .before .before .before .before .loop .inv .1 q x rep m w l in
-      let o = goes (c .before .before .before) q (u .at) (u .rep) in
-      rw z (along-step q x _ _ (p + e) _ _ _ _ u (omega arith) (act-rep q e p (u .at) _ _ w o (c .before .deliver .ensures q (u .at) (u .rep) (not-broken (u .at) o) (omega arith)))),
-)
+loop-again c =
+    let on = c .before .before .before in
+    let test = on .before .before in
+    let loop = test .before in (
+      omega (arith, c .before .deliver .kept .0, loop .loop .inv .0),
+      λ q x rep m w l.
+          let p = loop .before .before .before .before .before .args .p in
+          let e = loop .loop .e in
+          let z : p + (e + 1) ≡ p + e + 1 = omega arith in
+          let t = test .loop-test .taken in
+          let u = loop .loop .inv .1 q x rep m w l in
+          let o = goes on q (u .at) (u .rep) in
+          rw z (along-step q x _ _ (p + e) _ _ _ _ u (omega arith) (act-rep q e p (u .at) _ _ w o (c .before .deliver .ensures q (u .at) (u .rep) (not-broken (u .at) o) (omega arith)))),
+    )
 
 same-length-2 : tie.Need-same-length-2 Inv-loop μ-loop
 same-length-2 c = c .before .loop .inv .0
@@ -120,9 +131,11 @@ same-length-2 c = c .before .loop .inv .0
 returns-2 : tie.Need-returns-2 Inv-loop μ-loop
 unfolding Edges-say
 returns-2 c = λ q x F rep m w h f.
+    let first = c .before .before in
+    let end = first .before .before in
     let laid = rep .held .laid in
-    edges-rep q x _ _ (c .before .before .before .before .before .before .args .p) (c .before .before .load-below2 .result) (c .before .before .before .before .load-below .result) _ _ w (start-is (c .before .before) q F laid h f) (end-is (c .before .before .before .before) q F laid h f)
-    (along-done q x _ _ _ _ _ (c .before .loop .inv .1 q x rep m w (end-low (c .before .before .before .before) q laid h)) (omega (arith, c .loop-test .left)))
+    edges-rep q x _ _ (end .before .before .args .p) (first .load-below2 .result) (end .load-below .result) _ _ w (start-is first q F laid h f) (end-is end q F laid h f)
+    (along-done q x _ _ _ _ _ (c .before .loop .inv .1 q x rep m w (end-low end q laid h)) (omega (arith, c .loop-test .left)))
 
 pub deliver-edges-spec : {M : Type 1} → statement M
 deliver-edges-spec =

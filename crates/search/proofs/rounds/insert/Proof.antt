@@ -31,13 +31,18 @@ mul-list : tie.Need-mul-list Inv-loop μ-loop
 mul-list c = search needs
 
 slice-write-list : tie.Need-slice-write-list Inv-loop μ-loop
-slice-write-list c = let s = c .before .before .before .loop .inv in omega (arith, s .within, s .long, c .before .before .before .before .pre)
+slice-write-list c =
+    let loop = c .before .before .before in
+    let s = loop .loop .inv in
+    omega (arith, s .within, s .long, loop .before .pre)
 
 same-length : tie.Need-same-length Inv-loop μ-loop
 same-length c = simp length-set (c .before .before .before .loop .inv .long)
 
 returns : tie.Need-returns Inv-loop μ-loop
-returns c = shift-done (c .before .before .before .loop .inv) (c .before .before .before .before .pre) (λ b. c .if1 .taken)
+returns c =
+    let loop = c .before .before .before in
+    shift-done (loop .loop .inv) (loop .before .pre) (λ b. c .if1 .taken)
 
 sub-list : tie.Need-sub-list Inv-loop μ-loop
 sub-list c = omega (arith, c .before .before .loop-test .taken)
@@ -46,13 +51,20 @@ mul-list-2 : tie.Need-mul-list-2 Inv-loop μ-loop
 mul-list-2 c = search needs
 
 slice-read-list : tie.Need-slice-read-list Inv-loop μ-loop
-slice-read-list c = let s = c .before .before .before .before .loop .inv in omega (arith, s .within, s .long, c .before .before .before .before .before .pre, c .before .before .before .loop-test .taken)
+slice-read-list c =
+    let test = c .before .before .before in
+    let loop = test .before in
+    let s = loop .loop .inv in
+    omega (arith, s .within, s .long, loop .before .pre, test .loop-test .taken)
 
 mul-list-3 : tie.Need-mul-list-3 Inv-loop μ-loop
 mul-list-3 c = search needs
 
 slice-write-list-2 : tie.Need-slice-write-list-2 Inv-loop μ-loop
-slice-write-list-2 c = let s = c .before .before .before .before .loop .inv in omega (arith, s .within, s .long, c .before .before .before .before .before .pre)
+slice-write-list-2 c =
+    let loop = c .before .before .before .before in
+    let s = loop .loop .inv in
+    omega (arith, s .within, s .long, loop .before .pre)
 
 sub-i : tie.Need-sub-i Inv-loop μ-loop
 sub-i c = omega (arith, c .before .before .before .loop-test .taken)
@@ -61,7 +73,10 @@ loop-less : tie.Need-loop-less Inv-loop μ-loop
 loop-less c = omega (arith, c .before .before .before .loop-test .taken)
 
 loop-again : tie.Need-loop-again Inv-loop μ-loop
-loop-again c = shift-step (c .before .before .before .before .loop .inv) (c .before .before .before .before .before .pre) (c .before .before .before .loop-test .taken) (c .before .if1 .left)
+loop-again c =
+    let test = c .before .before .before in
+    let loop = test .before in
+    shift-step (loop .loop .inv) (loop .before .pre) (test .loop-test .taken) (c .before .if1 .left)
 
 slice-write-list-3 : tie.Need-slice-write-list-3 Inv-loop μ-loop
 slice-write-list-3 c = let s = c .before .loop .inv in omega (arith, s .within, s .long, c .before .before .pre)

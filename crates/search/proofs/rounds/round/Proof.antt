@@ -20,7 +20,8 @@ use Rattle.search.proofs.rounds.sweep.Reads as sweep-reads
 use Rattle.search.proofs.rounds.turns.Reads as turns-reads
 
 -- what the turns leave
-turned : (c : tie.After-turns) (q : Case) (x : State) → Rep q x (c .before .before .before .args .run) (c .before .before .before .args .work .now) → Moment q x → c .before .before .before .args .p ≡ q .workers → no-message (x .cells) ≡ true
+turned : (c : tie.After-turns) (q : Case) (x : State) → let a = c .before .before .before .args in
+    Rep q x (a .run) (a .work .now) → Moment q x → a .p ≡ q .workers → no-message (x .cells) ≡ true
     → Turns-leave q (acted q (range (q .workers) 0) x) (c .turns .result) (c .turns .last .0) (c .turns .last .1 .1 .1 .0)
 unfolding Turns-say
 turned c q x rep m w e = c .turns .ensures q x rep m w (omega (arith, rep .held .laid .within .workers, c .turns .kept .1)) e
@@ -44,16 +45,18 @@ slice-aggregate-sweep : tie.Need-slice-aggregate-sweep
 slice-aggregate-sweep c = sym (length-take-le _ _ (room (c .before .before .before .before)))
 
 sweep-requires : tie.Need-sweep-requires
-sweep-requires c κs = let s = c .before .before .before .before .before .before .before .pre in
-    let t = turned (c .before .before .before .before) (s .case) (s .state) (s .rep) (s .moment) (s .workers) (s .empty) in
+sweep-requires c κs =
+    let scanned = c .before .before .before .before in
+    let s = scanned .before .before .before .pre in
+    let t = turned scanned (s .case) (s .state) (s .rep) (s .moment) (s .workers) (s .empty) in
     record {
       case = s .case;
       state = acted (s .case) (range (s .case .workers) 0) (s .state);
       rep = t .rep;
       moment = moment-acted (s .case) (range (s .case .workers) 0) (s .state) (s .moment);
       workers = s .workers;
-      listed = listed-front _ _ (room (c .before .before .before .before)) _ (t .listed);
-      only = only-front _ _ (room (c .before .before .before .before)) (s .case) _ (t .only);
+      listed = listed-front _ _ (room scanned) _ (t .listed);
+      only = only-front _ _ (room scanned) (s .case) _ (t .only);
     }
 
 same-length : tie.Need-same-length

@@ -40,15 +40,18 @@ returns c = λ q x rep m w e.
     left-over q x _ _ _ _ u (over-is q (u .at) _ _ (u .rep) ∙ sym (c .before .is-over .ensures) ∙ c .if1 .taken)
 
 round-requires : tie.Need-round-requires Inv-loop μ-loop
-round-requires c κs = let s = c .before .before .before .before .before .pre in
-    let u = c .before .before .before .before .loop .inv .1 (s .case) (s .state) (s .rep) (s .moment) (s .workers) (s .empty) in
+round-requires c κs =
+    let over = c .before .before in
+    let loop = over .before .before in
+    let s = loop .before .pre in
+    let u = loop .loop .inv .1 (s .case) (s .state) (s .rep) (s .moment) (s .workers) (s .empty) in
     record {
       case = s .case;
       state = u .at;
       rep = u .rep;
       moment = u .moment;
       workers = s .workers;
-      empty = u .empty (over-is (s .case) (u .at) _ _ (u .rep) ∙ sym (c .before .before .is-over .ensures) ∙ c .before .if1 .left);
+      empty = u .empty (over-is (s .case) (u .at) _ _ (u .rep) ∙ sym (over .is-over .ensures) ∙ c .before .if1 .left);
     }
 
 sub-left : tie.Need-sub-left Inv-loop μ-loop
@@ -59,13 +62,17 @@ loop-less c = omega (arith, c .before .before .before .before .before .loop-test
 
 loop-again : tie.Need-loop-again Inv-loop μ-loop
 unfolding Round-says
-loop-again c = (
-  omega (arith, c .before .round .kept .0, c .before .before .before .before .before .before .loop .inv .0),
-  λ q x rep m w e.
-      let u = c .before .before .before .before .before .before .loop .inv .1 q x rep m w e in
-      let o = over-is q (u .at) _ _ (u .rep) ∙ sym (c .before .before .before .before .is-over .ensures) ∙ c .before .before .before .if1 .left in
-      left-step q x _ _ _ _ _ _ u (c .before .before .before .before .before .loop-test .taken) o (c .before .round .ensures q (u .at) (u .rep) (u .moment) w (u .empty o)),
-)
+loop-again c =
+    let on = c .before .before .before in
+    let over = on .before in
+    let test = over .before in
+    let loop = test .before .loop in (
+      omega (arith, c .before .round .kept .0, loop .inv .0),
+      λ q x rep m w e.
+          let u = loop .inv .1 q x rep m w e in
+          let o = over-is q (u .at) _ _ (u .rep) ∙ sym (over .is-over .ensures) ∙ on .if1 .left in
+          left-step q x _ _ _ _ _ _ u (test .loop-test .taken) o (c .before .round .ensures q (u .at) (u .rep) (u .moment) w (u .empty o)),
+    )
 
 same-length-2 : tie.Need-same-length-2 Inv-loop μ-loop
 same-length-2 c = c .before .loop .inv .0

@@ -43,7 +43,8 @@ same-length c = search needs
 returns : tie.Need-returns
 unfolding By-rounds-says Rounds-done
 returns c = λ q rep w v e.
-    by-rounds-rep q _ _ _ (many-is q (c .before .before .before .before .args .n) (c .before .before .before .before .args .m) (c .before .before .before .before .args .run .marks) v e (rep .counted .marks))
+    let a = c .before .before .before .before .args in
+    by-rounds-rep q _ _ _ (many-is q (a .n) (a .m) (a .run .marks) v e (rep .counted .marks))
     (c .before .rounds .ensures q (fresh q) rep (moment-fresh q) w (fresh-empty q))
 
 pub run-by-rounds-spec : {M : Type 1} → statement M

@@ -39,12 +39,18 @@ shared-slice-read-deliver-edges : tie.Need-shared-slice-read-deliver-edges Inv-l
 shared-slice-read-deliver-edges c = c .before .before .before .before .loop-test .taken
 
 sub-deliver-edges : tie.Need-sub-deliver-edges Inv-loop μ-loop
-sub-deliver-edges c = c .before .before .before .before .before .before .before .pre .listed .low _ (c .before .before .before .before .loop-test .taken)
+sub-deliver-edges c =
+    let test = c .before .before .before .before in
+    let s = test .before .before .before .pre in
+    s .listed .low _ (test .loop-test .taken)
 
 deliver-edges-requires : tie.Need-deliver-edges-requires Inv-loop μ-loop
-deliver-edges-requires c κs = let s = c .before .before .before .before .before .before .before .pre in
-    let u = c .before .before .before .before .before .loop .inv .2 (s .case) (s .state) (s .rep .held .laid .first) (s .rep) (s .moment) (s .workers) (s .listed) (s .only) (s .rep .held .laid .firsts) in
-    let t = c .before .before .before .before .loop-test .taken in
+deliver-edges-requires c κs =
+    let test = c .before .before .before .before in
+    let loop = test .before in
+    let s = loop .before .before .pre in
+    let u = loop .loop .inv .2 (s .case) (s .state) (s .rep .held .laid .first) (s .rep) (s .moment) (s .workers) (s .listed) (s .only) (s .rep .held .laid .firsts) in
+    let t = test .loop-test .taken in
     record { case = s .case; state = u .state; rep = u .rep; moment = u .moment; workers = s .workers; below = omega (arith, s .listed .low _ t, s .listed .high _ t) }
 
 add-i : tie.Need-add-i Inv-loop μ-loop
@@ -55,8 +61,10 @@ loop-less c = omega (arith, c .before .before .before .before .before .before .l
 
 loop-again : tie.Need-loop-again Inv-loop μ-loop
 unfolding Edges-say
-loop-again c = let v = c .before .before .before .before .before .before .before .loop .inv in
-    let t = c .before .before .before .before .before .before .loop-test .taken in (
+loop-again c =
+    let test = c .before .before .before .before .before .before in
+    let v = test .before .loop .inv in
+    let t = test .loop-test .taken in (
       omega arith,
       omega (arith, c .before .deliver-edges .kept .0, v .1),
       λ q x F rep m e l only f.

@@ -53,8 +53,10 @@ loop-less : tie.Need-loop-less Inv-loop μ-loop
 loop-less c = omega (arith, c .before .before .before .loop-test .taken)
 
 loop-again : tie.Need-loop-again Inv-loop μ-loop
-loop-again c = let i = c .before .before .before .before .loop .inv in
-    let t = c .before .before .before .loop-test .taken in (
+loop-again c =
+    let test = c .before .before .before in
+    let i = test .before .loop .inv in
+    let t = test .loop-test .taken in (
       omega arith,
       omega (arith, i .1),
       i .2,
@@ -65,16 +67,24 @@ loop-again c = let i = c .before .before .before .before .loop .inv in
     )
 
 insert-requires : tie.Need-insert-requires Inv-loop μ-loop
-insert-requires c κs = let i = c .before .before .before .before .before .loop .inv in
-    omega (arith, c .before .before .before .before .before .before .before .pre .room, i .1, i .3, c .before .before .before .before .loop-test .taken)
+insert-requires c κs =
+    let test = c .before .before .before .before in
+    let loop = test .before in
+    let i = loop .loop .inv in
+    omega (arith, loop .before .before .pre .room, i .1, i .3, test .loop-test .taken)
 
 add-scanned : tie.Need-add-scanned Inv-loop μ-loop
-add-scanned c = omega (arith, c .before .before .before .before .before .before .before .before .loop .inv .1, c .before .before .before .before .before .before .before .loop-test .taken)
+add-scanned c =
+    let test = c .before .before .before .before .before .before .before in
+    omega (arith, test .before .loop .inv .1, test .loop-test .taken)
 
 act-requires : tie.Need-act-requires Inv-loop μ-loop
-act-requires c κs = let s = c .before .before .before .before .before .before .before .before .before .before .before .pre in
-    let u = asked (c .before .before .before .before .before .before .before .before .before) in
-    record { case = s .case; state = u .along .at; rep = u .along .rep; moment = u .along .moment; workers = s .workers; below = omega (arith, c .before .before .before .before .before .before .before .before .loop-test .taken) }
+act-requires c κs =
+    let test = c .before .before .before .before .before .before .before .before in
+    let loop = test .before in
+    let s = loop .before .before .pre in
+    let u = asked loop in
+    record { case = s .case; state = u .along .at; rep = u .along .rep; moment = u .along .moment; workers = s .workers; below = omega (arith, test .loop-test .taken) }
 
 add-w-2 : tie.Need-add-w-2 Inv-loop μ-loop
 add-w-2 c = omega (arith, c .before .before .before .before .before .before .before .before .before .before .loop-test .taken)
@@ -84,15 +94,20 @@ loop-less-2 c = omega (arith, c .before .before .before .before .before .before 
 
 loop-again-2 : tie.Need-loop-again-2 Inv-loop μ-loop
 unfolding Act-says
-loop-again-2 c = let i = c .before .before .before .before .before .before .before .before .before .before .before .loop .inv in
-    let t = c .before .before .before .before .before .before .before .before .before .before .loop-test .taken in (
+loop-again-2 c =
+    let inserted = c .before .before .before .before .before in
+    let busy = inserted .before .before in
+    let read = busy .before in
+    let test = read .before .before in
+    let i = test .before .loop .inv in
+    let t = test .loop-test .taken in (
       omega arith,
       omega (arith, i .1),
       omega (arith, c .before .act .kept .0, i .2),
-      omega (arith, c .before .before .before .before .before .insert .kept .0, i .3),
+      omega (arith, inserted .insert .kept .0, i .3),
       λ q x rep m e empty room.
           let u = i .4 q x rep m e empty room in
-          turns-step q x _ e _ _ _ _ _ _ _ _ _ u t (c .before .before .before .before .before .insert .ensures) (head-is q (u .along .at) _ _ _ (u .along .rep) (omega arith) _ (c .before .before .before .before .before .before .before .before .load-below .ensures .0)) (c .before .before .before .before .before .before .before .if1 .left)
+          turns-step q x _ e _ _ _ _ _ _ _ _ _ u t (inserted .insert .ensures) (head-is q (u .along .at) _ _ _ (u .along .rep) (omega arith) _ (read .load-below .ensures .0)) (busy .if1 .left)
           (c .before .act .ensures q (u .along .at) (u .along .rep) (u .along .moment) e (omega arith)),
     )
 

@@ -29,8 +29,11 @@ unfolding Act-says
 returns c = λ q x rep m w l. rw (act-over q (c .before .before .args .a) x (ended (c .before) q x rep ∙ c .if1 .taken)) rep
 
 turn-requires : tie.Need-turn-requires
-turn-requires c κs = let s = c .before .before .before .before .pre in
-    record { case = s .case; state = s .state; rep = s .rep; moment = s .moment; whole = unbroken (s .state) (ended (c .before .before .before) (s .case) (s .state) (s .rep) ∙ c .before .before .if1 .left); worker = omega (arith, s .workers, c .before .if2 .taken) }
+turn-requires c κs =
+    let on = c .before .before in
+    let over = on .before in
+    let s = over .before .pre in
+    record { case = s .case; state = s .state; rep = s .rep; moment = s .moment; whole = unbroken (s .state) (ended over (s .case) (s .state) (s .rep) ∙ on .if1 .left); worker = omega (arith, s .workers, c .before .if2 .taken) }
 
 same-length : tie.Need-same-length
 same-length c = search needs
@@ -38,13 +41,20 @@ same-length c = search needs
 returns-2 : tie.Need-returns-2
 unfolding Act-says Turn-says
 returns-2 c = λ q x rep m w l.
-    let o = ended (c .before .before .before .before .before) q x rep ∙ c .before .before .before .before .if1 .left in
-    let b : c .before .before .before .before .before .before .args .a < q .workers = omega (arith, c .before .before .before .if2 .taken) in
-    rw (act-turn q (c .before .before .before .before .before .before .args .a) x o b) (c .before .turn .ensures q x rep m (unbroken x o) b)
+    let worker = c .before .before .before in
+    let on = worker .before in
+    let over = on .before in
+    let a = over .before .args in
+    let o = ended over q x rep ∙ on .if1 .left in
+    let b : a .a < q .workers = omega (arith, worker .if2 .taken) in
+    rw (act-turn q (a .a) x o b) (c .before .turn .ensures q x rep m (unbroken x o) b)
 
 deliver-requires : tie.Need-deliver-requires
-deliver-requires c κs = let s = c .before .before .before .before .pre in
-    record { case = s .case; state = s .state; rep = s .rep; moment = s .moment; whole = unbroken (s .state) (ended (c .before .before .before) (s .case) (s .state) (s .rep) ∙ c .before .before .if1 .left); below = omega (arith, s .workers, s .below, c .before .if2 .left) }
+deliver-requires c κs =
+    let on = c .before .before in
+    let over = on .before in
+    let s = over .before .pre in
+    record { case = s .case; state = s .state; rep = s .rep; moment = s .moment; whole = unbroken (s .state) (ended over (s .case) (s .state) (s .rep) ∙ on .if1 .left); below = omega (arith, s .workers, s .below, c .before .if2 .left) }
 
 same-length-2 : tie.Need-same-length-2
 same-length-2 c = search needs
@@ -52,9 +62,13 @@ same-length-2 c = search needs
 returns-3 : tie.Need-returns-3
 unfolding Act-says Deliver-says
 returns-3 c = λ q x rep m w l.
-    let o = ended (c .before .before .before .before .before) q x rep ∙ c .before .before .before .before .if1 .left in
-    let b : c .before .before .before .before .before .before .args .p ≤ c .before .before .before .before .before .before .args .a = omega (arith, c .before .before .before .if2 .left) in
-    rw (act-delivery q (c .before .before .before .before .before .before .args .a) (c .before .before .before .before .before .before .args .p) x o w b) (c .before .deliver .ensures q x rep (unbroken x o) (omega arith))
+    let edge = c .before .before .before in
+    let on = edge .before in
+    let over = on .before in
+    let a = over .before .args in
+    let o = ended over q x rep ∙ on .if1 .left in
+    let b : a .p ≤ a .a = omega (arith, edge .if2 .left) in
+    rw (act-delivery q (a .a) (a .p) x o w b) (c .before .deliver .ensures q x rep (unbroken x o) (omega arith))
 
 pub act-spec : {M : Type 1} → statement M
 act-spec =

@@ -34,9 +34,11 @@ cast-a : tie.Need-cast-a Inv-loop μ-loop
 cast-a c = omega (arith, c .shared-slice-known2 .given (c .before .before .loop .i))
 
 act-requires : tie.Need-act-requires Inv-loop μ-loop
-act-requires c κs = let s = c .before .before .before .before .before .pre in
-    let u = c .before .before .before .loop .inv .2 (s .case) (s .state) (s .rep) (s .moment) (s .workers) (s .below) in
-    record { case = s .case; state = u .at; rep = u .rep; moment = u .moment; workers = s .workers; below = s .below (c .before .before .before .loop .i) (omega arith) }
+act-requires c κs =
+    let loop = c .before .before .before in
+    let s = loop .before .before .pre in
+    let u = loop .loop .inv .2 (s .case) (s .state) (s .rep) (s .moment) (s .workers) (s .below) in
+    record { case = s .case; state = u .at; rep = u .rep; moment = u .moment; workers = s .workers; below = s .below (loop .loop .i) (omega arith) }
 
 add-i : tie.Need-add-i Inv-loop μ-loop
 add-i c = omega arith
@@ -46,13 +48,14 @@ loop-less c = omega arith
 
 loop-again : tie.Need-loop-again Inv-loop μ-loop
 unfolding Act-says
-loop-again c = (
-  omega arith,
-  omega (arith, c .before .act .kept .0),
-  λ q x rep m w l.
-      let u = c .before .before .before .before .before .loop .inv .2 q x rep m w l in
-      onward-step q x _ _ _ _ _ _ u (omega arith) (c .before .act .ensures q (u .at) (u .rep) (u .moment) w (l (c .before .before .before .before .before .loop .i) (omega arith))),
-)
+loop-again c =
+    let loop = c .before .before .before .before .before .loop in (
+      omega arith,
+      omega (arith, c .before .act .kept .0),
+      λ q x rep m w l.
+          let u = loop .inv .2 q x rep m w l in
+          onward-step q x _ _ _ _ _ _ u (omega arith) (c .before .act .ensures q (u .at) (u .rep) (u .moment) w (l (loop .i) (omega arith))),
+    )
 
 same-length : tie.Need-same-length Inv-loop μ-loop
 same-length c = c .before .loop .inv .1

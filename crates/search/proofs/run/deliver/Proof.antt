@@ -32,37 +32,45 @@ loaded : (c : tie.After-load) (q : Case) (x : State) → Rep q x (c .before .bef
     → c .load .result ≡ far (getD (x .cells) (c .before .before .args .e) none)
 loaded c q x rep h = c .load .ensures ∙ there (rep .held .cells) (c .before .before .args .e) h
 
-empty : (c : tie.After-missing) (q : Case) (x : State) → Rep q x (c .before .before .before .args .run) (c .before .before .before .args .work .now) → c .before .before .before .args .e < length (q .graph .edges)
-    → c .missing .result ≡ ltZ (pos 0) (far (getD (x .cells) (c .before .before .before .args .e) none))
+empty : (c : tie.After-missing) (q : Case) (x : State) → let a = c .before .before .before .args in
+    Rep q x (a .run) (a .work .now) → a .e < length (q .graph .edges)
+    → c .missing .result ≡ ltZ (pos 0) (far (getD (x .cells) (a .e) none))
 empty c q x rep h =
     none-test (c .missing .result) (c .before .load .result) (getD (x .cells) (c .before .before .before .args .e) none) (record { sfits = c .before .load .ok }) (c .missing .ensures) (loaded (c .before) q x rep h)
 
 -- a message waits
-waits : (c : tie.Else1) (q : Case) (x : State) → Rep q x (c .before .before .before .before .args .run) (c .before .before .before .before .args .work .now) → c .before .before .before .before .args .e < length (q .graph .edges)
-    → (o : ℕ) × (getD (x .cells) (c .before .before .before .before .args .e) none ≡ some o)
+waits : (c : tie.Else1) (q : Case) (x : State) → let a = c .before .before .before .before .args in
+    Rep q x (a .run) (a .work .now) → a .e < length (q .graph .edges)
+    → (o : ℕ) × (getD (x .cells) (a .e) none ≡ some o)
 waits c q x rep h = some-there (getD (x .cells) (c .before .before .before .before .args .e) none) (sym (empty (c .before) q x rep h) ∙ c .if1 .left)
 
-offer-is : (c : tie.Else1) (q : Case) (x : State) → (rep : Rep q x (c .before .before .before .before .args .run) (c .before .before .before .before .args .work .now)) → (h : c .before .before .before .before .args .e < length (q .graph .edges))
-    → toZ w32 (ofZ w32 (c .before .before .load .result)) ≡ negℤ (pos (waits c q x rep h .0))
+offer-is : (c : tie.Else1) (q : Case) (x : State) → let read = c .before .before in let a = read .before .before .args in
+    (rep : Rep q x (a .run) (a .work .now)) → (h : a .e < length (q .graph .edges))
+    → toZ w32 (ofZ w32 (read .load .result)) ≡ negℤ (pos (waits c q x rep h .0))
 offer-is c q x rep h =
     let f : SFits w32 (c .before .before .load .result) = record { sfits = c .before .before .load .ok } in
     toZ-ofZ f ∙ loaded (c .before .before) q x rep h ∙ ap far (waits c q x rep h .1)
 
 -- the cells once it is emptied
-emptied : (c : tie.After-store) (q : Case) (x : State) → (rep : Rep q x (c .before .before .before .before .before .before .args .run) (c .before .before .before .before .before .before .args .work .now)) → (h : c .before .before .before .before .before .before .args .e < length (q .graph .edges))
-    → let k = c .before .before .before .before .before .before .args .run in
-    Rep q (with-cells (set (x .cells) (c .before .before .before .before .before .before .args .e) none) x) (record { queued = k .queued; full = k .full - 1; acts = k .acts; broken = k .broken; marks = k .marks; ended = k .ended }) (c .store .last .0)
+emptied : (c : tie.After-store) (q : Case) (x : State) → let a = c .before .before .before .before .before .before .args in
+    (rep : Rep q x (a .run) (a .work .now)) → (h : a .e < length (q .graph .edges))
+    → let k = a .run in
+    Rep q (with-cells (set (x .cells) (a .e) none) x) (record { queued = k .queued; full = k .full - 1; acts = k .acts; broken = k .broken; marks = k .marks; ended = k .ended }) (c .store .last .0)
 emptied c q x rep h =
     let m = waits (c .before .before) q x rep h in
     let e = c .before .before .before .before .before .before .args .e in
     rw (c .store .ensures) (cell-emptied q x _ _ e (m .0) rep h (m .1) _ (omega (arith, some-full q x _ _ e (m .0) rep h (m .1))))
 
 -- and the offer relaxed
-relaxed : (c : tie.After-relax) (q : Case) (x : State) → (rep : Rep q x (c .before .before .before .before .before .before .before .before .before .before .args .run) (c .before .before .before .before .before .before .before .before .before .before .args .work .now)) → x .broken ≡ none → (h : c .before .before .before .before .before .before .before .before .before .before .args .e < length (q .graph .edges))
-    → let e = c .before .before .before .before .before .before .before .before .before .before .args .e in Rep q (relax q e (waits (c .before .before .before .before .before .before) q x rep h .0) (with-cells (set (x .cells) e none) x)) (c .relax .result) (c .relax .last .0)
+relaxed : (c : tie.After-relax) (q : Case) (x : State) → let waiting = c .before .before .before .before .before .before in let a = waiting .before .before .before .before .args in
+    (rep : Rep q x (a .run) (a .work .now)) → x .broken ≡ none → (h : a .e < length (q .graph .edges))
+    → let e = a .e in Rep q (relax q e (waits waiting q x rep h .0) (with-cells (set (x .cells) e none) x)) (c .relax .result) (c .relax .last .0)
 unfolding Relax-says
 relaxed c q x rep whole h =
-    c .relax .ensures q (with-cells (set (x .cells) (c .before .before .before .before .before .before .before .before .before .before .args .e) none) x) (waits (c .before .before .before .before .before .before) q x rep h .0) (emptied (c .before .before .before .before) q x rep h) whole h (offer-is (c .before .before .before .before .before .before) q x rep h)
+    let stored = c .before .before .before .before in
+    let waiting = stored .before .before in
+    let a = waiting .before .before .before .before .args in
+    c .relax .ensures q (with-cells (set (x .cells) (a .e) none) x) (waits waiting q x rep h .0) (emptied stored q x rep h) whole h (offer-is waiting q x rep h)
 
 add-load : tie.Need-add-load
 add-load c = search needs
@@ -79,8 +87,9 @@ same-length c = search needs
 returns : tie.Need-returns
 unfolding Deliver-says
 returns c = λ q x rep whole h.
-    let s = getD (x .cells) (c .before .before .before .before .args .e) none in
-    rw (delivery-none q (c .before .before .before .before .args .e) x (none-is s (sym (empty (c .before) q x rep h) ∙ c .if1 .taken))) rep
+    let a = c .before .before .before .before .args in
+    let s = getD (x .cells) (a .e) none in
+    rw (delivery-none q (a .e) x (none-is s (sym (empty (c .before) q x rep h) ∙ c .if1 .taken))) rep
 
 add-store : tie.Need-add-store
 add-store c = search needs
@@ -89,28 +98,38 @@ store-requires : tie.Need-store-requires
 store-requires c κs = search needs
 
 sub-r : tie.Need-sub-r
-sub-r c = let s = c .before .before .before .before .before .before .before .before .pre in
-    let m = waits (c .before .before .before .before) (s .case) (s .state) (s .rep) (s .below) in
-    some-full (s .case) (s .state) _ _ (c .before .before .before .before .before .before .before .before .args .e) (m .0) (s .rep) (s .below) (m .1)
+sub-r c =
+    let waiting = c .before .before .before .before in
+    let start = waiting .before .before .before .before in
+    let s = start .pre in
+    let m = waits waiting (s .case) (s .state) (s .rep) (s .below) in
+    some-full (s .case) (s .state) _ _ (start .args .e) (m .0) (s .rep) (s .below) (m .1)
 
 relax-requires : tie.Need-relax-requires
-relax-requires c κs = let s = c .before .before .before .before .before .before .before .before .before .pre in
+relax-requires c κs =
+    let stored = c .before .before .before in
+    let waiting = stored .before .before in
+    let start = waiting .before .before .before .before in
+    let s = start .pre in
     record {
       case = s .case;
-      state = with-cells (set (s .state .cells) (c .before .before .before .before .before .before .before .before .before .args .e) none) (s .state);
-      offer = waits (c .before .before .before .before .before) (s .case) (s .state) (s .rep) (s .below) .0;
-      rep = emptied (c .before .before .before) (s .case) (s .state) (s .rep) (s .below);
+      state = with-cells (set (s .state .cells) (start .args .e) none) (s .state);
+      offer = waits waiting (s .case) (s .state) (s .rep) (s .below) .0;
+      rep = emptied stored (s .case) (s .state) (s .rep) (s .below);
       below = s .below;
-      is = offer-is (c .before .before .before .before .before) (s .case) (s .state) (s .rep) (s .below);
+      is = offer-is waiting (s .case) (s .state) (s .rep) (s .below);
     }
 
 counted-requires : tie.Need-counted-requires
-counted-requires c κs = let s = c .before .before .before .before .before .before .before .before .before .before .before .pre in
-    let e = c .before .before .before .before .before .before .before .before .before .before .before .args .e in
+counted-requires c κs =
+    let waiting = c .before .before .before .before .before .before .before in
+    let start = waiting .before .before .before .before in
+    let s = start .pre in
+    let e = start .args .e in
     omega (
       arith,
       relaxed (c .before) (s .case) (s .state) (s .rep) (s .whole) (s .below) .counted .acts,
-      relax-count (s .case) e (waits (c .before .before .before .before .before .before .before) (s .case) (s .state) (s .rep) (s .below) .0) (with-cells (set (s .state .cells) e none) (s .state)),
+      relax-count (s .case) e (waits waiting (s .case) (s .state) (s .rep) (s .below) .0) (with-cells (set (s .state .cells) e none) (s .state)),
       count-small (s .case) (s .state) (s .rep .held .laid .sound) (s .rep .held .laid .within) (s .moment),
     )
 
@@ -120,8 +139,11 @@ same-length-2 c = search needs
 returns-2 : tie.Need-returns-2
 unfolding Deliver-says
 returns-2 c = λ q x rep whole h.
-    let m = waits (c .before .before .before .before .before .before .before .before) q x rep h in
-    rw (c .counted .ensures, delivery-some q (c .before .before .before .before .before .before .before .before .before .before .before .before .args .e) (m .0) x (m .1)) (counted-rep q _ _ _ (relaxed (c .before .before) q x rep whole h))
+    let taken = c .before .before in
+    let waiting = taken .before .before .before .before .before .before in
+    let a = waiting .before .before .before .before .args in
+    let m = waits waiting q x rep h in
+    rw (c .counted .ensures, delivery-some q (a .e) (m .0) x (m .1)) (counted-rep q _ _ _ (relaxed taken q x rep whole h))
 
 pub deliver-spec : {M : Type 1} → statement M
 deliver-spec =

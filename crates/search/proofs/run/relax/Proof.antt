@@ -149,9 +149,10 @@ same-length-3 c = search needs
 returns-3 : tie.Need-returns-3
 unfolding Relax-says
 returns-3 c = λ q x o rep whole h d.
-    let e = c .before .before .before .before .before .before .args .e in
-    let v = c .before .before .before .before .load-below .result in
-    relax-kept q x _ _ e v o rep (target-is q _ e (rep .held .laid) h v (c .before .before .before .before .load-below .ensures .0)) (sym (tested (c .before) q x o rep h d) ∙ c .if1 .left)
+    let target = c .before .before .before .before in
+    let e = target .before .before .args .e in
+    let v = target .load-below .result in
+    relax-kept q x _ _ e v o rep (target-is q _ e (rep .held .laid) h v (target .load-below .ensures .0)) (sym (tested (c .before) q x o rep h d) ∙ c .if1 .left)
 
 pub relax-spec : {M : Type 1} → statement M
 relax-spec =

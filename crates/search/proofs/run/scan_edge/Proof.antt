@@ -19,12 +19,14 @@ use Rattle.search.proofs.run.relax.Reads as relax-reads
 use Rattle.search.proofs.run.send.Reads as send-reads
 
 -- the target's owner is the number that was loaded
-other-is : (c : tie.After-load-below2) (q : Case) (x : State) → Rep q x (c .before .before .before .before .args .run) (c .before .before .before .before .args .work .now) → c .before .before .before .before .args .e < length (q .graph .edges)
-    → owner q (edge (q .graph) (c .before .before .before .before .args .e) .to) ≡ c .load-below2 .result
+other-is : (c : tie.After-load-below2) (q : Case) (x : State) → let a = c .before .before .before .before .args in
+    Rep q x (a .run) (a .work .now) → a .e < length (q .graph .edges)
+    → owner q (edge (q .graph) (a .e) .to) ≡ c .load-below2 .result
 other-is c q x rep h =
-    let e = c .before .before .before .before .args .e in
-    let to = c .before .before .load-below .result in
-    let g = c .before .before .load-below .ensures .0 in
+    let target = c .before .before in
+    let e = target .before .before .args .e in
+    let to = target .load-below .result in
+    let g = target .load-below .ensures .0 in
     ap (owner q) (sym (target-is q _ e (rep .held .laid) h to g)) ∙ owner-is q _ to (rep .held .laid) (target-below q _ e (rep .held .laid) h to g) _ (c .load-below2 .ensures .0)
 
 add-load-below : tie.Need-add-load-below
@@ -42,8 +44,10 @@ load-below-requires-2 c κs = let s = c .before .before .before .pre in
     (omega arith, owner-there (s .case) _ _ (s .rep .held .laid) (target-below (s .case) _ _ (s .rep .held .laid) (s .below) _ (c .before .load-below .ensures .0)))
 
 relax-requires : tie.Need-relax-requires
-relax-requires c κs = let s = c .before .before .before .before .before .before .pre in
-    record { case = s .case; state = s .state; offer = s .offer; rep = s .rep; below = s .below; is = toZ-ofZ (c .before .before .before .before .before .before .fits .d) ∙ s .is }
+relax-requires c κs =
+    let start = c .before .before .before .before .before .before in
+    let s = start .pre in
+    record { case = s .case; state = s .state; offer = s .offer; rep = s .rep; below = s .below; is = toZ-ofZ (start .fits .d) ∙ s .is }
 
 same-length : tie.Need-same-length
 same-length c = search needs
@@ -51,13 +55,18 @@ same-length c = search needs
 returns : tie.Need-returns
 unfolding Edge-says Relax-says
 returns c = λ q x v o rep whole h from own d.
-    let e = c .before .before .before .before .before .before .before .before .args .e in
-    rw (edge-own q x e v o whole from (other-is (c .before .before .before .before) q x rep h ∙ c .before .before .before .if1 .taken ∙ sym own))
-    (c .before .relax .ensures q x (o + edge-depth (q .graph) e) rep whole h (toZ-ofZ (c .before .before .before .before .before .before .before .before .fits .d) ∙ d))
+    let same = c .before .before .before in
+    let owned = same .before in
+    let start = owned .before .before .before .before in
+    let e = start .args .e in
+    rw (edge-own q x e v o whole from (other-is owned q x rep h ∙ same .if1 .taken ∙ sym own))
+    (c .before .relax .ensures q x (o + edge-depth (q .graph) e) rep whole h (toZ-ofZ (start .fits .d) ∙ d))
 
 send-requires : tie.Need-send-requires
-send-requires c κs = let s = c .before .before .before .before .before .before .pre in
-    record { case = s .case; state = s .state; offer = s .offer; rep = s .rep; below = s .below; is = toZ-ofZ (c .before .before .before .before .before .before .fits .d) ∙ s .is }
+send-requires c κs =
+    let start = c .before .before .before .before .before .before in
+    let s = start .pre in
+    record { case = s .case; state = s .state; offer = s .offer; rep = s .rep; below = s .below; is = toZ-ofZ (start .fits .d) ∙ s .is }
 
 same-length-2 : tie.Need-same-length-2
 same-length-2 c = search needs
@@ -65,9 +74,12 @@ same-length-2 c = search needs
 returns-2 : tie.Need-returns-2
 unfolding Edge-says Send-says
 returns-2 c = λ q x v o rep whole h from own d.
-    let e = c .before .before .before .before .before .before .before .before .args .e in
-    rw (edge-other q x e v o whole from (λ i. c .before .before .before .if1 .left (sym (other-is (c .before .before .before .before) q x rep h) ∙ i ∙ own)))
-    (c .before .send .ensures q x (o + edge-depth (q .graph) e) rep h (toZ-ofZ (c .before .before .before .before .before .before .before .before .fits .d) ∙ d))
+    let apart = c .before .before .before in
+    let owned = apart .before in
+    let start = owned .before .before .before .before in
+    let e = start .args .e in
+    rw (edge-other q x e v o whole from (λ i. apart .if1 .left (sym (other-is owned q x rep h) ∙ i ∙ own)))
+    (c .before .send .ensures q x (o + edge-depth (q .graph) e) rep h (toZ-ofZ (start .fits .d) ∙ d))
 
 pub scan-edge-spec : {M : Type 1} → statement M
 scan-edge-spec =

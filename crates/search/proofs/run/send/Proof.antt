@@ -29,16 +29,19 @@ loaded : (c : tie.After-load) (q : Case) (x : State) → Rep q x (c .before .bef
 loaded c q x rep h = c .load .ensures ∙ there (rep .held .cells) (c .before .before .args .e) h
 
 -- the first test says whether the offer is taken
-tested : (c : tie.After-lower) (q : Case) (x : State) (o : ℕ) → Rep q x (c .before .before .before .args .run) (c .before .before .before .args .work .now) → c .before .before .before .args .e < length (q .graph .edges)
-    → c .before .before .before .args .d ≡ negℤ (pos o) → c .lower .result ≡ takes (getD (x .cells) (c .before .before .before .args .e) none) o
+tested : (c : tie.After-lower) (q : Case) (x : State) (o : ℕ) → let a = c .before .before .before .args in
+    Rep q x (a .run) (a .work .now) → a .e < length (q .graph .edges)
+    → a .d ≡ negℤ (pos o) → c .lower .result ≡ takes (getD (x .cells) (a .e) none) o
 tested c q x o rep h d =
     taken-test _ _ (c .before .load .result) o _ (c .before .before .before .fits .d) (record { sfits = c .before .load .ok }) (c .lower .ensures) d (loaded (c .before) q x rep h)
 
 -- the second whether the cell was empty
-empty : (c : tie.After-missing) (q : Case) (x : State) → Rep q x (c .before .before .before .before .before .before .before .before .args .run) (c .before .before .before .before .before .before .before .before .args .work .now) → c .before .before .before .before .before .before .before .before .args .e < length (q .graph .edges)
-    → c .missing .result ≡ ltZ (pos 0) (far (getD (x .cells) (c .before .before .before .before .before .before .before .before .args .e) none))
+empty : (c : tie.After-missing) (q : Case) (x : State) → let a = c .before .before .before .before .before .before .before .before .args in
+    Rep q x (a .run) (a .work .now) → a .e < length (q .graph .edges)
+    → c .missing .result ≡ ltZ (pos 0) (far (getD (x .cells) (a .e) none))
 empty c q x rep h =
-    none-test (c .missing .result) (c .before .before .before .before .before .before .load .result) (getD (x .cells) (c .before .before .before .before .before .before .before .before .args .e) none) (record { sfits = c .before .before .before .before .before .before .load .ok }) (c .missing .ensures) (loaded (c .before .before .before .before .before .before) q x rep h)
+    let read = c .before .before .before .before .before .before in
+    none-test (c .missing .result) (read .load .result) (getD (x .cells) (read .before .before .args .e) none) (record { sfits = read .load .ok }) (c .missing .ensures) (loaded read q x rep h)
 
 add-load : tie.Need-add-load
 add-load c = search needs
@@ -68,12 +71,16 @@ same-length c = search needs
 returns : tie.Need-returns
 unfolding Send-says one-if
 returns c = λ q x o rep h d.
-    let s = c .before .before .before .before .before .before .before .before .before .before in
-    let e = s .args .e in
-    let t = sym (tested (c .before .before .before .before .before .before .before) q x o rep h d) ∙ c .before .before .before .before .before .before .if1 .taken in
-    let z = none-is (getD (x .cells) e none) (sym (empty (c .before .before) q x rep h) ∙ c .before .if2 .taken) in
+    let asked = c .before .before in
+    let written = asked .before .before in
+    let lower = written .before .before in
+    let compared = lower .before in
+    let start = compared .before .before .before in
+    let e = start .args .e in
+    let t = sym (tested compared q x o rep h d) ∙ lower .if1 .taken in
+    let z = none-is (getD (x .cells) e none) (sym (empty asked q x rep h) ∙ c .before .if2 .taken) in
     let u : one-if (getD (x .cells) e none) ≡ 0 = rw z in
-    rw (stored (c .before .before .before .before .store .last .0) (s .args .work .now) (message-at + e) (s .args .d) o (s .fits .d) (c .before .before .before .before .store .ensures) d) (send-taken q x _ _ e o rep h _ t (omega arith))
+    rw (stored (written .store .last .0) (start .args .work .now) (message-at + e) (start .args .d) o (start .fits .d) (written .store .ensures) d) (send-taken q x _ _ e o rep h _ t (omega arith))
 
 same-length-2 : tie.Need-same-length-2
 same-length-2 c = search needs
@@ -81,11 +88,14 @@ same-length-2 c = search needs
 returns-2 : tie.Need-returns-2
 unfolding Send-says
 returns-2 c = λ q x o rep h d.
-    let s = c .before .before .before .before .before .before .before .before .before in
-    let e = s .args .e in
-    let t = sym (tested (c .before .before .before .before .before .before) q x o rep h d) ∙ c .before .before .before .before .before .if1 .taken in
+    let written = c .before .before .before in
+    let lower = written .before .before in
+    let compared = lower .before in
+    let start = compared .before .before .before in
+    let e = start .args .e in
+    let t = sym (tested compared q x o rep h d) ∙ lower .if1 .taken in
     let u = some-is (getD (x .cells) e none) (sym (empty (c .before) q x rep h) ∙ c .if2 .left) in
-    rw (stored (c .before .before .before .store .last .0) (s .args .work .now) (message-at + e) (s .args .d) o (s .fits .d) (c .before .before .before .store .ensures) d) (send-taken q x _ _ e o rep h _ t (omega arith))
+    rw (stored (written .store .last .0) (start .args .work .now) (message-at + e) (start .args .d) o (start .fits .d) (written .store .ensures) d) (send-taken q x _ _ e o rep h _ t (omega arith))
 
 same-length-3 : tie.Need-same-length-3
 same-length-3 c = search needs

@@ -31,34 +31,44 @@ use Rattle.search.proofs.run.counted.Reads as counted-reads
 use Rattle.search.proofs.run.scan.Reads as scan-reads
 
 -- the queue, by its head
-split : (c : tie.Else1) (q : Case) (x : State) → Rep q x (c .before .before .before .args .run) (c .before .before .before .args .work .now) → c .before .before .before .args .p < q .workers
-    → (r : List ℕ) × (getD (x .queues) (c .before .before .before .args .p) [] ≡ (c .before .load-below .result - 2) ∷ r)
+split : (c : tie.Else1) (q : Case) (x : State) → let a = c .before .before .before .args in
+    Rep q x (a .run) (a .work .now) → a .p < q .workers
+    → (r : List ℕ) × (getD (x .queues) (a .p) [] ≡ (c .before .load-below .result - 2) ∷ r)
 split c q x rep pw = link-split (getD (x .queues) (c .before .before .before .args .p) []) (c .before .load-below .result) (head-is q x _ _ (c .before .before .before .args .p) rep pw _ (c .before .load-below .ensures .0)) (c .if1 .left)
 
 -- the cells after the head has left
-popped : (c : tie.After-pop) (q : Case) (x : State) → (rep : Rep q x (c .before .before .before .before .before .args .run) (c .before .before .before .before .before .args .work .now)) → (pw : c .before .before .before .before .before .args .p < q .workers)
-    → Rep q (with-queues (set (x .queues) (c .before .before .before .before .before .args .p) (split (c .before .before) q x rep pw .0)) x) (c .pop .result) (c .pop .last .0)
+popped : (c : tie.After-pop) (q : Case) (x : State) → let busy = c .before .before in let a = busy .before .before .before .args in
+    (rep : Rep q x (a .run) (a .work .now)) → (pw : a .p < q .workers)
+    → Rep q (with-queues (set (x .queues) (a .p) (split busy q x rep pw .0)) x) (c .pop .result) (c .pop .last .0)
 unfolding Pop-says
 popped c q x rep pw = c .pop .ensures q x (split (c .before .before) q x rep pw .0) rep pw (split (c .before .before) q x rep pw .1)
 
 -- its distance is the depth that the model reads
-read-is : (c : tie.After-load) (q : Case) (x : State) → Rep q x (c .before .before .before .before .before .before .before .before .args .run) (c .before .before .before .before .before .before .before .before .args .work .now) → c .before .before .before .before .before .before .before .before .args .p < q .workers → Moment q x
-    → let v = c .before .before .before .before .before .before .load-below .result - 2 in c .load .result ≡ negℤ (pos (depth-or (getD (x .depths) v none)))
+read-is : (c : tie.After-load) (q : Case) (x : State) → let head = c .before .before .before .before .before .before in let a = head .before .before .args in
+    Rep q x (a .run) (a .work .now) → a .p < q .workers → Moment q x
+    → let v = head .load-below .result - 2 in c .load .result ≡ negℤ (pos (depth-or (getD (x .depths) v none)))
 read-is c q x rep pw m =
-    let v = c .before .before .before .before .before .before .load-below .result - 2 in
-    let s = split (c .before .before .before .before .before) q x rep pw in
-    c .load .ensures ∙ there (popped (c .before .before .before) q x rep pw .held .depths) v (head-below q x _ _ _ v (s .0) rep pw (s .1)) ∙ ap far (head-depth q (rep .held .laid .sound) _ v (s .0) x (moment-known q (rep .held .laid .sound) x m .paid .shape) (s .1))
+    let gone = c .before .before .before in
+    let busy = gone .before .before in
+    let v = busy .before .load-below .result - 2 in
+    let s = split busy q x rep pw in
+    c .load .ensures ∙ there (popped gone q x rep pw .held .depths) v (head-below q x _ _ _ v (s .0) rep pw (s .1)) ∙ ap far (head-depth q (rep .held .laid .sound) _ v (s .0) x (moment-known q (rep .held .laid .sound) x m .paid .shape) (s .1))
 
 -- the cells after the scan
-done : (c : tie.After-scan) (q : Case) (x : State) → (rep : Rep q x (c .before .before .before .before .before .before .before .before .before .before .args .run) (c .before .before .before .before .before .before .before .before .before .before .args .work .now)) → (pw : c .before .before .before .before .before .before .before .before .before .before .args .p < q .workers) → Moment q x
-    → let v = c .before .before .before .before .before .before .before .before .load-below .result - 2 in
-    Rep q (scan q v (depth-or (getD (x .depths) v none)) (with-queues (set (x .queues) (c .before .before .before .before .before .before .before .before .before .before .args .p) (split (c .before .before .before .before .before .before .before) q x rep pw .0)) x)) (c .scan .result) (c .scan .last .0)
+done : (c : tie.After-scan) (q : Case) (x : State) → let busy = c .before .before .before .before .before .before .before in let head = busy .before in let a = head .before .before .args in
+    (rep : Rep q x (a .run) (a .work .now)) → (pw : a .p < q .workers) → Moment q x
+    → let v = head .load-below .result - 2 in
+    Rep q (scan q v (depth-or (getD (x .depths) v none)) (with-queues (set (x .queues) (a .p) (split busy q x rep pw .0)) x)) (c .scan .result) (c .scan .last .0)
 unfolding Scan-says
 done c q x rep pw m =
-    let v = c .before .before .before .before .before .before .before .before .load-below .result - 2 in
-    let f : SFits w32 (c .before .before .load .result) = record { sfits = c .before .before .load .ok } in
-    let t = split (c .before .before .before .before .before .before .before) q x rep pw in
-    c .scan .ensures q (with-queues (set (x .queues) (c .before .before .before .before .before .before .before .before .before .before .args .p) (t .0)) x) (depth-or (getD (x .depths) v none)) (popped (c .before .before .before .before .before) q x rep pw) (head-below q x _ _ _ v (t .0) rep pw (t .1)) (toZ-ofZ f ∙ read-is (c .before .before) q x rep pw m)
+    let read = c .before .before in
+    let gone = read .before .before .before in
+    let busy = gone .before .before in
+    let head = busy .before in
+    let v = head .load-below .result - 2 in
+    let f : SFits w32 (read .load .result) = record { sfits = read .load .ok } in
+    let t = split busy q x rep pw in
+    c .scan .ensures q (with-queues (set (x .queues) (head .before .before .args .p) (t .0)) x) (depth-or (getD (x .depths) v none)) (popped gone q x rep pw) (head-below q x _ _ _ v (t .0) rep pw (t .1)) (toZ-ofZ f ∙ read-is read q x rep pw m)
 
 add-load-below : tie.Need-add-load-below
 add-load-below c = search needs
@@ -78,8 +88,10 @@ unfolding Turn-says
 returns c = λ q x rep m whole pw. turn-idle q x _ _ (c .before .before .before .args .p) rep _ refl (head-is q x _ _ _ rep pw _ (c .before .load-below .ensures .0) ∙ c .if1 .taken)
 
 sub-v : tie.Need-sub-v
-sub-v c = let s = c .before .before .before .pre in
-    link-two (getD (s .state .queues) (c .before .before .before .args .p) []) (c .before .load-below .result) (head-is (s .case) (s .state) _ _ (c .before .before .before .args .p) (s .rep) (s .worker) _ (c .before .load-below .ensures .0)) (c .if1 .left)
+sub-v c =
+    let start = c .before .before .before in
+    let s = start .pre in
+    link-two (getD (s .state .queues) (start .args .p) []) (c .before .load-below .result) (head-is (s .case) (s .state) _ _ (start .args .p) (s .rep) (s .worker) _ (c .before .load-below .ensures .0)) (c .if1 .left)
 
 pop-requires : tie.Need-pop-requires
 pop-requires c κs = let s = c .before .before .before .before .pre in
@@ -93,28 +105,38 @@ load-requires : tie.Need-load-requires
 load-requires c κs = search needs
 
 scan-requires : tie.Need-scan-requires
-scan-requires c κs = let s = c .before .before .before .before .before .before .before .before .before .pre in
-    let v = c .before .before .before .before .before .before .before .load-below .result - 2 in
-    let t = split (c .before .before .before .before .before .before) (s .case) (s .state) (s .rep) (s .worker) in
-    let f : SFits w32 (c .before .load .result) = record { sfits = c .before .load .ok } in
+scan-requires c κs =
+    let read = c .before in
+    let gone = read .before .before .before in
+    let busy = gone .before .before in
+    let head = busy .before in
+    let start = head .before .before in
+    let s = start .pre in
+    let v = head .load-below .result - 2 in
+    let t = split busy (s .case) (s .state) (s .rep) (s .worker) in
+    let f : SFits w32 (read .load .result) = record { sfits = read .load .ok } in
     record {
       case = s .case;
-      state = with-queues (set (s .state .queues) (c .before .before .before .before .before .before .before .before .before .args .p) (t .0)) (s .state);
+      state = with-queues (set (s .state .queues) (start .args .p) (t .0)) (s .state);
       depth = depth-or (getD (s .state .depths) v none);
-      rep = popped (c .before .before .before .before) (s .case) (s .state) (s .rep) (s .worker);
+      rep = popped gone (s .case) (s .state) (s .rep) (s .worker);
       below = head-below (s .case) (s .state) _ _ _ v (t .0) (s .rep) (s .worker) (t .1);
-      is = toZ-ofZ f ∙ read-is (c .before) (s .case) (s .state) (s .rep) (s .worker) (s .moment);
+      is = toZ-ofZ f ∙ read-is read (s .case) (s .state) (s .rep) (s .worker) (s .moment);
       low = depth-low (s .case) (s .state) _ v (t .0) (s .rep .held .laid .sound) (s .rep .held .laid .within) (s .moment) (s .whole) (t .1);
     }
 
 counted-requires : tie.Need-counted-requires
-counted-requires c κs = let s = c .before .before .before .before .before .before .before .before .before .before .before .pre in
-    let v = c .before .before .before .before .before .before .before .before .before .load-below .result - 2 in
-    let t = split (c .before .before .before .before .before .before .before .before) (s .case) (s .state) (s .rep) (s .worker) in
+counted-requires c κs =
+    let busy = c .before .before .before .before .before .before .before .before in
+    let head = busy .before in
+    let start = head .before .before in
+    let s = start .pre in
+    let v = head .load-below .result - 2 in
+    let t = split busy (s .case) (s .state) (s .rep) (s .worker) in
     omega (
       arith,
       done (c .before) (s .case) (s .state) (s .rep) (s .worker) (s .moment) .counted .acts,
-      scan-count (s .case) v (depth-or (getD (s .state .depths) v none)) (with-queues (set (s .state .queues) (c .before .before .before .before .before .before .before .before .before .before .before .args .p) (t .0)) (s .state)),
+      scan-count (s .case) v (depth-or (getD (s .state .depths) v none)) (with-queues (set (s .state .queues) (start .args .p) (t .0)) (s .state)),
       count-small (s .case) (s .state) (s .rep .held .laid .sound) (s .rep .held .laid .within) (s .moment),
     )
 
@@ -124,8 +146,11 @@ same-length-2 c = search needs
 returns-2 : tie.Need-returns-2
 unfolding Turn-says
 returns-2 c = λ q x rep m whole pw.
-    let t = split (c .before .before .before .before .before .before .before .before .before) q x rep pw in
-    rw (c .counted .ensures, turn-is q x (c .before .before .before .before .before .before .before .before .before .before .before .before .args .p) (c .before .before .before .before .before .before .before .before .before .before .load-below .result - 2) (t .0) (t .1)) (counted-rep q _ _ _ (done (c .before .before) q x rep pw m))
+    let scanned = c .before .before in
+    let busy = scanned .before .before .before .before .before .before .before in
+    let head = busy .before in
+    let t = split busy q x rep pw in
+    rw (c .counted .ensures, turn-is q x (head .before .before .args .p) (head .load-below .result - 2) (t .0) (t .1)) (counted-rep q _ _ _ (done scanned q x rep pw m))
 
 pub turn-spec : {M : Type 1} → statement M
 turn-spec =

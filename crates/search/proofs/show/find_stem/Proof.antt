@@ -33,7 +33,8 @@ searching : (c : tie.At-loop Inv-loop μ-loop) →
 unfolding Started
 searching c q l s n = c .loop .inv .1 q (laid-kept q found-at _ _ (omega arith) (c .before .before .start-search .ensures .0) l) s n
 
-few : (c : tie.At-loop Inv-loop μ-loop) → (c .before .before .before .before .args .n ≤ most-vertices) × (c .loop .tail ≤ c .before .before .before .before .args .n)
+few : (c : tie.At-loop Inv-loop μ-loop) → let a = c .before .before .before .before .args in
+    (a .n ≤ most-vertices) × (c .loop .tail ≤ a .n)
 few c =
     let s = c .before .before .before .before .pre .start in
     let l = laid c (s .case) (s .laid) in
@@ -57,10 +58,11 @@ add-load-below-2 c = search needs
 
 load-below-requires : tie.Need-load-below-requires Inv-loop μ-loop
 load-below-requires c κs =
-    let p = c .before .before .before .before .before .before .pre in
+    let loop = c .before .before in
+    let p = loop .before .before .before .before .pre in
     let s = p .start in
-    let l = laid (c .before .before) (s .case) (s .laid) in
-    (omega (arith, few (c .before .before) .0, p .goal-below, l .long), goal-mark _ _ _ _ _ l (searching (c .before .before) (s .case) (s .laid) (s .source-is) (s .vertices)) (omega (arith, p .goal-below, s .vertices)))
+    let l = laid loop (s .case) (s .laid) in
+    (omega (arith, few loop .0, p .goal-below, l .long), goal-mark _ _ _ _ _ l (searching loop (s .case) (s .laid) (s .source-is) (s .vertices)) (omega (arith, p .goal-below, s .vertices)))
 
 same-length : tie.Need-same-length Inv-loop μ-loop
 same-length c = kept (c .before .before .before .before) .long
@@ -73,22 +75,30 @@ returns c =
 
 scan-head-requires : tie.Need-scan-head-requires Inv-loop μ-loop
 scan-head-requires c κs =
-    let i = c .before .before .before .before .before in
-    let s = i .before .before .before .before .pre .start in
-    record { case = s .case; laid = laid i (s .case) (s .laid); search = searching i (s .case) (s .laid) (s .source-is) (s .vertices); on = c .before .before .before .before .loop-test .taken }
+    let test = c .before .before .before .before in
+    let loop = test .before in
+    let s = loop .before .before .before .before .pre .start in
+    record { case = s .case; laid = laid loop (s .case) (s .laid); search = searching loop (s .case) (s .laid) (s .source-is) (s .vertices); on = test .loop-test .taken }
 
 add-head : tie.Need-add-head Inv-loop μ-loop
-add-head c = let f = few (c .before .before .before .before .before .before .before) in omega (arith, f .0, f .1, c .before .before .before .before .before .before .loop-test .taken)
+add-head c =
+    let test = c .before .before .before .before .before .before in
+    let f = few (test .before) in
+    omega (arith, f .0, f .1, test .loop-test .taken)
 
 loop-less : tie.Need-loop-less Inv-loop μ-loop
-loop-less c = let f = few (c .before .before .before .before .before .before .before) in omega (arith, f .1, c .before .before .before .before .before .before .loop-test .taken)
+loop-less c =
+    let test = c .before .before .before .before .before .before in
+    let f = few (test .before) in
+    omega (arith, f .1, test .loop-test .taken)
 
 loop-again : tie.Need-loop-again Inv-loop μ-loop
 unfolding Scans
 loop-again c =
-    let i = c .before .before .before .before .before .before .before .loop .inv in
+    let test = c .before .before .before .before .before .before in
+    let i = test .before .loop .inv in
     let t = c .before .scan-head .ensures in
-    (kept-more _ _ _ _ (i .0) (t .0), λ q l s n. t .1 q (laid-kept q found-at _ _ (omega arith) (i .0) l) (i .1 q l s n) (c .before .before .before .before .before .before .loop-test .taken))
+    (kept-more _ _ _ _ (i .0) (t .0), λ q l s n. t .1 q (laid-kept q found-at _ _ (omega arith) (i .0) l) (i .1 q l s n) (test .loop-test .taken))
 
 same-length-2 : tie.Need-same-length-2 Inv-loop μ-loop
 same-length-2 c = kept (c .before) .long

@@ -53,8 +53,9 @@ add-load-below-6 c = search needs
 
 load-below-requires-3 : tie.Need-load-below-requires-3 Inv-loop μ-loop
 load-below-requires-3 c κs =
-    let s = c .before .before .before .before .before .pre in
-    let a = c .before .before .before .load-below .ensures in
+    let vertex = c .before .before .before in
+    let s = vertex .before .before .pre in
+    let a = vertex .load-below .ensures in
     (omega (arith, a .1, s .laid .long), first-there _ _ _ _ (s .laid) (s .search) (s .on) _ (a .0))
 
 loop-holds : tie.Need-loop-holds Inv-loop μ-loop
@@ -62,13 +63,14 @@ loop-holds c =
     let a = c .before .before .before .before .load-below .ensures in
     (omega arith, kept-same _ _, λ q l s i. scan-start q _ _ _ l s i _ (a .0) _ _ (c .load-below3 .ensures .0) (c .before .before .load-below2 .ensures .0))
 
-edge : (c : tie.In-loop Inv-loop μ-loop) →
-    let s = c .before .before .before .before .before .before .before .before in
-    (q : Case) → Laid q (s .args .work .now) → Searching q (s .args .head) 0 (s .args .tail) (s .args .work .now) → s .args .head < s .args .tail →
-    (c .before .loop .e < length (q .graph .edges)) × (edge-of (q .graph) (c .before .loop .e) .from ≡ c .before .before .before .before .before .before .load-below .result)
+edge : (c : tie.In-loop Inv-loop μ-loop) → let vertex = c .before .before .before .before .before .before in let a = vertex .before .before .args in
+    (q : Case) → Laid q (a .work .now) → Searching q (a .head) 0 (a .tail) (a .work .now) → a .head < a .tail →
+    (c .before .loop .e < length (q .graph .edges)) × (edge-of (q .graph) (c .before .loop .e) .from ≡ vertex .load-below .result)
 edge c q l s i =
-    let a = c .before .before .before .before .before .before .load-below .ensures in
-    scan-edge q _ _ _ l s i _ (a .0) _ _ (c .before .before .load-below3 .ensures .0) (c .before .before .before .before .load-below2 .ensures .0) _ (c .before .loop .inv .0) (c .loop-test .taken)
+    let first = c .before .before in
+    let end = first .before .before in
+    let a = end .before .before .load-below .ensures in
+    scan-edge q _ _ _ l s i _ (a .0) _ _ (first .load-below3 .ensures .0) (end .load-below2 .ensures .0) _ (c .before .loop .inv .0) (c .loop-test .taken)
 
 try-edge-requires : tie.Need-try-edge-requires Inv-loop μ-loop
 try-edge-requires c κs =
@@ -94,9 +96,10 @@ loop-less c = omega arith
 loop-again : tie.Need-loop-again Inv-loop μ-loop
 unfolding Tried
 loop-again c =
-    let i = c .before .before .before .before .loop .inv in
+    let test = c .before .before .before in
+    let i = test .before .loop .inv in
     let t = c .before .try-edge .ensures in
-    (omega (arith, i .0), kept-more _ _ _ _ (i .1) (t .0), λ q l s h. let b = edge (c .before .before .before) q l s h in t .1 q _ _ (laid-kept q found-at _ _ (omega arith) (i .1) l) (i .2 q l s h) (b .0) (b .1))
+    (omega (arith, i .0), kept-more _ _ _ _ (i .1) (t .0), λ q l s h. let b = edge test q l s h in t .1 q _ _ (laid-kept q found-at _ _ (omega arith) (i .1) l) (i .2 q l s h) (b .0) (b .1))
 
 same-length : tie.Need-same-length Inv-loop μ-loop
 same-length c = c .before .loop .inv .1 .long
@@ -104,9 +107,11 @@ same-length c = c .before .loop .inv .1 .long
 returns : tie.Need-returns Inv-loop μ-loop
 unfolding Scans
 returns c =
-    let a = c .before .before .before .before .before .before .load-below .ensures in
+    let first = c .before .before in
+    let end = first .before .before in
+    let a = end .before .before .load-below .ensures in
     let i = c .before .loop .inv in
-    (i .1, λ q l s h. scan-done q _ _ _ l s h _ (a .0) _ _ (c .before .before .load-below3 .ensures .0) (c .before .before .before .before .load-below2 .ensures .0) _ _ _ (i .2 q l s h) (omega arith))
+    (i .1, λ q l s h. scan-done q _ _ _ l s h _ (a .0) _ _ (first .load-below3 .ensures .0) (end .load-below2 .ensures .0) _ _ _ (i .2 q l s h) (omega arith))
 
 pub scan-head-spec : {M : Type 1} → statement M
 scan-head-spec =

@@ -53,9 +53,11 @@ take-stem-requires c κs =
 
 take-cycle-requires : tie.Need-take-cycle-requires
 take-cycle-requires c κs =
-    let s = c .before .before .before .before .before .before .before .before .before .pre in
-    let t = start (c .before .before .before .before .before .before .before) (s .case) (s .parents) (s .lies) (s .broke) (s .vertices) in
-    (omega (arith, s .vertices, s .lies .laid .within .vertices), record { case = s .case; parents = s .parents; lies = lies-kept _ _ found-at _ _ (omega arith) (kept (c .before .before)) (s .lies); chained = t .1 })
+    let stem = c .before .before in
+    let back = stem .before .before .before .before .before in
+    let s = back .before .before .pre in
+    let t = start back (s .case) (s .parents) (s .lies) (s .broke) (s .vertices) in
+    (omega (arith, s .vertices, s .lies .laid .within .vertices), record { case = s .case; parents = s .parents; lies = lies-kept _ _ found-at _ _ (omega arith) (kept stem) (s .lies); chained = t .1 })
 
 same-length : tie.Need-same-length
 same-length c = search needs

@@ -25,8 +25,9 @@ same-length c = search needs
 returns : tie.Need-returns
 unfolding Started
 returns c =
-    let f = c .before .before .before .before .before .before .before .fill-number .ensures in
-    rw (c .before .store-number2 .ensures, c .before .before .before .before .store-number .ensures)
+    let stored = c .before .before .before .before in
+    let f = stored .before .before .before .fill-number .ensures in
+    rw (c .before .store-number2 .ensures, stored .store-number .ensures)
     (kept-more _ _ _ _ (kept-filled _ _ _ _ _ _ f (omega arith)) (kept-more _ _ _ _ (kept-set _ _ _ _ (omega arith)) (kept-set _ _ _ _ (omega arith))), λ q l s n. search-start q _ _ _ _ l s n f)
 
 pub start-search-spec : {M : Type 1} → statement M

@@ -28,23 +28,27 @@ under c = let s = c .before .pre .1 in c .loop .inv .3 (s .case) (s .parents) (s
 
 put : (c : tie.After-store-number Inv-loop μ-loop) → Kept cycle-at (c .before .before .before .before .before .loop .work) (c .store-number .last .0)
 put c =
-    let i = c .before .before .before .before .before .loop in
-    rw (c .store-number .ensures) (kept-set cycle-at _ (i .at - 1) _ (omega (arith, i .inv .0, c .before .before .before .before .loop-test .taken)))
+    let test = c .before .before .before .before in
+    let i = test .before .loop in
+    rw (c .store-number .ensures) (kept-set cycle-at _ (i .at - 1) _ (omega (arith, i .inv .0, test .loop-test .taken)))
 
-step : (c : tie.After-one-back Inv-loop μ-loop) →
-    let s = c .before .before .before .before .before .before .before .before .before .args in
-    let i = c .before .before .before .before .before .before .before .before .loop in
+step : (c : tie.After-one-back Inv-loop μ-loop) → let stored = c .before .before .before in let loop = stored .before .before .before .before .before in
+    let s = loop .before .args in
+    let i = loop .loop in
     (k : ℕ) → (c .one-back .result ≡ s .start → k ≡ 0) → ((c .one-back .result ≡ s .start → ⊥) → k ≡ i .left - 1) →
     (q : Case) (ps : List (Option ℕ)) → Lies q ps (s .work .now) → Chained (q .graph) ps (s .start) →
-    Circling q ps (s .start) (s .n) (c .one-back .result) k (i .at - 1) (c .before .before .before .store-number .last .0)
+    Circling q ps (s .start) (s .n) (c .one-back .result) k (i .at - 1) (stored .store-number .last .0)
 unfolding Parent-is One-back-is
 step c k y z q ps l f =
-    let i = c .before .before .before .before .before .before .before .before .loop in
-    let t = c .before .before .before .before .before .before .before .loop-test .taken in
+    let stored = c .before .before .before in
+    let parent = stored .before .before in
+    let test = parent .before .before in
+    let i = test .before .loop in
+    let t = test .loop-test .taken in
     let r = i .inv .3 q ps l f in
-    let e = c .before .before .before .before .before .parent-edge .ensures q ps (r .lies) (r .chained) in
-    let u = c .one-back .ensures q ps (lies-kept q ps cycle-at _ _ (omega arith) (put (c .before .before .before)) (r .lies)) (r .chained) in
-    rw (c .before .before .before .store-number .ensures) (circling-step q ps _ _ _ (i .left) (i .at) _ _ _ k r (omega (arith, t)) (omega (arith, i .inv .0, t)) e u y z)
+    let e = parent .parent-edge .ensures q ps (r .lies) (r .chained) in
+    let u = c .one-back .ensures q ps (lies-kept q ps cycle-at _ _ (omega arith) (put stored) (r .lies)) (r .chained) in
+    rw (stored .store-number .ensures) (circling-step q ps _ _ _ (i .left) (i .at) _ _ _ k r (omega (arith, t)) (omega (arith, i .inv .0, t)) e u y z)
 
 add-at : tie.Need-add-at Inv-loop μ-loop
 add-at c = search needs
@@ -64,16 +68,19 @@ sub-at c = omega (arith, c .before .before .before .loop .inv .0)
 store-number-requires : tie.Need-store-number-requires Inv-loop μ-loop
 unfolding Parent-is
 store-number-requires c κs =
-    let i = c .before .before .before .before .loop .inv in
-    let r = under (c .before .before .before .before) in
+    let loop = c .before .before .before .before in
+    let i = loop .loop .inv in
+    let r = under loop in
     let e = c .before .parent-edge .ensures _ _ (r .lies) (r .chained) in
     (omega (arith, i .0, i .1, r .lies .laid .long), omega (arith, r .lies .real _ _ e, r .lies .laid .within .edges))
 
 one-back-requires : tie.Need-one-back-requires Inv-loop μ-loop
 one-back-requires c κs =
-    let s = c .before .before .before .before .before .before .before .before .pre .1 in
-    let r = under (c .before .before .before .before .before .before .before) in
-    record { case = s .case; parents = s .parents; lies = lies-kept _ _ cycle-at _ _ (omega arith) (put (c .before .before)) (r .lies); chained = r .chained }
+    let stored = c .before .before in
+    let loop = stored .before .before .before .before .before in
+    let s = loop .before .pre .1 in
+    let r = under loop in
+    record { case = s .case; parents = s .parents; lies = lies-kept _ _ cycle-at _ _ (omega arith) (put stored) (r .lies); chained = r .chained }
 
 sub-left : tie.Need-sub-left Inv-loop μ-loop
 sub-left c = omega arith
@@ -83,7 +90,9 @@ loop-less c = omega arith
 
 loop-again : tie.Need-loop-again Inv-loop μ-loop
 loop-again c =
-    let k = kept-more _ _ _ _ (c .before .before .before .before .before .before .before .before .before .loop .inv .2) (put (c .before .before .before .before)) in
+    let stored = c .before .before .before .before in
+    let loop = stored .before .before .before .before .before .loop in
+    let k = kept-more _ _ _ _ (loop .inv .2) (put stored) in
     (omega arith, omega arith, k, step (c .before) 0 (λ e. refl) (λ n. absurd (n (c .if1 .taken))))
 
 loop-less-2 : tie.Need-loop-less-2 Inv-loop μ-loop
@@ -91,7 +100,9 @@ loop-less-2 c = omega arith
 
 loop-again-2 : tie.Need-loop-again-2 Inv-loop μ-loop
 loop-again-2 c =
-    let k = kept-more _ _ _ _ (c .before .before .before .before .before .before .before .before .before .loop .inv .2) (put (c .before .before .before .before)) in
+    let stored = c .before .before .before .before in
+    let loop = stored .before .before .before .before .before .loop in
+    let k = kept-more _ _ _ _ (loop .inv .2) (put stored) in
     (omega arith, omega arith, k, step (c .before) _ (λ e. absurd (c .if1 .left e)) (λ n. refl))
 
 same-length : tie.Need-same-length Inv-loop μ-loop

@@ -58,9 +58,10 @@ add-load-below-5 c = search needs
 
 load-below-requires-3 : tie.Need-load-below-requires-3 Inv-loop μ-loop
 load-below-requires-3 c κs =
-    let s = here (c .before .before .before .before) in
+    let test = c .before .before .before in
+    let s = here (test .before) in
     let a = c .before .load-below2 .ensures in
-    (omega (arith, a .1, s .laid .long), stem-mark _ _ _ _ _ s (c .before .before .before .loop-test .taken) _ (a .0))
+    (omega (arith, a .1, s .laid .long), stem-mark _ _ _ _ _ s (test .loop-test .taken) _ (a .0))
 
 sub-at : tie.Need-sub-at Inv-loop μ-loop
 sub-at c = omega (arith, room (c .before .before .before .before))
@@ -76,11 +77,13 @@ loop-less c = omega (arith, room (c .before .before .before .before .before .bef
 
 loop-again : tie.Need-loop-again Inv-loop μ-loop
 loop-again c =
-    let i = c .before .before .before .before .before .before .before in
-    let a = c .before .before .before .before .before .load-below2 .ensures in
-    let m = c .before .before .before .load-below3 .ensures in
+    let found = c .before .before .before in
+    let from = found .before .before in
+    let test = from .before .before in
+    let a = from .load-below2 .ensures in
+    let m = found .load-below3 .ensures in
     rw (c .before .store-number .ensures)
-    (kept-more _ _ _ _ (i .before .loop .inv .0) (kept-set _ _ _ _ (omega (arith, room i))), λ q d r. stem-step q _ _ _ _ (i .before .loop .inv .1 q d r) (i .loop-test .taken) _ (a .0) _ (m .0))
+    (kept-more _ _ _ _ (test .before .loop .inv .0) (kept-set _ _ _ _ (omega (arith, room test))), λ q d r. stem-step q _ _ _ _ (test .before .loop .inv .1 q d r) (test .loop-test .taken) _ (a .0) _ (m .0))
 
 same-length : tie.Need-same-length Inv-loop μ-loop
 same-length c = c .before .loop .inv .0 .long

@@ -11,8 +11,9 @@ use Rattle.search.proofs.show.try_edge.Tie as tie
 
 room : (c : tie.Else1) → c .before .before .before .before .before .args .tail < most-vertices
 room c =
-    let s = c .before .before .before .before .before .pre in
-    let a = c .before .before .before .load-below .ensures .0 in
+    let target = c .before .before .before in
+    let s = target .before .before .pre in
+    let a = target .load-below .ensures .0 in
     omega (arith, try-room _ _ _ _ _ _ (s .laid) (s .scanning) (s .below) (s .leaves) _ a _ (c .before .load-below2 .ensures .0) (c .if1 .left), s .laid .within .vertices)
 
 add-load-below : tie.Need-add-load-below
@@ -53,8 +54,11 @@ add-store-number-3 c = omega (arith, room (c .before .before .before .before))
 
 store-number-requires-2 : tie.Need-store-number-requires-2
 store-number-requires-2 c κs =
-    let s = c .before .before .before .before .before .before .before .before .before .pre in
-    (omega (arith, room (c .before .before .before .before), s .laid .long, c .before .before .store-number .kept .0), omega (arith, c .before .before .before .before .before .before .before .load-below .ensures .1))
+    let marked = c .before .before in
+    let new = marked .before .before in
+    let target = new .before .before .before in
+    let s = target .before .before .pre in
+    (omega (arith, room new, s .laid .long, marked .store-number .kept .0), omega (arith, target .load-below .ensures .1))
 
 add-result : tie.Need-add-result
 add-result c = omega (arith, room (c .before .before .before .before .before .before))
@@ -65,10 +69,13 @@ same-length-2 c = search needs
 returns-2 : tie.Need-returns-2
 unfolding Tried
 returns-2 c =
-    let a = c .before .before .before .before .before .before .before .before .before .load-below .ensures in
-    let p = c .before .before .before .before .before .before .before .load-below2 .ensures in
-    let z = c .before .before .before .before .before .before .if1 .left in
-    rw (c .before .store-number2 .ensures, c .before .before .before .before .store-number .ensures)
+    let marked = c .before .before .before .before in
+    let new = marked .before .before in
+    let found = new .before in
+    let a = found .before .before .load-below .ensures in
+    let p = found .load-below2 .ensures in
+    let z = new .if1 .left in
+    rw (c .before .store-number2 .ensures, marked .store-number .ensures)
     (kept-more _ _ _ _ (kept-set _ _ _ _ (omega arith)) (kept-set _ _ _ _ (omega arith)), λ q h v d s b l. try-grow q h v _ _ _ d s b l _ (a .0) _ (p .0) z)
 
 pub try-edge-spec : {M : Type 1} → statement M
