@@ -18,7 +18,7 @@ use Rattle.text.proofs.ReadingRows.{Parted, Spaced, spaced, fields-more}
 use Rattle.text.proofs.Reading.{Row, No-row, leading-fault}
 use Rattle.model.specs.Answer.{lasso-word, empty-word}
 use Rattle.model.specs.Passing.{says-lasso, says-empty, head-layout}
-use Rattle.checker.specs.Checking.{counts-here, head-here}
+use Rattle.checker.specs.Checking.{counts-here, counts-of, head-here}
 use Rattle.checker.specs.declared.opening.Head.{Head}
 use Rattle.checker.specs.declared.opening.Head.the-variants.{Says, Fault}
 
@@ -27,7 +27,7 @@ pub counts-none : {s : List ℕ} {at : ℕ} (b : Bool) → No-row 3 s at → Fau
 unfolding counts-here
 counts-none b r = sym (rw (r .none) refl)
 
-pub counts-some : {s : List ℕ} {at x y k z : ℕ} (b : Bool) → Row s at (x ∷ y ∷ k ∷ []) z → Says b x y k z ≡ counts-here s at b
+pub counts-some : {s : List ℕ} {at x y k z : ℕ} (b : Bool) → Row s at (x ∷ y ∷ k ∷ []) z → Says b (record { stem = x; cycle = y; reached = k }) z ≡ counts-here s at b
 unfolding counts-here
 counts-some b r = sym (rw (r .line, r .are 0 (omega arith), r .are 1 (omega arith), r .are 2 (omega arith), r .past) refl)
 
@@ -39,10 +39,10 @@ layout-in c fs =
     && (is-number (getD fs 2 []) && (is-number (getD fs 3 []) && is-number (getD fs 4 []))))
 
 abbrev head-in : (closed : Bool) → List (List ℕ) → (past : ℕ) → Head
-head-in c fs z = cond (layout-in c fs) (Says (equal (getD fs 1 []) lasso-word) (value (getD fs 2 [])) (value (getD fs 3 [])) (value (getD fs 4 [])) z) Fault
+head-in c fs z = cond (layout-in c fs) (Says (equal (getD fs 1 []) lasso-word) (record { stem = value (getD fs 2 []); cycle = value (getD fs 3 []); reached = value (getD fs 4 []) }) z) Fault
 
 head-is : (s : List ℕ) (at : ℕ) {c : Bool} {fs : List (List ℕ)} {z : ℕ} → line-here s at .closed ≡ c → fields (line-here s at .text) ≡ fs → past-line s at ≡ z → head-here s at ≡ head-in c fs z
-unfolding head-here head-layout says-lasso says-empty number-at field
+unfolding head-here counts-of head-layout says-lasso says-empty number-at field
 head-is s at {c} {fs} {z} hc hf hz =
     ap (λ (t : Bool). head-in t (fields (line-here s at .text)) (past-line s at)) hc
     ∙ ap (λ (gs : List (List ℕ)). head-in c gs (past-line s at)) hf

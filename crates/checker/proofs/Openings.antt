@@ -1,6 +1,6 @@
 -- Lines 1 and 2 of an answer, fault by fault, and what they say where there is none; then what decides after them.
 -- Assumes nothing.
-use mathlib.Core.Path.{_≡_, refl, sym, _∙_}
+use mathlib.Core.Path.{_≡_, refl, sym, ap, _∙_}
 use mathlib.Core.Bool.{Bool, true, false, _&&_, cond, and-false}
 use mathlib.Core.List.{List, [], _∷_}
 use Prim.Native.Nat.{ℕ, suc, _+_, _-_, _≤_, _<_}
@@ -8,7 +8,7 @@ use native.Mathlib.Omega.{arith}
 use lib.Dec.{ltb, eqb}
 use lib.ListN.{length, drop, length-drop}
 use borrow.Author.Tests.{eqb-true, eqb-false, ltb-true, ltb-false, lt-ltb, le-ltb, ne-eqb}
-use Rattle.text.specs.Lines.{lines, line-at, line-is}
+use Rattle.text.specs.Lines.{Line, lines, line-at, line-is}
 use Rattle.text.specs.Numbers.{number-at}
 use Rattle.text.specs.Reading.{line-here, past-line, skip}
 use Rattle.text.proofs.Reading.{Line-named}
@@ -22,35 +22,46 @@ use Rattle.model.specs.Entry.{Check-says}
 use Rattle.model.specs.declared.Checked.{Checked}
 use Rattle.text.proofs.Places.{skip-one, skip-last, skip-lines, skip-line}
 use Rattle.casefile.proofs.Refusals.{first-one, first-append, first-decides}
-use Rattle.checker.specs.Checking.{Told, head-here, counts-right, opening-refusal, opening, edge-lines-refusal, vertex-lines-refusal}
+use Rattle.checker.specs.Checking.{Told, counts-of, head-here, counts-right, opening-refusal, opening, edge-lines-refusal, vertex-lines-refusal}
+use Rattle.checker.specs.declared.opening.Counts.{Counts}
 use Rattle.checker.specs.declared.opening.Head.{Head}
 use Rattle.checker.specs.declared.opening.Head.the-variants.{Says, Fault}
 use Rattle.checker.specs.declared.opening.Opening.the-variants.{Refused, Lasso, Empty}
 
+-- THE COUNTS one by one
+module _ (l : Line) {c : Counts} (e : counts-of l ≡ c) where
+  stem-is : number-at l 2 ≡ c .stem
+  unfolding counts-of
+  stem-is = ap (λ (k : Counts). k .stem) e
+
+  cycle-is : number-at l 3 ≡ c .cycle
+  unfolding counts-of
+  cycle-is = ap (λ (k : Counts). k .cycle) e
+
+  reached-is : number-at l 4 ≡ c .reached
+  unfolding counts-of
+  reached-is = ap (λ (k : Counts). k .reached) e
+
 -- LINE 2 as its reader gives it
-pub record Headed (s : List ℕ) (at : ℕ) (b : Bool) (x y k z : ℕ) : Type 0 where
+pub record Headed (s : List ℕ) (at : ℕ) (b : Bool) (c : Counts) (z : ℕ) : Type 0 where
   pub layout : head-layout (line-here s at) ≡ true
   pub word : says-lasso (line-here s at) ≡ b
-  pub stem : number-at (line-here s at) 2 ≡ x
-  pub cycle : number-at (line-here s at) 3 ≡ y
-  pub reached : number-at (line-here s at) 4 ≡ k
+  pub counts : counts-of (line-here s at) ≡ c
   pub past : past-line s at ≡ z
 
-pub headed : {s : List ℕ} {at : ℕ} {r : Head} {b : Bool} {x y k z : ℕ} → r ≡ head-here s at → r ≡ Says b x y k z → Headed s at b x y k z
+pub headed : {s : List ℕ} {at : ℕ} {r : Head} {b : Bool} {c : Counts} {z : ℕ} → r ≡ head-here s at → r ≡ Says b c z → Headed s at b c z
 unfolding head-here
-headed {s} {at} {r} {b} {x} {y} {k} {z} e f = go (head-layout (line-here s at)) refl (sym e ∙ f)
+headed {s} {at} {r} {b} {c} {z} e f = go (head-layout (line-here s at)) refl (sym e ∙ f)
   where
-    go : (t : Bool) → head-layout (line-here s at) ≡ t → let l = line-here s at in
-        cond t (Says (says-lasso l) (number-at l 2) (number-at l 3) (number-at l 4) (past-line s at)) Fault ≡ Says b x y k z → Headed s at b x y k z
-    go true h q = record { layout = h; word = cc; stem = cc; cycle = cc; reached = cc; past = cc }
+    go : (t : Bool) → head-layout (line-here s at) ≡ t → let l = line-here s at in cond t (Says (says-lasso l) (counts-of l) (past-line s at)) Fault ≡ Says b c z → Headed s at b c z
+    go true h q = record { layout = h; word = cc; counts = cc; past = cc }
     go false h q = let n : _≡_ {A = ℕ} 0 1 = cc in absurd (omega arith)
 
 pub no-head : (s : List ℕ) (at : ℕ) {r : Head} → r ≡ head-here s at → r ≡ Fault → head-layout (line-here s at) ≡ false
 unfolding head-here
 no-head s at {r} e f = go (head-layout (line-here s at)) refl (sym e ∙ f)
   where
-    go : (t : Bool) → head-layout (line-here s at) ≡ t → let l = line-here s at in
-        cond t (Says (says-lasso l) (number-at l 2) (number-at l 3) (number-at l 4) (past-line s at)) Fault ≡ Fault → head-layout (line-here s at) ≡ false
+    go : (t : Bool) → head-layout (line-here s at) ≡ t → let l = line-here s at in cond t (Says (says-lasso l) (counts-of l) (past-line s at)) Fault ≡ Fault → head-layout (line-here s at) ≡ false
     go true h q = let n : _≡_ {A = ℕ} 0 1 = cc in absurd (omega arith)
     go false h q = h
 
@@ -84,55 +95,54 @@ module _ (s : List ℕ) (short : length s ≤ longest-file) where
         pub unheaded : head-layout (line-here s z) ≡ false → Refused 12 ≡ opening s
         unheaded h = mislaid (rw (rw line-2 at h, and-false) refl)
 
-        module _ {b : Bool} {x y k q : ℕ} (h : Headed s z b x y k q) where
+        module _ {b : Bool} {c : Counts} {q : ℕ} (h : Headed s z b c q) where
           laid : (line-is answer-names (line-at (lines s) 0) && head-layout (line-at (lines s) 1)) ≡ true
           laid = both-true _ _ (named .line) (rw line-2 at (h .layout))
 
-          counts : counts-fit (line-at (lines s) 1) ≡ counts-right b x y k
+          counts : counts-fit (line-at (lines s) 1) ≡ counts-right b (c .stem) (c .cycle) (c .reached)
           unfolding counts-fit counts-right
-          counts = rw (← line-2, h .word, h .stem, h .cycle, h .reached) refl
+          counts = rw (← line-2, h .word, stem-is _ (h .counts), cycle-is _ (h .counts), reached-is _ (h .counts)) refl
 
           place : skip 2 s 0 ≡ q
           place = skip-last 1 s 0 ∙ (rw (skip-one s 0, named .past) (h .past))
 
-          pub miscounted : counts-right b x y k ≡ false → Refused 12 ≡ opening s
+          pub miscounted : counts-right b (c .stem) (c .cycle) (c .reached) ≡ false → Refused 12 ≡ opening s
           miscounted g =
               opening-refused s 11 (unfold opening-refusal in (rw (le-ltb longest-file (length s) short, begun, version, laid, counts ∙ g) (unfold refuse first-of in refl)))
 
-          module _ (g : counts-right b x y k ≡ true) where
+          module _ (g : counts-right b (c .stem) (c .cycle) (c .reached) ≡ true) where
             right : opening-refusal s ≡ 0
             unfolding opening-refusal
             right = rw (le-ltb longest-file (length s) short, begun, version, laid, counts ∙ g) (unfold refuse first-of in refl)
 
-            pub says-a-lasso : b ≡ true → Lasso x y q ≡ opening s
+            pub says-a-lasso : b ≡ true → Lasso c q ≡ opening s
             unfolding opening
-            says-a-lasso e = sym (rw (right, ← line-2, h .word, e, h .stem, h .cycle, place) refl)
+            says-a-lasso e = sym (rw (right, ← line-2, h .word, e, h .counts, place) refl)
 
-            pub says-none : b ≡ false → Empty k q ≡ opening s
+            pub says-none : b ≡ false → Empty (c .reached) q ≡ opening s
             unfolding opening
-            says-none e = sym (rw (right, ← line-2, h .word, e, h .reached, place) refl)
+            says-none e = sym (rw (right, ← line-2, h .word, e, h .counts, place) refl)
 
 -- WHAT THEY SAY where there is no fault
-pub record Said-lasso (s : List ℕ) (x y z : ℕ) : Type 0 where
+pub record Said-lasso (s : List ℕ) (c : Counts) (z : ℕ) : Type 0 where
   pub right : opening-refusal s ≡ 0
   pub word : says-lasso (line-at (lines s) 1) ≡ true
-  pub stem : number-at (line-at (lines s) 1) 2 ≡ x
-  pub cycle : number-at (line-at (lines s) 1) 3 ≡ y
+  pub counts : counts-of (line-at (lines s) 1) ≡ c
   pub place : skip 2 s 0 ≡ z
 
 pub record Said-empty (s : List ℕ) (k z : ℕ) : Type 0 where
   pub right : opening-refusal s ≡ 0
   pub word : says-lasso (line-at (lines s) 1) ≡ false
-  pub reached : number-at (line-at (lines s) 1) 4 ≡ k
+  pub reached : counts-of (line-at (lines s) 1) .reached ≡ k
   pub place : skip 2 s 0 ≡ z
 
-pub said-lasso : (s : List ℕ) {x y z : ℕ} → opening s ≡ Lasso x y z → Said-lasso s x y z
+pub said-lasso : (s : List ℕ) {c : Counts} {z : ℕ} → opening s ≡ Lasso c z → Said-lasso s c z
 unfolding opening
-said-lasso s {x} {y} {z} h = go (eqb (opening-refusal s) 0) (says-lasso (line-at (lines s) 1)) refl refl h
+said-lasso s {c} {z} h = go (eqb (opening-refusal s) 0) (says-lasso (line-at (lines s) 1)) refl refl h
   where
     go : (t b : Bool) → eqb (opening-refusal s) 0 ≡ t → says-lasso (line-at (lines s) 1) ≡ b → let l = line-at (lines s) 1 in
-        cond t (cond b (Lasso (number-at l 2) (number-at l 3) (skip 2 s 0)) (Empty (number-at l 4) (skip 2 s 0))) (Refused (opening-refusal s)) ≡ Lasso x y z → Said-lasso s x y z
-    go true true e f q = record { right = eqb-true (opening-refusal s) 0 e; word = f; stem = cc; cycle = cc; place = cc }
+        cond t (cond b (Lasso (counts-of l) (skip 2 s 0)) (Empty (counts-of l .reached) (skip 2 s 0))) (Refused (opening-refusal s)) ≡ Lasso c z → Said-lasso s c z
+    go true true e f q = record { right = eqb-true (opening-refusal s) 0 e; word = f; counts = cc; place = cc }
     go true false e f q = let n : _≡_ {A = ℕ} 0 1 = cc in absurd (omega arith)
     go false b e f q = let n : _≡_ {A = ℕ} 0 1 = cc in absurd (omega arith)
 
@@ -141,7 +151,7 @@ unfolding opening
 said-empty s {k} {z} h = go (eqb (opening-refusal s) 0) (says-lasso (line-at (lines s) 1)) refl refl h
   where
     go : (t b : Bool) → eqb (opening-refusal s) 0 ≡ t → says-lasso (line-at (lines s) 1) ≡ b → let l = line-at (lines s) 1 in
-        cond t (cond b (Lasso (number-at l 2) (number-at l 3) (skip 2 s 0)) (Empty (number-at l 4) (skip 2 s 0))) (Refused (opening-refusal s)) ≡ Empty k z → Said-empty s k z
+        cond t (cond b (Lasso (counts-of l) (skip 2 s 0)) (Empty (counts-of l .reached) (skip 2 s 0))) (Refused (opening-refusal s)) ≡ Empty k z → Said-empty s k z
     go true false e f q = record { right = eqb-true (opening-refusal s) 0 e; word = f; reached = cc; place = cc }
     go true true e f q = let n : _≡_ {A = ℕ} 0 1 = cc in absurd (omega arith)
     go false b e f q = let n : _≡_ {A = ℕ} 0 1 = cc in absurd (omega arith)
@@ -151,7 +161,7 @@ unfolding opening
 said-refused s {k} h = go (eqb (opening-refusal s) 0) (says-lasso (line-at (lines s) 1)) refl h
   where
     go : (t b : Bool) → eqb (opening-refusal s) 0 ≡ t → let l = line-at (lines s) 1 in
-        cond t (cond b (Lasso (number-at l 2) (number-at l 3) (skip 2 s 0)) (Empty (number-at l 4) (skip 2 s 0))) (Refused (opening-refusal s)) ≡ Refused k → (opening-refusal s ≡ k) × (k ≡ 0 → ⊥)
+        cond t (cond b (Lasso (counts-of l) (skip 2 s 0)) (Empty (counts-of l .reached) (skip 2 s 0))) (Refused (opening-refusal s)) ≡ Refused k → (opening-refusal s ≡ k) × (k ≡ 0 → ⊥)
     go true true e q = let n : _≡_ {A = ℕ} 0 1 = cc in absurd (omega arith)
     go true false e q = let n : _≡_ {A = ℕ} 0 1 = cc in absurd (omega arith)
     go false b e q = let z : opening-refusal s ≡ k = cc in (z, λ w. eqb-false (opening-refusal s) 0 e (z ∙ w))
@@ -173,15 +183,15 @@ module _ (s : List ℕ) {z : ℕ} (place : skip 2 s 0 ≡ z) where
       let e : skip 3 s 0 ≡ rows = skip-last 2 s 0 ∙ (rw place (n .past)) in
       rw (← e) (skip-lines 3 s 0)
 
-module _ {s : List ℕ} {x y z : ℕ} (o : Said-lasso s x y z) (g : Graph) where
+module _ {s : List ℕ} {c : Counts} {z : ℕ} (o : Said-lasso s c z) (g : Graph) where
   pub lasso-untitled : line-is lasso-names (line-here s z) ≡ false → 12 ≡ lasso-refusal g (line-at (lines s) 1) (lines s)
   unfolding lasso-refusal
   lasso-untitled h = sym (rw (rw (line-3 s (o .place)) at h) (unfold refuse first-of in refl))
 
-  pub lasso-rest : {rows : ℕ} → Line-named s z lasso-names rows → edge-lines-refusal g x y (lines (drop rows s)) ≡ lasso-refusal g (line-at (lines s) 1) (lines s)
+  pub lasso-rest : {rows : ℕ} → Line-named s z lasso-names rows → edge-lines-refusal g (c .stem) (c .cycle) (lines (drop rows s)) ≡ lasso-refusal g (line-at (lines s) 1) (lines s)
   unfolding lasso-refusal edge-lines-refusal stem-in cycle-in
   lasso-rest n =
-      rw (after-3 s (o .place) n, length-drop 3 (lines s), ← fewer (x + y) (length (lines s)), o .stem, o .cycle, rw (line-3 s (o .place)) at (n .line)) (unfold refuse first-of in refl)
+      rw (after-3 s (o .place) n, length-drop 3 (lines s), ← fewer (c .stem + c .cycle) (length (lines s)), stem-is _ (o .counts), cycle-is _ (o .counts), rw (line-3 s (o .place)) at (n .line)) (unfold refuse first-of in refl)
 
 module _ {s : List ℕ} {k z : ℕ} (o : Said-empty s k z) (g : Graph) where
   pub empty-untitled : line-is empty-names (line-here s z) ≡ false → 12 ≡ empty-refusal g (line-at (lines s) 1) (lines s)
@@ -191,7 +201,7 @@ module _ {s : List ℕ} {k z : ℕ} (o : Said-empty s k z) (g : Graph) where
   pub empty-rest : {rows : ℕ} → Line-named s z empty-names rows → vertex-lines-refusal g k (lines (drop rows s)) ≡ empty-refusal g (line-at (lines s) 1) (lines s)
   unfolding empty-refusal vertex-lines-refusal
   empty-rest n =
-      rw (after-3 s (o .place) n, length-drop 3 (lines s), ← fewer k (length (lines s)), o .reached, rw (line-3 s (o .place)) at (n .line)) (unfold refuse first-of in refl)
+      rw (after-3 s (o .place) n, length-drop 3 (lines s), ← fewer k (length (lines s)), reached-is _ refl ∙ o .reached, rw (line-3 s (o .place)) at (n .line)) (unfold refuse first-of in refl)
 
 -- THE WHOLE CHECK
 answer-is : (g : Graph) (s : List ℕ) → answer-refusal g s
@@ -226,8 +236,8 @@ module _ (bs : List ℕ) (a : accepted bs ≡ true) (ts : List ℕ) where
       let o = said-refused ts h in
       says t (passed ∙ answer-is (case-in bs .graph) ts ∙ (rw (o .0) (first-decides k _ (o .1)))) (λ z. absurd (o .1 z))
 
-  pub lasso-told : {x y z k : ℕ} {r : Checked} → opening ts ≡ Lasso x y z → k ≡ lasso-refusal (case-in bs .graph) (line-at (lines ts) 1) (lines ts) → Told k lasso-verdict r → Check-says bs ts r
-  lasso-told {x} {y} {z} {k} h e t =
+  pub lasso-told : {c : Counts} {z k : ℕ} {r : Checked} → opening ts ≡ Lasso c z → k ≡ lasso-refusal (case-in bs .graph) (line-at (lines ts) 1) (lines ts) → Told k lasso-verdict r → Check-says bs ts r
+  lasso-told {c} {z} {k} h e t =
       let o = said-lasso ts h in
       says t (passed ∙ answer-is (case-in bs .graph) ts ∙ (rw (o .right, o .word, ← e) (unfold first-of in (first-one k)))) (λ z. unfold answer-verdict in (rw (o .word) refl))
 

@@ -92,7 +92,7 @@ going-on {g} {m} {marks} {froms} {tos} {start} {es} {rest} {v} {joined} {marked}
     }
 
 module _ {s : List ℕ} {at k m start : ℕ} {marks froms tos : List ℕ} {here i v : ℕ} {joined marked : Bool} (w : Walking s at k m start marks froms tos here i v joined marked) where
-  pub walking-end : k ≤ i → Walk-says s at k m start marks froms tos (Went here v joined marked)
+  pub walking-end : k ≤ i → Walk-says s at k m start marks froms tos (Went here (record { end = v; joined = joined; marked = marked }))
   unfolding listed-edges-refusal column is-walk walk-end leaves-accepting
   walking-end h =
       let z : k - i ≡ 0 = omega (arith, w .within) in

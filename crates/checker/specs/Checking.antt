@@ -17,6 +17,7 @@ use Rattle.model.specs.CaseFile.{refuse, first-of, begins-version, other-versio
 use Rattle.model.specs.Answer.{answer-names, no-verdict}
 use Rattle.model.specs.Passing.{says-lasso, head-layout, counts-suit, counts-fit, listed-edges-refusal, listed-vertices-refusal, Listed, number-of, listed-in, all-lead, passes-empty, lasso-refusal, empty-refusal}
 use Rattle.model.specs.declared.Checked.{Checked}
+use Rattle.checker.specs.declared.opening.Counts.{Counts}
 use Rattle.checker.specs.declared.opening.Head.{Head}
 use Rattle.checker.specs.declared.opening.Head.the-variants.{Says, Fault}
 use Rattle.checker.specs.declared.opening.Opening.{Opening}
@@ -35,12 +36,16 @@ pub record Told (refusal verdict : ℕ) (r : Checked) : Type 0 where
 unfoldable pub counts-here : (text : List ℕ) → (at : ℕ) → (lasso : Bool) → Head
 counts-here s at b =
     let l = line-here s at in
-    cond (numbers-line 3 l) (Says b (number-at l 0) (number-at l 1) (number-at l 2) (past-line s at)) Fault
+    cond (numbers-line 3 l) (Says b (record { stem = number-at l 0; cycle = number-at l 1; reached = number-at l 2 }) (past-line s at)) Fault
+
+-- the counts on the whole line
+unfoldable pub counts-of : (head : Line) → Counts
+counts-of l = record { stem = number-at l 2; cycle = number-at l 3; reached = number-at l 4 }
 
 unfoldable pub head-here : (text : List ℕ) → (at : ℕ) → Head
 head-here s at =
     let l = line-here s at in
-    cond (head-layout l) (Says (says-lasso l) (number-at l 2) (number-at l 3) (number-at l 4) (past-line s at)) Fault
+    cond (head-layout l) (Says (says-lasso l) (counts-of l) (past-line s at)) Fault
 
 unfoldable pub counts-right : (lasso : Bool) → (stem cycle reached : ℕ) → Bool
 counts-right b s k r = (leb s most-listed && (leb k most-listed && leb r most-listed)) && counts-suit b s k r
@@ -61,7 +66,7 @@ unfoldable pub opening : (file : List ℕ) → Opening
 opening bs =
     let h = line-at (lines bs) 1 in
     cond (eqb (opening-refusal bs) 0)
-    (cond (says-lasso h) (Lasso (number-at h 2) (number-at h 3) (skip 2 bs 0)) (Empty (number-at h 4) (skip 2 bs 0)))
+    (cond (says-lasso h) (Lasso (counts-of h) (skip 2 bs 0)) (Empty (counts-of h .reached) (skip 2 bs 0)))
     (Bad-opening (opening-refusal bs))
 
 -- TABLES of a graph, what the passing rules ask of them: each edge's ends and the mark of its start, which is 0 or 1
@@ -85,7 +90,7 @@ pub record Walk-read (s : List ℕ) (at k m start : ℕ) (marks froms tos : List
 
 abbrev pub Walk-says : (text : List ℕ) → (at k m start : ℕ) → (marks froms tos : List ℕ) → Walked → Type 0
 Walk-says s at k m u marks froms tos (Bad-walk j) = (listed-edges-refusal k m (lines (drop at s)) ≡ j) × (0 < j)
-Walk-says s at k m u marks froms tos (Went z v joined marked) = Walk-read s at k m u marks froms tos z v joined marked
+Walk-says s at k m u marks froms tos (Went z w) = Walk-read s at k m u marks froms tos z (w .end) (w .joined) (w .marked)
 
 -- the refusal of the lines of stem and cycle and what follows them
 unfoldable pub edge-lines-refusal : Graph → (stem cycle : ℕ) → List Line → ℕ

@@ -7,6 +7,7 @@ use casefile::Judged;
 use casefile::read_case;
 use listing::check_empty;
 use model::Checked;
+use model::Outcome;
 use opening::Opening;
 use opening::read_opening;
 use walk::check_lasso;
@@ -16,12 +17,16 @@ mod opening;
 mod tables;
 mod walk;
 
-// What a check returns of an answer's verdict.
-const LASSO: u32 = 1;
+// The answer's refusals: an answer that is too long, or of another version;
+const TOO_LONG: u32 = 1;
 
-const EMPTY: u32 = 2;
+const OTHER_VERSION: u32 = 3;
 
-const NONE: u32 = 0;
+// "layout, a count above 500, a distance outside −500 to 500, `-0`, or counts that do not suit the verdict";
+const MALFORMED: u32 = 12;
+
+// "an edge or vertex number out of range, vertices not rising, or the passing rule broken".
+const BROKEN: u32 = 13;
 
 // A refusal, or the verdict where it is 0.
 fn told(refusal: u32, verdict: u32) -> Checked
@@ -35,7 +40,7 @@ fn told(refusal: u32, verdict: u32) -> Checked
     }
     Checked {
         refusal: refusal,
-        verdict: NONE,
+        verdict: Outcome::NONE,
     }
 }
 
@@ -47,32 +52,17 @@ pub fn check_answer(case: &[u8], answer: &[u8]) -> Checked
     let mut froms = [0u32; Case::MOST_EDGES];
     let mut tos = [0u32; Case::MOST_EDGES];
     match read_case(case, &mut marks, &mut [], &mut froms, &mut tos) {
-        Judged::Refused(k) => told(k, NONE),
-        Judged::Accepted(c) => {
-            let n = c.vertices;
-            let m = c.edges;
-            let source = c.source;
-            match read_opening(answer) {
-                Opening::Refused(k) => told(k, NONE),
-                Opening::Lasso(stem, cycle, third) => {
-                    let k = check_lasso(
-                        answer,
-                        stem,
-                        cycle,
-                        third,
-                        m,
-                        source,
-                        &marks,
-                        &froms,
-                        &tos,
-                    );
-                    told(k, LASSO)
-                }
-                Opening::Empty(reached, third) => {
-                    let k = check_empty(answer, reached, third, n, m, source, &marks, &froms, &tos);
-                    told(k, EMPTY)
-                }
+        Judged::Refused(k) => told(k, Outcome::NONE),
+        Judged::Accepted(counts) => match read_opening(answer) {
+            Opening::Refused(k) => told(k, Outcome::NONE),
+            Opening::Lasso(listed, third) => {
+                let k = check_lasso(answer, listed, third, counts, &marks, &froms, &tos);
+                told(k, Outcome::LASSO)
             }
-        }
+            Opening::Empty(reached, third) => {
+                let k = check_empty(answer, reached, third, counts, &marks, &froms, &tos);
+                told(k, Outcome::EMPTY)
+            }
+        },
     }
 }

@@ -9,6 +9,8 @@ ghost use Rattle.model.specs.Case.{most-vertices, farthest};
 ghost use Rattle.model.specs.Passing.{leads};
 ghost use Rattle.checker.specs.Checking.{opening, not-listed, held, signed-by, length-by, Blank, Listing-says, Lead-says, Empty-says, Empty-checked};
 ghost use Rattle.checker.specs.declared.opening.Opening.the-variants.{Empty};
+use crate::BROKEN;
+use crate::MALFORMED;
 use crate::tables::cell;
 use casefile::Case;
 use text::read::Named;
@@ -92,14 +94,14 @@ fn vertex_lines(text: &[u8], at: usize, k: usize, n: usize, numbers: &mut [i32])
     let mut least: usize = 0;
     while i < k {
         let SignedRow::Read(vertex, minus, d, next) = signed_row(text, here) else {
-            return Block::Refused(12);
+            return Block::Refused(MALFORMED);
         };
         let v = vertex as usize;
         if !in_order(v, n, least) {
-            return Block::Refused(13);
+            return Block::Refused(BROKEN);
         }
         if !is_distance(minus, d) {
-            return Block::Refused(12);
+            return Block::Refused(MALFORMED);
         }
         numbers[v] = signed(minus, d);
         least = v + 1;
@@ -155,51 +157,47 @@ fn listed(
     text: &[u8],
     at: usize,
     reached: usize,
-    n: usize,
-    m: usize,
-    source: usize,
+    case: Case,
     marks: &[u32],
     froms: &[u32],
     tos: &[u32],
 ) -> u32
-    requires { ⌜ n ≤ most-vertices ⌝ }
-    ensures { λ r. ⌜ Empty-says (now (text .entry)) at reached n m source (now (marks .entry)) (now (froms .entry)) (now (tos .entry)) r ⌝ }
+    requires { ⌜ case .vertices ≤ most-vertices ⌝ }
+    ensures { λ r. ⌜ Empty-says (now (text .entry)) at reached (case .vertices) (case .edges) (case .source) (now (marks .entry)) (now (froms .entry)) (now (tos .entry)) r ⌝ }
 {
     let mut numbers = [NOT_LISTED; Case::MOST_VERTICES];
-    match vertex_lines(text, at, reached, n, &mut numbers) {
+    match vertex_lines(text, at, reached, case.vertices, &mut numbers) {
         Block::Refused(k) => k,
         Block::Past(last) => {
             if last < text.len() {
-                return 12;
+                return MALFORMED;
             }
-            if !is_held(number_of(&numbers, source)) {
-                return 13;
+            if !is_held(number_of(&numbers, case.source)) {
+                return BROKEN;
             }
-            if all_lead(m, marks, froms, tos, &numbers) {
+            if all_lead(case.edges, marks, froms, tos, &numbers) {
                 return 0;
             }
-            13
+            BROKEN
         }
     }
 }
 
-// The answer from line 3 on, against the case of n vertices and m edges that stands in the tables.
+// The answer from line 3 on, against the case that stands in the tables.
 pub(crate) fn check_empty(
     answer: &[u8],
     reached: usize,
     third: usize,
-    n: usize,
-    m: usize,
-    source: usize,
+    case: Case,
     marks: &[u32],
     froms: &[u32],
     tos: &[u32],
 ) -> u32
-    requires { ⌜ (opening (now answer) ≡ Empty reached third) × (n ≤ most-vertices) ⌝ }
-    ensures { λ r. ⌜ Empty-checked (now (answer .entry)) n m source (now (marks .entry)) (now (froms .entry)) (now (tos .entry)) r ⌝ }
+    requires { ⌜ (opening (now answer) ≡ Empty reached third) × (case .vertices ≤ most-vertices) ⌝ }
+    ensures { λ r. ⌜ Empty-checked (now (answer .entry)) (case .vertices) (case .edges) (case .source) (now (marks .entry)) (now (froms .entry)) (now (tos .entry)) r ⌝ }
 {
     let Named::Past(rows) = name_line(answer, third, b"vertex distance") else {
-        return 12;
+        return MALFORMED;
     };
-    listed(answer, rows, reached, n, m, source, marks, froms, tos)
+    listed(answer, rows, reached, case, marks, froms, tos)
 }

@@ -5,6 +5,9 @@ ghost use lib.Dec.{leb};
 ghost use Rattle.model.specs.Case.{most-listed};
 ghost use Rattle.model.specs.Passing.{counts-suit};
 ghost use Rattle.checker.specs.Checking.{counts-here, head-here, opening, counts-right};
+use crate::MALFORMED;
+use crate::OTHER_VERSION;
+use crate::TOO_LONG;
 use casefile::Case;
 use casefile::other_version;
 use text::read::Named;
@@ -17,9 +20,16 @@ use text::read::name_line;
 use text::read::row_of_3;
 use text::read::same;
 
-// Line 2: whether it says "lasso", its three counts, and the place past it.
+// How many stem edges, cycle edges and vertices line 2 says that the answer lists.
+pub(crate) struct Counts {
+    pub stem: usize,
+    pub cycle: usize,
+    pub reached: usize,
+}
+
+// Line 2: whether it says "lasso", its counts, and the place past it.
 enum Head {
-    Says(bool, usize, usize, usize, usize),
+    Says(bool, Counts, usize),
     Fault,
 }
 
@@ -30,7 +40,12 @@ fn read_counts(text: &[u8], at: usize, lasso: bool) -> Head
     let Row3::Read(stem, cycle, reached, next) = row_of_3(text, at) else {
         return Head::Fault;
     };
-    Head::Says(lasso, stem as usize, cycle as usize, reached as usize, next)
+    let counts = Counts {
+        stem: stem as usize,
+        cycle: cycle as usize,
+        reached: reached as usize,
+    };
+    Head::Says(lasso, counts, next)
 }
 
 fn read_head(text: &[u8], at: usize) -> Head
@@ -54,50 +69,50 @@ fn read_head(text: &[u8], at: usize) -> Head
 }
 
 // Whether counts suit the verdict.
-fn suits(lasso: bool, stem: usize, cycle: usize, reached: usize) -> bool
-    ensures { λ r. ⌜ r ≡ counts-suit lasso stem cycle reached ⌝ }
+fn suits(lasso: bool, counts: Counts) -> bool
+    ensures { λ r. ⌜ r ≡ counts-suit lasso (counts .stem) (counts .cycle) (counts .reached) ⌝ }
 {
     if lasso {
-        if cycle < 1 {
+        if counts.cycle < 1 {
             return false;
         }
-        return reached == 0;
+        return counts.reached == 0;
     }
-    if stem != 0 {
+    if counts.stem != 0 {
         return false;
     }
-    if cycle != 0 {
+    if counts.cycle != 0 {
         return false;
     }
-    1 <= reached
+    1 <= counts.reached
 }
 
 // Whether no count is above the most that an answer lists.
-fn few(stem: usize, cycle: usize, reached: usize) -> bool
-    ensures { λ r. ⌜ r ≡ (leb stem most-listed && (leb cycle most-listed && leb reached most-listed)) ⌝ }
+fn few(counts: Counts) -> bool
+    ensures { λ r. ⌜ r ≡ (leb (counts .stem) most-listed && (leb (counts .cycle) most-listed && leb (counts .reached) most-listed)) ⌝ }
 {
-    if Case::MOST_LISTED < stem {
+    if Case::MOST_LISTED < counts.stem {
         return false;
     }
-    if Case::MOST_LISTED < cycle {
+    if Case::MOST_LISTED < counts.cycle {
         return false;
     }
-    reached <= Case::MOST_LISTED
+    counts.reached <= Case::MOST_LISTED
 }
 
-fn right(lasso: bool, stem: usize, cycle: usize, reached: usize) -> bool
-    ensures { λ r. ⌜ r ≡ counts-right lasso stem cycle reached ⌝ }
+fn right(lasso: bool, counts: Counts) -> bool
+    ensures { λ r. ⌜ r ≡ counts-right lasso (counts .stem) (counts .cycle) (counts .reached) ⌝ }
 {
-    if few(stem, cycle, reached) {
-        return suits(lasso, stem, cycle, reached);
+    if few(counts) {
+        return suits(lasso, counts);
     }
     false
 }
 
-// The refusal, or the counts that the verdict has and where line 3 starts.
+// The refusal; or the counts, of "empty" how many vertices, and where line 3 starts.
 pub(crate) enum Opening {
     Refused(u32),
-    Lasso(usize, usize, usize),
+    Lasso(Counts, usize),
     Empty(usize, usize),
 }
 
@@ -105,25 +120,25 @@ pub(crate) fn read_opening(text: &[u8]) -> Opening
     ensures { λ r. ⌜ r ≡ opening (now (text .entry)) ⌝ }
 {
     if Case::LONGEST_FILE < text.len() {
-        return Opening::Refused(1);
+        return Opening::Refused(TOO_LONG);
     }
     if !begins_at(text, 0, b"version ") {
-        return Opening::Refused(12);
+        return Opening::Refused(MALFORMED);
     }
     if other_version(text) {
-        return Opening::Refused(3);
+        return Opening::Refused(OTHER_VERSION);
     }
     let Named::Past(second) = name_line(text, 0, b"version verdict stem cycle reached") else {
-        return Opening::Refused(12);
+        return Opening::Refused(MALFORMED);
     };
-    let Head::Says(lasso, stem, cycle, reached, third) = read_head(text, second) else {
-        return Opening::Refused(12);
+    let Head::Says(lasso, counts, third) = read_head(text, second) else {
+        return Opening::Refused(MALFORMED);
     };
-    if !right(lasso, stem, cycle, reached) {
-        return Opening::Refused(12);
+    if !right(lasso, counts) {
+        return Opening::Refused(MALFORMED);
     }
     if lasso {
-        return Opening::Lasso(stem, cycle, third);
+        return Opening::Lasso(counts, third);
     }
-    Opening::Empty(reached, third)
+    Opening::Empty(counts.reached, third)
 }

@@ -4,7 +4,11 @@ ghost use mathlib.Core.Bool.{_&&_, _||_};
 ghost use lib.Dec.{leb, eqb};
 ghost use Rattle.checker.specs.Checking.{opening, Walk-says, Lasso-says, Lasso-checked};
 ghost use Rattle.checker.specs.declared.opening.Opening.the-variants.{Lasso};
+use crate::BROKEN;
+use crate::MALFORMED;
+use crate::opening::Counts;
 use crate::tables::cell;
+use casefile::Case;
 use text::read::Named;
 use text::read::Row1;
 use text::read::name_line;
@@ -30,38 +34,49 @@ fn leaves(marked: bool, mark: usize) -> bool
     1 <= mark
 }
 
-// Edge lines: the refusal; or the place past them, the vertex where they end, whether each edge starts where the one
-// before ended, and whether one leaves an accepting vertex.
-enum Walked {
-    Refused(u32),
-    Went(usize, usize, bool, bool),
+// The vertex where edges end, whether each starts where the one before ended, and whether one leaves an accepting vertex.
+struct Walk {
+    end: usize,
+    joined: bool,
+    marked: bool,
 }
 
-// The lines of k edges of m from `at` on, as a walk from `start`.
-fn walk(
-    text: &[u8],
+// Edge lines: the refusal; or the place past them, and what they are as a walk.
+enum Walked {
+    Refused(u32),
+    Went(usize, Walk),
+}
+
+// Lines of a text: where they start, and how many there are.
+struct Rows {
     at: usize,
-    k: usize,
+    count: usize,
+}
+
+// The lines of so many edges of m, as a walk from `start`.
+fn read_walk(
+    text: &[u8],
+    rows: Rows,
     m: usize,
     start: usize,
     marks: &[u32],
     froms: &[u32],
     tos: &[u32],
 ) -> Walked
-    ensures { λ r. ⌜ Walk-says (now (text .entry)) at k m start (now (marks .entry)) (now (froms .entry)) (now (tos .entry)) r ⌝ }
+    ensures { λ r. ⌜ Walk-says (now (text .entry)) (rows .at) (rows .count) m start (now (marks .entry)) (now (froms .entry)) (now (tos .entry)) r ⌝ }
 {
-    let mut here = at;
+    let mut here = rows.at;
     let mut i: usize = 0;
     let mut v = start;
     let mut joined = true;
     let mut marked = false;
-    while i < k {
+    while i < rows.count {
         let Row1::Read(edge, next) = row_of_1(text, here) else {
-            return Walked::Refused(12);
+            return Walked::Refused(MALFORMED);
         };
         let e = edge as usize;
         if m <= e {
-            return Walked::Refused(13);
+            return Walked::Refused(BROKEN);
         }
         let from = cell(froms, e);
         joined = follows(joined, from, v);
@@ -70,17 +85,22 @@ fn walk(
         here = next;
         i += 1;
     }
-    Walked::Went(here, v, joined, marked)
+    let walk = Walk {
+        end: v,
+        joined,
+        marked,
+    };
+    Walked::Went(here, walk)
 }
 
-// Whether stem and cycle are walks, and the cycle ends where it starts and leaves an accepting vertex.
-fn is_lasso(stem: bool, cycle: bool, start: usize, end: usize, marked: bool) -> bool
-    ensures { λ r. ⌜ r ≡ ((stem && cycle) && (eqb end start && marked)) ⌝ }
+// Whether stem and cycle are walks, and the cycle ends where the stem does and leaves an accepting vertex.
+fn is_lasso(stem: Walk, cycle: Walk) -> bool
+    ensures { λ r. ⌜ r ≡ ((stem .joined && cycle .joined) && (eqb (cycle .end) (stem .end) && cycle .marked)) ⌝ }
 {
-    if stem {
-        if cycle {
-            if end == start {
-                return marked;
+    if stem.joined {
+        if cycle.joined {
+            if cycle.end == stem.end {
+                return cycle.marked;
             }
         }
     }
@@ -91,59 +111,56 @@ fn is_lasso(stem: bool, cycle: bool, start: usize, end: usize, marked: bool) -> 
 fn edge_lines(
     text: &[u8],
     at: usize,
-    stem: usize,
-    cycle: usize,
-    m: usize,
-    source: usize,
+    counts: Counts,
+    case: Case,
     marks: &[u32],
     froms: &[u32],
     tos: &[u32],
 ) -> u32
-    ensures { λ r. ⌜ Lasso-says (now (text .entry)) at stem cycle m source (now (marks .entry)) (now (froms .entry)) (now (tos .entry)) r ⌝ }
+    ensures { λ r. ⌜ Lasso-says (now (text .entry)) at (counts .stem) (counts .cycle) (case .edges) (case .source) (now (marks .entry)) (now (froms .entry)) (now (tos .entry)) r ⌝ }
 {
-    match walk(text, at, stem, m, source, marks, froms, tos) {
+    let stem_rows = Rows {
+        at,
+        count: counts.stem,
+    };
+    match read_walk(text, stem_rows, case.edges, case.source, marks, froms, tos) {
         Walked::Refused(k) => k,
-        Walked::Went(second, start, joined, _) => match walk(
-            text,
-            second,
-            cycle,
-            m,
-            start,
-            marks,
-            froms,
-            tos,
-        ) {
-            Walked::Refused(k) => k,
-            Walked::Went(last, end, round, marked) => {
-                if last < text.len() {
-                    return 12;
+        Walked::Went(second, stem) => {
+            let cycle_rows = Rows {
+                at: second,
+                count: counts.cycle,
+            };
+            match read_walk(text, cycle_rows, case.edges, stem.end, marks, froms, tos) {
+                Walked::Refused(k) => k,
+                Walked::Went(last, cycle) => {
+                    if last < text.len() {
+                        return MALFORMED;
+                    }
+                    if is_lasso(stem, cycle) {
+                        return 0;
+                    }
+                    BROKEN
                 }
-                if is_lasso(joined, round, start, end, marked) {
-                    return 0;
-                }
-                13
             }
-        },
+        }
     }
 }
 
-// The answer from line 3 on, against the case of m edges that stands in the tables.
+// The answer from line 3 on, against the case that stands in the tables.
 pub(crate) fn check_lasso(
     answer: &[u8],
-    stem: usize,
-    cycle: usize,
+    counts: Counts,
     third: usize,
-    m: usize,
-    source: usize,
+    case: Case,
     marks: &[u32],
     froms: &[u32],
     tos: &[u32],
 ) -> u32
-    requires { ⌜ opening (now answer) ≡ Lasso stem cycle third ⌝ }
-    ensures { λ r. ⌜ Lasso-checked (now (answer .entry)) m source (now (marks .entry)) (now (froms .entry)) (now (tos .entry)) r ⌝ }
+    requires { ⌜ opening (now answer) ≡ Lasso counts third ⌝ }
+    ensures { λ r. ⌜ Lasso-checked (now (answer .entry)) (case .edges) (case .source) (now (marks .entry)) (now (froms .entry)) (now (tos .entry)) r ⌝ }
 {
     let Named::Past(rows) = name_line(answer, third, b"edge") else {
-        return 12;
+        return MALFORMED;
     };
-    edge_lines(answer, rows, stem, cycle, m, source, marks, froms, tos)
+    edge_lines(answer, rows, counts, case, marks, froms, tos)
 }

@@ -5,8 +5,8 @@ use borrow.Author.Needs.{needs}
 use Rattle.checker.proofs.walk.edge_lines.Statement.{statement}
 use Rattle.checker.proofs.walk.edge_lines.Tie as tie
 
-walk-requires : tie.Need-walk-requires
-walk-requires c κs = search needs
+read-walk-requires : tie.Need-read-walk-requires
+read-walk-requires c κs = search needs
 
 enum-known-k : tie.Need-enum-known-k
 enum-known-k c = search needs
@@ -14,8 +14,8 @@ enum-known-k c = search needs
 enum-known-second : tie.Need-enum-known-second
 enum-known-second c = search needs
 
-walk-requires-2 : tie.Need-walk-requires-2
-walk-requires-2 c κs = search needs
+read-walk-requires-2 : tie.Need-read-walk-requires-2
+read-walk-requires-2 c κs = search needs
 
 enum-known-k-2 : tie.Need-enum-known-k-2
 enum-known-k-2 c = search needs
@@ -24,31 +24,45 @@ enum-known-last : tie.Need-enum-known-last
 enum-known-last c = search needs
 
 returns : tie.Need-returns
-returns c = lasso-trailed (c .before .before .before .before .before .before .before .before .before .before .before .before .before .args .text .now) (c .before .before .before .before .before .before .before .before .before .before .before .before .before .args .at) _ _ _ _ _ _ _ (rw (c .before .before .before .before .before .before .second .given .1) at (c .before .before .before .before .before .before .before .before .walk .ensures)) (rw (c .before .before .last .given .1) at (c .before .before .before .before .walk2 .ensures)) (c .if1 .taken)
+returns c =
+    let stem = c .before .before .before .before .before .before in
+    let start = stem .before .before .before .before .before .before .before in
+    lasso-trailed (start .args .text .now) (start .args .at) _ _ _ _ _ _ _ (rw (stem .second .given .1) at (stem .before .before .read-walk .ensures)) (rw (c .before .before .last .given .1) at (c .before .before .before .before .read-walk2 .ensures)) (c .if1 .taken)
 
 is-lasso-requires : tie.Need-is-lasso-requires
 is-lasso-requires c κs = search needs
 
 returns-2 : tie.Need-returns-2
-returns-2 c = lasso-passes _ _ _ _ _ _ _ _ _ (rw (c .before .before .before .before .before .before .before .before .second .given .1) at (c .before .before .before .before .before .before .before .before .before .before .walk .ensures)) (rw (c .before .before .before .before .last .given .1) at (c .before .before .before .before .before .before .walk2 .ensures)) (omega arith) (c .before .is-lasso .ensures) (c .if2 .taken)
+returns-2 c =
+    let stem = c .before .before .before .before .before .before .before .before in
+    let start = stem .before .before .before .before .before .before .before in
+    lasso-passes (start .args .text .now) (start .args .at) _ _ _ _ _ _ _ (rw (stem .second .given .1) at (stem .before .before .read-walk .ensures)) (rw (c .before .before .before .before .last .given .1) at (c .before .before .before .before .before .before .read-walk2 .ensures)) (omega arith) (c .before .is-lasso .ensures) (c .if2 .taken)
 
 returns-3 : tie.Need-returns-3
-returns-3 c = stem-refused (c .before .before .before .before .before .before .before .before .args .text .now) (c .before .before .before .before .before .before .before .before .args .at) _ _ _ _ _ _ _ (rw (c .before .k .given .1) at (c .before .before .before .walk .ensures))
+returns-3 c =
+    let start = c .before .before .before .before .before .before .before .before in
+    stem-refused (start .args .text .now) (start .args .at) _ _ _ _ _ _ _ (rw (c .before .k .given .1) at (c .before .before .before .read-walk .ensures))
 
 returns-4 : tie.Need-returns-4
-returns-4 c = cycle-refused (c .before .before .before .before .before .before .before .before .before .before .before .before .args .text .now) (c .before .before .before .before .before .before .before .before .before .before .before .before .args .at) _ _ _ _ _ _ _ (rw (c .before .before .before .before .before .second .given .1) at (c .before .before .before .before .before .before .before .walk .ensures)) (rw (c .before .k2 .given .1) at (c .before .before .before .walk2 .ensures))
+returns-4 c =
+    let stem = c .before .before .before .before .before in
+    let start = stem .before .before .before .before .before .before .before in
+    cycle-refused (start .args .text .now) (start .args .at) _ _ _ _ _ _ _ (rw (stem .second .given .1) at (stem .before .before .read-walk .ensures)) (rw (c .before .k2 .given .1) at (c .before .before .before .read-walk2 .ensures))
 
 returns-5 : tie.Need-returns-5
-returns-5 c = lasso-fails _ _ _ _ _ _ _ _ _ (rw (c .before .before .before .before .before .before .before .before .second .given .1) at (c .before .before .before .before .before .before .before .before .before .before .walk .ensures)) (rw (c .before .before .before .before .last .given .1) at (c .before .before .before .before .before .before .walk2 .ensures)) (omega arith) (c .before .is-lasso .ensures) (c .if2 .left)
+returns-5 c =
+    let stem = c .before .before .before .before .before .before .before .before in
+    let start = stem .before .before .before .before .before .before .before in
+    lasso-fails (start .args .text .now) (start .args .at) _ _ _ _ _ _ _ (rw (stem .second .given .1) at (stem .before .before .read-walk .ensures)) (rw (c .before .before .before .before .last .given .1) at (c .before .before .before .before .before .before .read-walk2 .ensures)) (omega arith) (c .before .is-lasso .ensures) (c .if2 .left)
 
 pub edge-lines-spec : {M : Type 1} → statement M
 edge-lines-spec =
     tie.close
     (tie.spec
-    walk-requires
+    read-walk-requires
     enum-known-k
     enum-known-second
-    walk-requires-2
+    read-walk-requires-2
     enum-known-k-2
     enum-known-last
     returns

@@ -6,10 +6,10 @@ use Rattle.checker.proofs.walk.is_lasso.Statement.{statement}
 use Rattle.checker.proofs.walk.is_lasso.Tie as tie
 
 returns : tie.Need-returns
-returns c = rw (c .before .before .if1 .taken, c .before .if2 .taken, eq-eqb _ _ (c .if3 .taken)) refl
+returns c = rw (c .before .before .before .before .if1 .taken, c .before .before .before .if2 .taken, eq-eqb _ _ (c .if3 .taken)) refl
 
 returns-2 : tie.Need-returns-2
-returns-2 c = rw (c .before .before .if1 .taken, c .before .if2 .taken, ne-eqb _ _ (c .if3 .left)) refl
+returns-2 c = rw (c .before .before .before .before .if1 .taken, c .before .before .before .if2 .taken, ne-eqb _ _ (c .if3 .left)) refl
 
 returns-3 : tie.Need-returns-3
 returns-3 c = search needs
