@@ -14,7 +14,11 @@ same-length : tie.Need-same-length
 same-length c = search needs
 
 returns : tie.Need-returns
-returns c = shows (c .before .before .before .check-answer .ensures) (c .before .before .write-checked .ensures) (c .before .before .before .before .before .before .before .before .pre)
+returns c =
+    let written = c .before .before in
+    let checked = written .before in
+    let s = checked .before .before .before .before .before .pre in
+    shows (checked .check-answer .ensures) (written .write-checked .ensures) s
 
 pub check-spec : {M : Type 1} → statement M
 check-spec = tie.close (tie.spec check-answer-requires write-checked-requires same-length returns)

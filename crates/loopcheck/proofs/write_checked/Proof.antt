@@ -24,7 +24,10 @@ same-length-2 : tie.Need-same-length-2
 same-length-2 c = search needs
 
 returns-2 : tie.Need-returns-2
-returns-2 c = writes-lasso _ _ (c .before .before .before .before .before .before .before .if1 .left) (c .before .before .before .before .before .if2 .taken) (c .before .before .write-bytes .ensures)
+returns-2 c =
+    let bytes = c .before .before in
+    let lasso = bytes .before .before .before in
+    writes-lasso _ _ (lasso .before .before .if1 .left) (lasso .if2 .taken) (bytes .write-bytes .ensures)
 
 slice-aggregate-write-bytes-2 : tie.Need-slice-aggregate-write-bytes-2
 slice-aggregate-write-bytes-2 c = search needs
@@ -36,7 +39,10 @@ same-length-3 : tie.Need-same-length-3
 same-length-3 c = search needs
 
 returns-3 : tie.Need-returns-3
-returns-3 c = writes-empty _ _ (c .before .before .before .before .before .before .before .if1 .left) (c .before .before .before .before .before .if2 .left) (c .before .before .write-bytes2 .ensures)
+returns-3 c =
+    let bytes = c .before .before in
+    let empty = bytes .before .before .before in
+    writes-empty _ _ (empty .before .before .if1 .left) (empty .if2 .left) (bytes .write-bytes2 .ensures)
 
 pub write-checked-spec : {M : Type 1} → statement M
 write-checked-spec =

@@ -18,7 +18,10 @@ same-length-2 : tie.Need-same-length-2
 same-length-2 c = search needs
 
 returns : tie.Need-returns
-returns c = found _ _ _ _ _ _ (c .before .before .before .before .before .before .before .before .before .before .before .pre .0) (c .before .before .before .before .before .before .before .before .before .before .before .pre .1) (c .before .before .before .before .before .before .run-rounds .ensures) (c .before .if1 .taken)
+returns c =
+    let ran = c .before .before .before .before .before .before in
+    let s = ran .before .before .before .before .before .pre in
+    found _ _ _ _ _ _ (s .0) (s .1) (ran .run-rounds .ensures) (c .before .if1 .taken)
 
 write-refusal-requires : tie.Need-write-refusal-requires
 write-refusal-requires c κs = search needs
@@ -30,7 +33,12 @@ same-length-4 : tie.Need-same-length-4
 same-length-4 c = search needs
 
 returns-2 : tie.Need-returns-2
-returns-2 c = turned _ _ _ _ _ _ (c .before .before .before .before .before .before .before .before .before .before .before .before .before .before .pre .0) (c .before .before .before .before .before .before .before .before .before .before .before .before .before .before .pre .1) (c .before .before .before .before .before .before .before .before .before .run-rounds .ensures) (c .before .before .before .before .if1 .left) (refused-puts _ (c .before .before .write-refusal .ensures))
+returns-2 c =
+    let written = c .before .before in
+    let refused = written .before .before in
+    let ran = refused .before .before .before .before .before in
+    let s = ran .before .before .before .before .before .pre in
+    turned _ _ _ _ _ _ (s .0) (s .1) (ran .run-rounds .ensures) (refused .if1 .left) (refused-puts _ (written .write-refusal .ensures))
 
 pub find-spec : {M : Type 1} → statement M
 find-spec =

@@ -17,10 +17,16 @@ cast-size : tie.Need-cast-size
 cast-size c = search needs
 
 slice-reshare-prefix-write-bytes : tie.Need-slice-reshare-prefix-write-bytes
-slice-reshare-prefix-write-bytes c = list-leaves _ _ _ _ _ (c .before .before .before .before .before .before .before .before .before .before .before .before .before .before .before .before .pre .0) (c .before .before .before .before .before .before .before .before .before .before .before .before .before .before .before .before .pre .1) (c .before .before .before .before .before .before .before .before .before .run-list .ensures) .within
+slice-reshare-prefix-write-bytes c =
+    let ran = c .before .before .before .before .before .before .before .before .before in
+    let s = ran .before .before .before .before .before .before .before .pre in
+    list-leaves _ _ _ _ _ (s .0) (s .1) (ran .run-list .ensures) .within
 
 slice-aggregate-write-bytes : tie.Need-slice-aggregate-write-bytes
-slice-aggregate-write-bytes c = sym (length-take-le _ _ (list-leaves _ _ _ _ _ (c .before .before .before .before .before .before .before .before .before .before .before .before .before .before .before .before .before .pre .0) (c .before .before .before .before .before .before .before .before .before .before .before .before .before .before .before .before .before .pre .1) (c .before .before .before .before .before .before .before .before .before .before .run-list .ensures) .within))
+slice-aggregate-write-bytes c =
+    let ran = c .before .before .before .before .before .before .before .before .before .before in
+    let s = ran .before .before .before .before .before .before .before .pre in
+    sym (length-take-le _ _ (list-leaves _ _ _ _ _ (s .0) (s .1) (ran .run-list .ensures) .within))
 
 write-bytes-requires : tie.Need-write-bytes-requires
 write-bytes-requires c κs = search needs
@@ -35,7 +41,12 @@ same-length-3 : tie.Need-same-length-3
 same-length-3 c = search needs
 
 returns : tie.Need-returns
-returns c = page-shows (list-leaves _ _ _ _ _ (c .before .before .before .before .before .before .before .before .before .before .before .before .before .before .before .before .before .before .before .before .pre .0) (c .before .before .before .before .before .before .before .before .before .before .before .before .before .before .before .before .before .before .before .before .pre .1) (c .before .before .before .before .before .before .before .before .before .before .before .before .before .run-list .ensures)) (omega (arith, c .before .before .before .before .before .before .before .before .before .before .before .before .before .before .before .before .before .before .before .before .pre .2, c .before .before .before .before .before .before .before .before .before .before .before .before .before .run-list .kept .1 .1 .0)) (c .before .before .before .before .before .before .before .before .write-head .ensures) (c .before .before .write-bytes .ensures)
+returns c =
+    let answer = c .before .before in
+    let head = answer .before .before .before .before .before .before in
+    let ran = head .before .before .before .before .before in
+    let s = ran .before .before .before .before .before .before .before .pre in
+    page-shows (list-leaves _ _ _ _ _ (s .0) (s .1) (ran .run-list .ensures)) (omega (arith, s .2, ran .run-list .kept .1 .1 .0)) (head .write-head .ensures) (answer .write-bytes .ensures)
 
 pub replay-spec : {M : Type 1} → statement M
 replay-spec =

@@ -29,8 +29,10 @@ shared-slice-copy-out-if1 c = search needs
 
 returns : tie.Need-returns Inv-loop μ-loop
 returns c =
-    seen-other _ _ 0 _ (pos 0) (c .before .before .loop-test .taken) (λ e. c .if1 .taken (ap (ofZ w32) e))
-    (rw (toZ-ofZ (c .before .before .before .before .fits .value)) at (c .before .before .before .loop .inv))
+    let test = c .before .before in
+    let loop = test .before in
+    seen-other _ _ 0 _ (pos 0) (test .loop-test .taken) (λ e. c .if1 .taken (ap (ofZ w32) e))
+    (rw (toZ-ofZ (loop .before .fits .value)) at (loop .loop .inv))
 
 add-i : tie.Need-add-i Inv-loop μ-loop
 add-i c = search needs
@@ -40,8 +42,10 @@ loop-less c = search needs
 
 loop-again : tie.Need-loop-again Inv-loop μ-loop
 loop-again c =
-    let fit : SFits w32 (getD (c .before .before .before .before .args .work .now) (c .before .before .before .loop .i) (pos 0)) = record { sfits = c .before .if12 .given } in
-    seen-more _ _ 0 _ (pos 0) (c .before .before .loop-test .taken) (sym (toZ-ofZ fit) ∙ ap (toZ w32) (c .if1 .left)) (c .before .before .before .loop .inv)
+    let test = c .before .before in
+    let loop = test .before in
+    let fit : SFits w32 (getD (loop .before .args .work .now) (loop .loop .i) (pos 0)) = record { sfits = c .before .if12 .given } in
+    seen-more _ _ 0 _ (pos 0) (test .loop-test .taken) (sym (toZ-ofZ fit) ∙ ap (toZ w32) (c .if1 .left)) (loop .loop .inv)
 
 returns-2 : tie.Need-returns-2 Inv-loop μ-loop
 returns-2 c = seen-all _ _ 0 _ (omega arith) (rw (toZ-ofZ (c .before .before .fits .value)) at (c .before .loop .inv))

@@ -29,7 +29,13 @@ same-length : tie.Need-same-length
 same-length c = search needs
 
 returns : tie.Need-returns
-returns c = chain-more (c .before .before .before .before .before .before .before .before .before .before .before .before .before .before .before .before .before .before .before .write-bytes .ensures) (chain-more (c .before .before .before .before .before .before .before .before .before .before .before .before .before .before .before .write-number .ensures) (chain-more (c .before .before .before .before .before .before .before .before .before .before .before .write-byte .ensures) (chain-then (c .before .before .before .before .before .before .before .write-row3 .ensures) (chain-last (c .before .before .write-bytes2 .ensures)))))
+returns c =
+    let columns = c .before .before in
+    let row = columns .before .before .before .before .before in
+    let space = row .before .before .before .before in
+    let vertices = space .before .before .before .before in
+    let names = vertices .before .before .before .before in
+    chain-more (names .write-bytes .ensures) (chain-more (vertices .write-number .ensures) (chain-more (space .write-byte .ensures) (chain-then (row .write-row3 .ensures) (chain-last (columns .write-bytes2 .ensures)))))
 
 pub write-head-spec : {M : Type 1} → statement M
 write-head-spec =

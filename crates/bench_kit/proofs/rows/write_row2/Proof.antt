@@ -17,7 +17,11 @@ same-length : tie.Need-same-length
 same-length c = search needs
 
 returns : tie.Need-returns
-returns c = chain-more (c .before .before .before .before .before .before .before .before .before .before .write-number .ensures) (chain-more (c .before .before .before .before .before .before .write-byte .ensures) (c .before .before .write-row1 .ensures))
+returns c =
+    let row = c .before .before in
+    let space = row .before .before .before .before in
+    let number = space .before .before .before .before in
+    chain-more (number .write-number .ensures) (chain-more (space .write-byte .ensures) (row .write-row1 .ensures))
 
 pub write-row2-spec : {M : Type 1} → statement M
 write-row2-spec =

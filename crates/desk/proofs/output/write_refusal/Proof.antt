@@ -20,7 +20,11 @@ same-length : tie.Need-same-length
 same-length c = search needs
 
 returns : tie.Need-returns
-returns c = chain-more (c .before .before .before .before .before .before .before .before .before .before .write-bytes .ensures) (chain-more (c .before .before .before .before .before .before .write-number .ensures) (chain-last (c .before .before .write-byte .ensures)))
+returns c =
+    let end = c .before .before in
+    let number = end .before .before .before .before in
+    let bytes = number .before .before .before .before in
+    chain-more (bytes .write-bytes .ensures) (chain-more (number .write-number .ensures) (chain-last (end .write-byte .ensures)))
 
 pub write-refusal-spec : {M : Type 1} → statement M
 write-refusal-spec =

@@ -38,7 +38,11 @@ same-length-2 : tie.Need-same-length-2 Inv-loop μ-loop
 same-length-2 c = c .before .before .before .before .before .loop .inv .kept
 
 returns-2 : tie.Need-returns-2 Inv-loop μ-loop
-returns-2 c = lists-none (c .before .before .before .before .before .loop .inv) (c .before .before .before .before .loop-test .taken) (c .before .before .before .if1 .left) (c .before .before .row-of-1 .ensures) (c .enum-told .given .1)
+returns-2 c =
+    let row = c .before .before in
+    let room = row .before in
+    let test = room .before in
+    lists-none (test .before .loop .inv) (test .loop-test .taken) (room .if1 .left) (row .row-of-1 .ensures) (c .enum-told .given .1)
 
 mul-acts : tie.Need-mul-acts Inv-loop μ-loop
 mul-acts c = search needs
@@ -53,7 +57,11 @@ loop-less : tie.Need-loop-less Inv-loop μ-loop
 loop-less c = omega (arith, row-past _ _ (c .before .before .before .row-of-1 .ensures) (c .before .act .given .1))
 
 loop-again : tie.Need-loop-again Inv-loop μ-loop
-loop-again c = lists-more (c .before .before .before .before .before .before .loop .inv) (c .before .before .before .before .before .loop-test .taken) (c .before .before .before .before .if1 .left) _ _ (c .before .before .before .row-of-1 .ensures) (c .before .act .given .1)
+loop-again c =
+    let row = c .before .before .before in
+    let room = row .before in
+    let test = room .before in
+    lists-more (test .before .loop .inv) (test .loop-test .taken) (room .if1 .left) _ _ (row .row-of-1 .ensures) (c .before .act .given .1)
 
 same-length-3 : tie.Need-same-length-3 Inv-loop μ-loop
 same-length-3 c = c .before .loop .inv .kept

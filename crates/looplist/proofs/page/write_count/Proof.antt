@@ -17,7 +17,11 @@ same-length : tie.Need-same-length
 same-length c = search needs
 
 returns : tie.Need-returns
-returns c = puts-then (puts-then (puts (c .before .before .before .before .before .before .before .before .before .before .write-bytes .ensures)) (puts (c .before .before .before .before .before .before .write-number .ensures))) (puts (c .before .before .write-byte .ensures))
+returns c =
+    let end = c .before .before in
+    let number = end .before .before .before .before in
+    let label = number .before .before .before .before in
+    puts-then (puts-then (puts (label .write-bytes .ensures)) (puts (number .write-number .ensures))) (puts (end .write-byte .ensures))
 
 pub write-count-spec : {M : Type 1} → statement M
 write-count-spec =

@@ -24,7 +24,11 @@ same-length : tie.Need-same-length
 same-length c = search needs
 
 returns : tie.Need-returns
-returns c = puts-as (head-parts _ _ _) (puts-then (puts-then (c .before .before .before .before .before .before .before .before .before .before .before .write-count .ensures) (c .before .before .before .before .before .before .before .write-verdict .ensures)) (c .before .before .write-count2 .ensures))
+returns c =
+    let acts = c .before .before in
+    let verdict = acts .before .before .before .before .before in
+    let refusal = verdict .before .before .before .before in
+    puts-as (head-parts _ _ _) (puts-then (puts-then (refusal .write-count .ensures) (verdict .write-verdict .ensures)) (acts .write-count2 .ensures))
 
 pub write-head-spec : {M : Type 1} → statement M
 write-head-spec =

@@ -26,7 +26,10 @@ same-length-2 : tie.Need-same-length-2
 same-length-2 c = search needs
 
 returns-2 : tie.Need-returns-2
-returns-2 c = writes-empty _ (c .before .before .before .before .before .before .if1 .left) (c .before .before .before .before .before .if2 .taken) (c .before .before .write-bytes2 .ensures)
+returns-2 c =
+    let bytes = c .before .before in
+    let empty = bytes .before .before .before in
+    writes-empty _ (empty .before .if1 .left) (empty .if2 .taken) (bytes .write-bytes2 .ensures)
 
 slice-aggregate-write-bytes-3 : tie.Need-slice-aggregate-write-bytes-3
 slice-aggregate-write-bytes-3 c = search needs
@@ -38,7 +41,10 @@ same-length-3 : tie.Need-same-length-3
 same-length-3 c = search needs
 
 returns-3 : tie.Need-returns-3
-returns-3 c = writes-none _ (c .before .before .before .before .before .before .if1 .left) (c .before .before .before .before .before .if2 .left) (c .before .before .write-bytes3 .ensures)
+returns-3 c =
+    let bytes = c .before .before in
+    let neither = bytes .before .before .before in
+    writes-none _ (neither .before .if1 .left) (neither .if2 .left) (bytes .write-bytes3 .ensures)
 
 pub write-verdict-spec : {M : Type 1} → statement M
 write-verdict-spec =
