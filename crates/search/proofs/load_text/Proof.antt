@@ -37,14 +37,14 @@ out-of-range-requires c κs = search needs
 returns : tie.Need-returns
 returns c =
     let accepted = c .before .before .before .before in
-    let read = accepted .before .before .before .before .before .before .read-case in
-    acts-refused _ (read .ensures .answer) (accepted .c .given .1) _ _ (sym (c .before .out-of-range .ensures) ∙ c .if1 .taken)
+    let read = accepted .before .before .before .before .before .before in
+    acts-refused _ (read .read-case .ensures .answer) (accepted .c .given .1) _ _ (sym (c .before .out-of-range .ensures) ∙ c .if1 .taken)
 
 array-share-prefix-marks : tie.Need-array-share-prefix-marks
 array-share-prefix-marks c =
     let accepted = c .before .before .before .before .before in
-    let read = accepted .before .before .before .before .before .before .read-case in
-    omega (arith, counts-few _ (read .ensures .answer) (accepted .c .given .1) .2)
+    let read = accepted .before .before .before .before .before .before in
+    omega (arith, counts-few _ (read .read-case .ensures .answer) (accepted .c .given .1) .2)
 
 slice-aggregate-load-case : tie.Need-slice-aggregate-load-case
 slice-aggregate-load-case c =
@@ -55,8 +55,8 @@ slice-aggregate-load-case c =
 array-share-prefix-owners : tie.Need-array-share-prefix-owners
 array-share-prefix-owners c =
     let accepted = c .before .before .before .before .before .before in
-    let read = accepted .before .before .before .before .before .before .read-case in
-    omega (arith, counts-few _ (read .ensures .answer) (accepted .c .given .1) .2)
+    let read = accepted .before .before .before .before .before .before in
+    omega (arith, counts-few _ (read .read-case .ensures .answer) (accepted .c .given .1) .2)
 
 slice-aggregate-load-case-2 : tie.Need-slice-aggregate-load-case-2
 slice-aggregate-load-case-2 c =
@@ -67,8 +67,8 @@ slice-aggregate-load-case-2 c =
 array-share-prefix-froms : tie.Need-array-share-prefix-froms
 array-share-prefix-froms c =
     let accepted = c .before .before .before .before .before .before .before in
-    let read = accepted .before .before .before .before .before .before .read-case in
-    omega (arith, counts-few _ (read .ensures .answer) (accepted .c .given .1) .1)
+    let read = accepted .before .before .before .before .before .before in
+    omega (arith, counts-few _ (read .read-case .ensures .answer) (accepted .c .given .1) .1)
 
 slice-aggregate-load-case-3 : tie.Need-slice-aggregate-load-case-3
 slice-aggregate-load-case-3 c =
@@ -79,8 +79,8 @@ slice-aggregate-load-case-3 c =
 array-share-prefix-tos : tie.Need-array-share-prefix-tos
 array-share-prefix-tos c =
     let accepted = c .before .before .before .before .before .before .before .before in
-    let read = accepted .before .before .before .before .before .before .read-case in
-    omega (arith, counts-few _ (read .ensures .answer) (accepted .c .given .1) .1)
+    let read = accepted .before .before .before .before .before .before in
+    omega (arith, counts-few _ (read .read-case .ensures .answer) (accepted .c .given .1) .1)
 
 slice-aggregate-load-case-4 : tie.Need-slice-aggregate-load-case-4
 slice-aggregate-load-case-4 c =

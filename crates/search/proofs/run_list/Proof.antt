@@ -35,8 +35,8 @@ act-list-requires : tie.Need-act-list-requires
 act-list-requires c κs =
     let begun = c .before .before in
     let laid = begun .before .before .before in
-    let loaded = laid .before .before .before .load-text in
-    list-asks _ _ _ _ _ _ (loads-laid (loaded .ensures) (laid .c .given .1)) _ _ (begun .fresh .ensures)
+    let loaded = laid .before .before .before in
+    list-asks _ _ _ _ _ _ (loads-laid (loaded .load-text .ensures) (laid .c .given .1)) _ _ (begun .fresh .ensures)
 
 finish-requires : tie.Need-finish-requires
 finish-requires c κs =

@@ -43,8 +43,8 @@ run-by-rounds-requires : tie.Need-run-by-rounds-requires
 run-by-rounds-requires c κs =
     let begun = c .before .before in
     let laid = begun .before .before .before in
-    let loaded = laid .before .before .before .load-text in
-    rounds-asks _ _ _ _ _ _ (loads-laid (loaded .ensures) (laid .c .given .1)) _ _ (begun .fresh .ensures)
+    let loaded = laid .before .before .before in
+    rounds-asks _ _ _ _ _ _ (loads-laid (loaded .load-text .ensures) (laid .c .given .1)) _ _ (begun .fresh .ensures)
 
 finish-requires : tie.Need-finish-requires
 finish-requires c κs =

@@ -30,8 +30,8 @@ returns c =
     let vertices = c .before .before in
     let bytes = vertices .before .before .before .before in
     let head = bytes .before .before .before .before .before in
-    let reached = head .before .before .before .reached in
-    empty-says (reached .ensures) (head .write-head .ensures) (bytes .write-bytes .ensures) (vertices .write-vertices .ensures)
+    let reached = head .before .before .before in
+    empty-says (reached .reached .ensures) (head .write-head .ensures) (bytes .write-bytes .ensures) (vertices .write-vertices .ensures)
 
 pub write-empty-spec : {M : Type 1} → statement M
 write-empty-spec =

@@ -17,7 +17,10 @@ same-length : tie.Need-same-length
 same-length c = search needs
 
 returns : tie.Need-returns
-returns c = puts-then (puts (c .before .before .before .before .before .before .write-number .ensures)) (puts (c .before .before .write-byte .ensures))
+returns c =
+    let byte = c .before .before in
+    let number = byte .before .before .before .before in
+    puts-then (puts (number .write-number .ensures)) (puts (byte .write-byte .ensures))
 
 pub write-field-spec : {M : Type 1} → statement M
 write-field-spec =

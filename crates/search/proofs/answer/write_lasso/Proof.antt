@@ -30,8 +30,8 @@ returns c =
     let cycle = c .before .before in
     let stem = cycle .before .before .before .before in
     let bytes = stem .before .before .before .before in
-    let head = bytes .before .before .before .before .before .write-head in
-    lasso-says (head .ensures) (bytes .write-bytes .ensures) (stem .write-edges .ensures) (cycle .write-edges2 .ensures)
+    let head = bytes .before .before .before .before .before in
+    lasso-says (head .write-head .ensures) (bytes .write-bytes .ensures) (stem .write-edges .ensures) (cycle .write-edges2 .ensures)
 
 pub write-lasso-spec : {M : Type 1} → statement M
 write-lasso-spec =

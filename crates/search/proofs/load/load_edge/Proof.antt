@@ -49,8 +49,8 @@ returns-2 : tie.Need-returns-2
 returns-2 c =
     let jump = c .before .before .before in
     let to = jump .before .before in
-    let from = to .before .before .before .store-number in
-    pair-new _ _ _ _ _ _ (omega (arith, jump .if1 .left)) (rw (to .store-number2 .ensures, from .ensures) at (c .before .fill-number .ensures))
+    let from = to .before .before .before in
+    pair-new _ _ _ _ _ _ (omega (arith, jump .if1 .left)) (rw (to .store-number2 .ensures, from .store-number .ensures) at (c .before .fill-number .ensures))
 
 pub load-edge-spec : {M : Type 1} → statement M
 load-edge-spec =
