@@ -257,14 +257,18 @@ pub enum Row3 {
     Fault,
 }
 
-// A row of three numbers, and the place past the line.
+// A row of three numbers, and the place past the line. Not over `row_of_2`: with one caller left, the loop over edge lines,
+// that is inlined there.
 pub fn row_of_3(text: &[u8], at: usize) -> Row3
     ensures { λ r. ⌜ r ≡ row3-here (now (text .entry)) at ⌝ }
 {
     let Row1::Read(a, p) = number_before(text, at, SPACE) else {
         return Row3::Fault;
     };
-    let Row2::Read(b, c, z) = row_of_2(text, p) else {
+    let Row1::Read(b, q) = number_before(text, p, SPACE) else {
+        return Row3::Fault;
+    };
+    let Row1::Read(c, z) = row_of_1(text, q) else {
         return Row3::Fault;
     };
     Row3::Read(a, b, c, z)
