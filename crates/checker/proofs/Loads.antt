@@ -59,9 +59,6 @@ sound s a = files-sound s a
 pub few-vertices : {s : List ℕ} {c : Case} → Case-of s c → c .vertices ≤ most-vertices
 few-vertices {s} {c} o = rw (← o .vertices) (sound s (o .is-accepted) .1 .vertices)
 
-pub few-edges : {s : List ℕ} {c : Case} → Case-of s c → c .edges ≤ most-edges
-few-edges {s} {c} o = rw (← o .edges) (sound s (o .is-accepted) .1 .edges)
-
 -- its tables, as the passing rules ask of them
 pub tables : {s : List ℕ} {r : Judged} {marks marks′ owners owners′ froms froms′ tos tos′ : List ℕ} (g : Case-read s r marks marks′ owners owners′ froms froms′ tos tos′) {c : Case} → r ≡ Accepted c →
     most-vertices ≤ length marks → most-edges ≤ length froms → most-edges ≤ length tos → Tables (case-in s .graph) (c .edges) marks′ froms′ tos′

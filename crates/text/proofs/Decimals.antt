@@ -122,9 +122,6 @@ decimal-short v k p h = go (size-of v) (leb (length (digits 10 v)) k) refl
     go (large s) true e = leb-true (length (digits 10 v)) k e
     go (large s) false e = absurd (omega (arith, digits-least 10 v k (omega arith) (omega (arith, leb-false))))
 
-pub decimal-rises : (u v : ℕ) → u ≤ v → v < 10 ^ 10 → length (decimal u) ≤ length (decimal v)
-decimal-rises u v l h = decimal-short u (length (decimal v)) (decimal-some v) (omega (arith, decimal-holds v h))
-
 -- COUNTING the digits: n are counted, the last of them the last of w, and so many more may come
 pub record Counted (v w n : ℕ) : Type 0 where
   pub fuel : ℕ
@@ -242,12 +239,6 @@ pub digit-not : (b z : ℕ) → is-digit b ≡ true → z < 48 → eqb b z ≡ f
 unfolding is-digit
 digit-not b z d l = ne-eqb b z (λ e. omega (arith, leb-true 48 b (and-both (leb 48 b) (leb b 57) d .0)))
 
-pub all-digits-at : (w : List ℕ) (i : ℕ) → all-digits w ≡ true → i < length w → is-digit (getD w i 0) ≡ true
-unfolding all-digits
-all-digits-at [] i d h = absurd (omega arith)
-all-digits-at (b ∷ w) zero d h = and-both (is-digit b) (all-digits w) d .0
-all-digits-at (b ∷ w) (suc i) d h = all-digits-at w i (and-both (is-digit b) (all-digits w) d .1) (omega arith)
-
 -- the value
 value-append : (a : ℕ) (xs ys : List ℕ) → value-from a (xs ++ ys) ≡ value-from (value-from a xs) ys
 unfolding value-from
@@ -308,16 +299,6 @@ no-minus : (w : List ℕ) → all-digits w ≡ true → (has-minus w ≡ false) 
 unfolding has-minus without-minus all-digits
 no-minus [] d = (refl, refl)
 no-minus (b ∷ w) d = let n = digit-not b 45 (and-both (is-digit b) (all-digits w) d .0) (omega arith) in (n, rw n refl)
-
-pub signed-some : (z : ℤ) → 1 ≤ length (signed-decimal z)
-unfolding signed-decimal
-signed-some (pos v) = decimal-some v
-signed-some (negsuc v) = omega arith
-
-pub signed-short : (z : ℤ) → length (signed-decimal z) ≤ suc (length (decimal (natAbs z)))
-unfolding signed-decimal
-signed-short (pos v) = omega arith
-signed-short (negsuc v) = omega arith
 
 pub signed-number : (z : ℤ) → natAbs z < 10 ^ 9 → is-signed (signed-decimal z) ≡ true
 unfolding signed-decimal is-signed without-minus

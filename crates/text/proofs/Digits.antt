@@ -251,10 +251,6 @@ module _ (s : List ℕ) (at : ℕ) {r : Row1} (p : r ≡ digits-here s at) (q : 
   before-none stop = sym (rw run-fault)
 
 -- whether the field ends at a place
-ended-past : (s : List ℕ) (e : ℕ) → length s ≤ e → ended (drop e s) ≡ true
-unfolding ended
-ended-past s e h = rw (drop-of-length-le s h)
-
 ended-at : (s : List ℕ) (e : ℕ) → e < length s → ended (drop e s) ≡ is-separator (getD s e 0)
 unfolding ended
 ended-at s e h = rw (drop-cons s e 0 h)

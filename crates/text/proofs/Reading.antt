@@ -2,16 +2,15 @@
 use mathlib.Core.Path.{_≡_, refl, sym, ap, _∙_}
 use mathlib.Core.Bool.{Bool, true, false, _&&_, not, cond, and-false}
 use mathlib.Core.List.{List, [], _∷_, _++_}
-use Prim.Native.Nat.{ℕ, zero, suc, _+_, _*_, _-_, _^_, _≤_, _<_}
+use Prim.Native.Nat.{ℕ, zero, suc, _+_, _≤_, _<_}
 use native.Mathlib.Omega.{arith}
-use native.Mathlib.Nat.{add-zero, pow-succ', pow-le-pow-right}
-use lib.Dec.{leb, ltb, eqb, eqb·suc-suc, lit<}
+use lib.Dec.{ltb, eqb, eqb·suc-suc, lit<}
 use lib.ListN.{length, getD, drop, drop-of-length-le, length-drop}
 use lib.Seq.{drop-drop}
-use borrow.Author.Tests.{leb-true, leb-false, eqb-true, eqb-false, ne-eqb, not-true}
-use Rattle.text.specs.Ascii.{line-feed, digit-0}
+use borrow.Author.Tests.{eqb-true, eqb-false, ne-eqb, not-true}
+use Rattle.text.specs.Ascii.{line-feed}
 use Rattle.text.specs.Lines.{Line, lines, put-byte, fields, field, equal, begins, line-is}
-use Rattle.text.specs.Numbers.{most-digits, is-digit, all-digits, no-leading-zero, is-number, value, value-from, all-numbers, numbers-line, number-at}
+use Rattle.text.specs.Numbers.{is-number, value, all-numbers, numbers-line, number-at}
 use Rattle.text.specs.Reading.{line-here, past-line, field-here, named-here, number-in, leading-here, row1-here, row2-here, row3-here, row5-here}
 use Rattle.text.specs.declared.read.Number.{Number}
 use Rattle.text.specs.declared.read.Number.the-variants.{Is, Not}
@@ -26,26 +25,14 @@ use Rattle.text.specs.declared.read.Row3.the-variants.{Read as Read3, Fa
 use Rattle.text.specs.declared.read.Row5.{Row5}
 use Rattle.text.specs.declared.read.Row5.the-variants.{Read as Read5, Fault as Fault5}
 use Rattle.text.proofs.Tests.{and-both}
-use Rattle.text.proofs.Lines.{size, first, first-nil, first-feed, first-byte, rest-lines, size-within, equal-true}
-use Rattle.text.proofs.Digits.{digit-high, read-go, fault-go}
+use Rattle.text.proofs.Lines.{size, first, first-nil, first-feed, first-byte, rest-lines, equal-true}
+use Rattle.text.proofs.Digits.{read-go, fault-go}
 use Rattle.text.proofs.ReadingSteps.{past-size}
 use Rattle.text.proofs.ReadingRows.{Parted, Not-parted, numbers-more, leading-number, parted}
 
 -- THE NEXT LINE: past a line come the lines after it
 pub past-lines : (s : List ℕ) (at : ℕ) → lines (drop (past-line s at) s) ≡ drop 1 (lines (drop at s))
 past-lines s at = rw (past-size s at, ← drop-drop (size (line-here s at)) at s) (rest-lines (drop at s))
-
--- the place past a line is in the text where the line's place is, and where the line is closed
-pub past-within : (s : List ℕ) (at : ℕ) → at ≤ length s → past-line s at ≤ length s
-past-within s at h = omega (arith, past-size s at, size-within (drop at s), length-drop at s)
-
-pub past-rises : (s : List ℕ) (at : ℕ) → at ≤ past-line s at
-past-rises s at = omega (arith, past-size s at)
-
-pub closed-within : (s : List ℕ) (at : ℕ) → line-here s at .closed ≡ true → past-line s at ≤ length s
-closed-within s at h =
-    let e : size (line-here s at) ≡ length (line-here s at .text) + 1 = ap (λ (t : Bool). length (line-here s at .text) + cond t 1 0) h in
-    omega (arith, past-size s at, size-within (drop at s), length-drop at s)
 
 -- THE END: no line is left at the text's end, and one is before it
 pub no-lines : (s : List ℕ) (z : ℕ) → length s ≤ z → lines (drop z s) ≡ []
@@ -68,13 +55,6 @@ some-lines-go (b ∷ bs) h = go (eqb b line-feed)
 
 pub some-lines : (s : List ℕ) (z : ℕ) → z < length s → 0 < length (lines (drop z s))
 some-lines s z h = some-lines-go (drop z s) (omega (arith, length-drop z s))
-
-pub lines-end : (s : List ℕ) (z : ℕ) → length (lines (drop z s)) ≡ 0 → length s ≤ z
-lines-end s z h = go (leb (length s) z) refl
-  where
-    go : (t : Bool) → leb (length s) z ≡ t → length s ≤ z
-    go true e = leb-true (length s) z e
-    go false e = absurd (omega (arith, some-lines s z (leb-false (length s) z e)))
 
 -- A NAMED LINE: names that have no line feed are the line at a place, and what is past them is past it
 abbrev pub without-feed : List ℕ → Bool
@@ -124,8 +104,6 @@ named-past names s at h =
 pub record Line-named (s : List ℕ) (at : ℕ) (names : List ℕ) (z : ℕ) : Type 0 where
   pub line : line-is names (line-here s at) ≡ true
   pub past : past-line s at ≡ z
-  pub rest : lines (drop z s) ≡ drop 1 (lines (drop at s))
-  pub within : z ≤ length s
 
 named-go : (t : Bool) (x z : ℕ) → cond t (Past x) Other ≡ Past z → (t ≡ true) × (x ≡ z)
 named-go true x z h = (refl, cc)
@@ -140,47 +118,12 @@ unfolding named-here line-is
 named-read {s} {at} {names} {z} h p q =
     let g = named-go (begins (names ++ line-feed ∷ []) (drop at s)) (at + suc (length names)) z (sym p ∙ q) in
     let l : line-is names (line-here s at) ≡ true = sym (named-line names s at h) ∙ g .0 in
-    let e : past-line s at ≡ z = sym (named-past names s at l) ∙ g .1 in
-    record {
-      line = l;
-      past = e;
-      rest = ap (λ (k : ℕ). lines (drop k s)) (sym e) ∙ past-lines s at;
-      within = omega (arith, closed-within s at (and-both (line-here s at .closed) (equal (line-here s at .text) names) l .0));
-    }
+    record { line = l; past = sym (named-past names s at l) ∙ g .1 }
 
 pub named-other : (names : List ℕ) (s : List ℕ) (at : ℕ) {r : Named} → without-feed names ≡ true → r ≡ named-here s at names → r ≡ Other → line-is names (line-here s at) ≡ false
 unfolding named-here
 named-other names s at h p q =
     sym (named-line names s at h) ∙ other-go (begins (names ++ line-feed ∷ []) (drop at s)) (at + suc (length names)) (sym p ∙ q)
-
--- A NUMBER: its value has at most nine digits
-value-below : (v k : ℕ) (w : List ℕ) → v < 10 ^ k → all-digits w ≡ true → value-from v w < 10 ^ (k + length w)
-unfolding value-from all-digits
-value-below v k [] h d = rw add-zero h
-value-below v k (b ∷ w) h d =
-    let g = and-both (is-digit b) (all-digits w) d in
-    let n : k + suc (length w) ≡ suc k + length w = omega arith in
-    rw n (value-below (10 * v + (b - digit-0)) (suc k) w (rw (pow-succ' 10 k) (omega (arith, digit-high b (g .0)))) (g .1))
-
-pub value-small : (w : List ℕ) → is-number w ≡ true → value w < 1000000000
-unfolding is-number value
-value-small w h =
-    let g = and-both (leb 1 (length w) && leb (length w) most-digits) (all-digits w && no-leading-zero w) h in
-    let few : length w ≤ 9 = leb-true (length w) most-digits (and-both (leb 1 (length w)) (leb (length w) most-digits) (g .0) .1) in
-    let n : 0 + length w ≡ length w = omega arith in
-    omega (arith, rw n at (value-below 0 0 w (lit< tt) (and-both (all-digits w) (no-leading-zero w) (g .1) .0)), pow-le-pow-right {n = 10} (lit< tt) few)
-
-numbers-small-go : (fs : List (List ℕ)) (i : ℕ) → all-numbers fs ≡ true → value (getD fs i []) < 1000000000
-unfolding all-numbers value value-from
-numbers-small-go [] i h = lit< tt
-numbers-small-go (f ∷ fs) zero h = value-small f (and-both (is-number f) (all-numbers fs) h .0)
-numbers-small-go (f ∷ fs) (suc i) h = numbers-small-go fs i (and-both (is-number f) (all-numbers fs) h .1)
-
-pub number-small : (k : ℕ) (l : Line) (i : ℕ) → numbers-line k l ≡ true → number-at l i < 1000000000
-unfolding numbers-line number-at field
-number-small k l i h =
-    let g = and-both (l .closed) (eqb (length (fields (l .text))) k && all-numbers (fields (l .text))) h in
-    numbers-small-go (fields (l .text)) i (and-both (eqb (length (fields (l .text))) k) (all-numbers (fields (l .text))) (g .1) .1)
 
 -- ROWS: the line at a place has these numbers and no other field, and z is past it
 pub record Row (s : List ℕ) (at : ℕ) (vs : List ℕ) (z : ℕ) : Type 0 where
@@ -188,20 +131,10 @@ pub record Row (s : List ℕ) (at : ℕ) (vs : List ℕ) (z : ℕ) : Type 0 wher
   pub are : (i : ℕ) → i < length vs → number-at (line-here s at) i ≡ getD vs i 0
   pub past : past-line s at ≡ z
 
--- so z is in the text and what follows it are the lines after this one, and each number is small
+-- so what follows it are the lines after this one
 module _ {s : List ℕ} {at : ℕ} {vs : List ℕ} {z : ℕ} (r : Row s at vs z) where
   pub row-rest : lines (drop z s) ≡ drop 1 (lines (drop at s))
   row-rest = ap (λ (k : ℕ). lines (drop k s)) (sym (r .past)) ∙ past-lines s at
-
-  row-closed : line-here s at .closed ≡ true
-  unfolding numbers-line
-  row-closed = and-both (line-here s at .closed) (eqb (length (fields (line-here s at .text))) (length vs) && all-numbers (fields (line-here s at .text))) (r .line) .0
-
-  pub row-within : z ≤ length s
-  row-within = omega (arith, r .past, closed-within s at row-closed)
-
-  pub row-small : (i : ℕ) → i < length vs → getD vs i 0 < 1000000000
-  row-small i h = omega (arith, r .are i h, number-small (length vs) (line-here s at) i (r .line))
 
 -- the line at a place is no row of so many numbers
 pub record No-row (many : ℕ) (s : List ℕ) (at : ℕ) : Type 0 where
@@ -250,14 +183,6 @@ row1-read {s} {at} {a} {z} p q =
 pub row1-fault : (s : List ℕ) (at : ℕ) {r : Row1} → r ≡ row1-here s at → r ≡ Fault1 → No-row 1 s at
 unfolding row1-here
 row1-fault s at p q = record { none = fault-go (numbers-line 1 (line-here s at)) (number-at (line-here s at) 0) (past-line s at) (sym p ∙ q) }
-
-pub row1-is : {s : List ℕ} {at a z : ℕ} → Row s at (a ∷ []) z → Read1 a z ≡ row1-here s at
-unfolding row1-here
-row1-is r = sym (rw (r .line, r .are 0 (lit< tt), r .past))
-
-pub row1-none : {s : List ℕ} {at : ℕ} → No-row 1 s at → Fault1 ≡ row1-here s at
-unfolding row1-here
-row1-none r = sym (rw (r .none))
 
 are2 : (s : List ℕ) (at a b : ℕ) → number-at (line-here s at) 0 ≡ a → number-at (line-here s at) 1 ≡ b → (i : ℕ) → i < 2 → number-at (line-here s at) i ≡ getD (a ∷ b ∷ []) i 0
 are2 s at a b h0 h1 zero l = h0

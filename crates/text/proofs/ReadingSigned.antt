@@ -18,11 +18,10 @@ use Rattle.text.specs.declared.read.Signed.{Signed}
 use Rattle.text.specs.declared.read.Signed.the-variants.{Read as Read-signed, Fault as Fault-signed}
 use Rattle.text.specs.declared.read.SignedRow.{SignedRow}
 use Rattle.text.specs.declared.read.SignedRow.the-variants.{Read as Read-row, Fault as Fault-row}
-use Rattle.text.proofs.Tests.{and-both}
 use Rattle.text.proofs.Lines.{first, first-byte, field-nil, field-stop, field-byte, fields-byte, fields-some, glue}
 use Rattle.text.proofs.ReadingSteps.{past-byte}
 use Rattle.text.proofs.ReadingRows.{Parted, Not-parted, fields-more}
-use Rattle.text.proofs.Reading.{Row, No-row, past-lines, closed-within, value-small}
+use Rattle.text.proofs.Reading.{Row, No-row, past-lines}
 
 -- THE MINUS SIGN at a place
 separator-minus : (b : ℕ) → is-separator b ≡ true → b ≡ minus → ⊥
@@ -208,9 +207,6 @@ pub record Signed-at (s : List ℕ) (at a : ℕ) (sign : Bool) (v z : ℕ) : Typ
   pub worth : value (without-minus (field (line-here s at) 1)) ≡ v
   pub past : past-line s at ≡ z
   pub rest : lines (drop z s) ≡ drop 1 (lines (drop at s))
-  pub within : z ≤ length s
-  pub first-small : a < 1000000000
-  pub second-small : v < 1000000000
 
 at-go : (t m : Bool) (x w y : ℕ) {a : ℕ} {n : Bool} {v z : ℕ} → cond t (Read-row x m w y) Fault-row ≡ Read-row a n v z → (t ≡ true) × (x ≡ a) × (m ≡ n) × (w ≡ v) × (y ≡ z)
 at-go true m x w y h = (refl, cc, cc, cc, cc)
@@ -225,8 +221,6 @@ unfolding signed-row-here signed-line is-signed number-at
 signed-at {s} {at} {a} {n} {v} {z} p q =
     let l = line-here s at in
     let g = at-go (signed-line l) (has-minus (field l 1)) (number-at l 0) (value (without-minus (field l 1))) (past-line s at) (sym p ∙ q) in
-    let t = and-both (l .closed && eqb (length (fields (l .text))) 2) (is-number (field l 0) && is-signed (field l 1)) (g .0) in
-    let k = and-both (is-number (field l 0)) (is-signed (field l 1)) (t .1) in
     record {
       line = g .0;
       number = g .1;
@@ -234,9 +228,6 @@ signed-at {s} {at} {a} {n} {v} {z} p q =
       worth = g .3;
       past = g .4;
       rest = ap (λ (i : ℕ). lines (drop i s)) (sym (g .4)) ∙ past-lines s at;
-      within = omega (arith, g .4, closed-within s at (and-both (l .closed) (eqb (length (fields (l .text))) 2) (t .0) .0));
-      first-small = omega (arith, g .1, value-small (field l 0) (k .0));
-      second-small = omega (arith, g .3, value-small (without-minus (field l 1)) (k .1));
     }
 
 pub signed-fault : (s : List ℕ) (at : ℕ) {r : SignedRow} → r ≡ signed-row-here s at → r ≡ Fault-row → signed-line (line-here s at) ≡ false

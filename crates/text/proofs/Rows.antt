@@ -5,8 +5,7 @@ use mathlib.Core.Bool.{true, false}
 use mathlib.Core.List.{List, [], _∷_, _++_}
 use Prim.Native.Nat.{ℕ, _<_}
 use lib.Dec.{eqb}
-use lib.ListN.{getD}
-use Rattle.text.specs.Lines.{Line, closed-line, put-byte, lines, put-first, fields, field, joined, text}
+use Rattle.text.specs.Lines.{Line, closed-line, put-byte, lines, put-first, fields, joined, text}
 use Rattle.text.specs.Numbers.{is-digit, all-digits, decimal}
 use Rattle.text.proofs.Tests.{and-both}
 use Rattle.text.proofs.Decimals.{decimal-digits, digit-not}
@@ -67,10 +66,6 @@ pub lines-text : (rs : List (List (List ℕ))) → All-plain rs → lines (text 
 unfolding text row-lines
 lines-text [] p = unfold lines in refl
 lines-text (r ∷ rs) p = lines-closed (joined r) (text rs) (joined-without r (p .0)) ∙ ap (λ (l : List Line). closed-line (joined r) ∷ l) (lines-text rs (p .1))
-
-pub field-row : (r : List (List ℕ)) → Plain r → (i : ℕ) → field (closed-line (joined r)) i ≡ getD r i []
-unfolding field
-field-row r p i = ap (λ (l : List (List ℕ)). getD l i []) (fields-joined r p)
 
 -- a decimal has no byte below the digits: no space, line feed or minus sign
 digits-without : (z : ℕ) (w : List ℕ) → z < 48 → all-digits w ≡ true → Without z w

@@ -55,10 +55,6 @@ writes-fits at bs r o z h e p = record { fits = λ _. (e, p); full = λ g. absur
 pub writes-full : (at : ℕ) (bs : List ℕ) (o : List ℕ) → length o < at + length bs → Writes at bs no-room o o
 writes-full at bs o h = record { fits = λ g. absurd (omega arith); full = λ _. (refl, refl) }
 
--- after a write that had no room a later one has none either
-pub writes-nowhere : {bs : List ℕ} {r : ℕ} {o z : List ℕ} → length o ≤ no-room → 1 ≤ length bs → Writes no-room bs r o z → (r ≡ no-room) × (z ≡ o)
-writes-nowhere h p w = w .full (omega arith)
-
 -- WHAT IS LEFT to write gives the whole, and has its room
 pub record Left (at : ℕ) (all : List ℕ) (here : ℕ) (rest : List ℕ) (o z : List ℕ) : Type 0 where
   pub ends : here + length rest ≡ at + length all
@@ -78,11 +74,6 @@ left-step {at} {all} {here} {rest} {o} {z} bs more {r} {z′} l q w =
       room = omega (arith, l .room, writes-length w);
       holds = rw (f .1, f .0) (sym (put-append here bs more z (omega (arith, l .room, ap length q)))) ∙ (rw q at (l .holds));
     }
-
-pub left-end : {at : ℕ} {all : List ℕ} {here : ℕ} {rest : List ℕ} {o z : List ℕ} → Left at all here rest o z → rest ≡ [] → (here ≡ at + length all) × (z ≡ put at all o)
-left-end {at} {all} {here} {rest} {o} {z} l q =
-    let n : length rest ≡ 0 = ap length q in
-    (omega (arith, l .ends), sym (put-none here z (omega (arith, l .room))) ∙ (rw q at (l .holds)))
 
 -- the last step
 pub left-last : {at : ℕ} {all : List ℕ} {here : ℕ} {rest : List ℕ} {o z : List ℕ} {r : ℕ} {z′ : List ℕ}
