@@ -5,7 +5,7 @@ use mathlib.Core.List.{List}
 use Prim.Native.Nat.{ℕ, _≤_}
 use native.Mathlib.Omega.{arith}
 use lib.ListN.{length}
-use Rattle.model.specs.Graph.{edge, mark}
+use Rattle.model.specs.Graph.{edge}
 use Rattle.model.specs.Case.{most-vertices, most-edges, Sound, Within}
 use Rattle.model.specs.CaseFile.{case-refusal, accepted, case-in}
 use Rattle.model.specs.Promise.{Files-sound}
