@@ -12,7 +12,10 @@ same-length : tie.Need-same-length
 same-length c = search needs
 
 returns : tie.Need-returns
-returns c = writes-turned _ _ (c .before .before .before .before .if1 .taken) (refused-puts _ (c .before .before .write-refusal .ensures))
+returns c =
+    let refusal = c .before .before in
+    let refused = refusal .before .before in
+    writes-turned _ _ (refused .if1 .taken) (refused-puts _ (refusal .write-refusal .ensures))
 
 slice-aggregate-write-bytes : tie.Need-slice-aggregate-write-bytes
 slice-aggregate-write-bytes c = search needs

@@ -49,8 +49,8 @@ array-share-prefix-marks c =
 slice-aggregate-load-case : tie.Need-slice-aggregate-load-case
 slice-aggregate-load-case c =
     let accepted = c .before .before .before .before .before .before in
-    let read = accepted .before .before .before .before .before .before .read-case in
-    sym (length-take-le _ _ (omega (arith, counts-few _ (read .ensures .answer) (accepted .c .given .1) .2, read .kept .1 .0)))
+    let read = accepted .before .before .before .before .before .before in
+    sym (length-take-le _ _ (omega (arith, counts-few _ (read .read-case .ensures .answer) (accepted .c .given .1) .2, read .read-case .kept .1 .0)))
 
 array-share-prefix-owners : tie.Need-array-share-prefix-owners
 array-share-prefix-owners c =
@@ -61,8 +61,8 @@ array-share-prefix-owners c =
 slice-aggregate-load-case-2 : tie.Need-slice-aggregate-load-case-2
 slice-aggregate-load-case-2 c =
     let accepted = c .before .before .before .before .before .before .before in
-    let read = accepted .before .before .before .before .before .before .read-case in
-    sym (length-take-le _ _ (omega (arith, counts-few _ (read .ensures .answer) (accepted .c .given .1) .2, read .kept .1 .1 .0)))
+    let read = accepted .before .before .before .before .before .before in
+    sym (length-take-le _ _ (omega (arith, counts-few _ (read .read-case .ensures .answer) (accepted .c .given .1) .2, read .read-case .kept .1 .1 .0)))
 
 array-share-prefix-froms : tie.Need-array-share-prefix-froms
 array-share-prefix-froms c =
@@ -73,8 +73,8 @@ array-share-prefix-froms c =
 slice-aggregate-load-case-3 : tie.Need-slice-aggregate-load-case-3
 slice-aggregate-load-case-3 c =
     let accepted = c .before .before .before .before .before .before .before .before in
-    let read = accepted .before .before .before .before .before .before .read-case in
-    sym (length-take-le _ _ (omega (arith, counts-few _ (read .ensures .answer) (accepted .c .given .1) .1, read .kept .1 .1 .1 .0)))
+    let read = accepted .before .before .before .before .before .before in
+    sym (length-take-le _ _ (omega (arith, counts-few _ (read .read-case .ensures .answer) (accepted .c .given .1) .1, read .read-case .kept .1 .1 .1 .0)))
 
 array-share-prefix-tos : tie.Need-array-share-prefix-tos
 array-share-prefix-tos c =
@@ -85,8 +85,8 @@ array-share-prefix-tos c =
 slice-aggregate-load-case-4 : tie.Need-slice-aggregate-load-case-4
 slice-aggregate-load-case-4 c =
     let accepted = c .before .before .before .before .before .before .before .before .before in
-    let read = accepted .before .before .before .before .before .before .read-case in
-    sym (length-take-le _ _ (omega (arith, counts-few _ (read .ensures .answer) (accepted .c .given .1) .1, read .kept .1 .1 .1 .1 .0)))
+    let read = accepted .before .before .before .before .before .before in
+    sym (length-take-le _ _ (omega (arith, counts-few _ (read .read-case .ensures .answer) (accepted .c .given .1) .1, read .read-case .kept .1 .1 .1 .1 .0)))
 
 load-case-requires : tie.Need-load-case-requires
 load-case-requires c κs =

@@ -29,7 +29,10 @@ enum-known-c : tie.Need-enum-known-c
 enum-known-c c = search needs
 
 fresh-requires : tie.Need-fresh-requires
-fresh-requires c κs = fresh-asks _ _ _ _ _ _ (loads-laid (c .before .before .before .before .before .load-text .ensures) (c .before .before .c .given .1))
+fresh-requires c κs =
+    let laid = c .before .before in
+    let loaded = laid .before .before .before in
+    fresh-asks _ _ _ _ _ _ (loads-laid (loaded .load-text .ensures) (laid .c .given .1))
 
 act-list-requires : tie.Need-act-list-requires
 act-list-requires c κs =

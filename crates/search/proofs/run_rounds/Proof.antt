@@ -37,7 +37,10 @@ enum-known-c : tie.Need-enum-known-c
 enum-known-c c = search needs
 
 fresh-requires : tie.Need-fresh-requires
-fresh-requires c κs = fresh-asks _ _ _ _ _ _ (loads-laid (c .before .before .before .before .before .load-text .ensures) (c .before .before .c .given .1))
+fresh-requires c κs =
+    let laid = c .before .before in
+    let loaded = laid .before .before .before in
+    fresh-asks _ _ _ _ _ _ (loads-laid (loaded .load-text .ensures) (laid .c .given .1))
 
 run-by-rounds-requires : tie.Need-run-by-rounds-requires
 run-by-rounds-requires c κs =

@@ -38,19 +38,22 @@ returns-2 : tie.Need-returns-2 Inv-loop μ-loop
 returns-2 c = omega (arith, c .before .before .before .before .before .before .read-more .kept .1 .0)
 
 add-done : tie.Need-add-done Inv-loop μ-loop
-add-done c = omega (arith, rw (c .before .before .n .given .1) at (c .before .before .before .before .before .before .read-more .ensures))
+add-done c =
+    let given = c .before .before in
+    let read = given .before .before .before .before in
+    omega (arith, rw (given .n .given .1) at (read .read-more .ensures))
 
 loop-less : tie.Need-loop-less Inv-loop μ-loop
 loop-less c =
     let given = c .before .before in
-    let read = given .before .before .before .before .read-more in
-    omega (arith, rw (given .n .given .1) at (read .ensures), read .kept .1 .0)
+    let read = given .before .before .before .before in
+    omega (arith, rw (given .n .given .1) at (read .read-more .ensures), read .read-more .kept .1 .0)
 
 loop-again : tie.Need-loop-again Inv-loop μ-loop
 loop-again c =
     let given = c .before .before in
-    let read = given .before .before .before .before .read-more in
-    omega (arith, rw (given .n .given .1) at (read .ensures), read .kept .1 .0)
+    let read = given .before .before .before .before in
+    omega (arith, rw (given .n .given .1) at (read .read-more .ensures), read .read-more .kept .1 .0)
 
 same-length-3 : tie.Need-same-length-3 Inv-loop μ-loop
 same-length-3 c = search needs

@@ -14,7 +14,10 @@ same-length : tie.Need-same-length
 same-length c = search needs
 
 returns : tie.Need-returns
-returns c = writes-lasso _ (c .before .before .before .before .before .if1 .taken) (c .before .before .write-bytes .ensures)
+returns c =
+    let bytes = c .before .before in
+    let lasso = bytes .before .before .before in
+    writes-lasso _ (lasso .if1 .taken) (bytes .write-bytes .ensures)
 
 slice-aggregate-write-bytes-2 : tie.Need-slice-aggregate-write-bytes-2
 slice-aggregate-write-bytes-2 c = search needs

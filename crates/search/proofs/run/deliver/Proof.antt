@@ -57,8 +57,9 @@ emptied : (c : tie.After-store) (q : Case) (x : State) → let a = c .before .be
     → let k = a .run in
     Rep q (with-cells (set (x .cells) (a .e) none) x) (record { queued = k .queued; full = k .full - 1; acts = k .acts; broken = k .broken; marks = k .marks; ended = k .ended }) (c .store .last .0)
 emptied c q x rep h =
-    let m = waits (c .before .before) q x rep h in
-    let e = c .before .before .before .before .before .before .args .e in
+    let waiting = c .before .before in
+    let m = waits waiting q x rep h in
+    let e = waiting .before .before .before .before .args .e in
     rw (c .store .ensures) (cell-emptied q x _ _ e (m .0) rep h (m .1) _ (omega (arith, some-full q x _ _ e (m .0) rep h (m .1))))
 
 -- and the offer relaxed
