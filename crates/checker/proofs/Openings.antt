@@ -21,6 +21,7 @@ use Rattle.model.specs.Passing.{says-lasso, head-layout, counts-fit, stem-in, c
 use Rattle.model.specs.Entry.{Check-says}
 use Rattle.model.specs.declared.Checked.{Checked}
 use Rattle.text.proofs.Places.{skip-one, skip-last, skip-lines, skip-line}
+use Rattle.casefile.proofs.Whole.{Opened}
 use Rattle.casefile.proofs.Refusals.{first-one, first-append, first-decides}
 use Rattle.checker.specs.Checking.{Told, counts-of, head-here, counts-right, opening-refusal, opening, edge-lines-refusal, vertex-lines-refusal}
 use Rattle.checker.specs.declared.opening.Counts.{Counts}
@@ -81,47 +82,47 @@ module _ (s : List ℕ) (short : length s ≤ longest-file) where
     pub another-version : other-version (lines s) ≡ true → Refused 3 ≡ opening s
     another-version v = opening-refused s 2 (unfold opening-refusal in (rw (le-ltb longest-file (length s) short, begun, v) (unfold refuse first-of in refl)))
 
-    module _ (version : other-version (lines s) ≡ false) where
-      mislaid : (line-is answer-names (line-at (lines s) 0) && head-layout (line-at (lines s) 1)) ≡ false → Refused 12 ≡ opening s
-      mislaid l = opening-refused s 11 (unfold opening-refusal in (rw (le-ltb longest-file (length s) short, begun, version, l) (unfold refuse first-of in refl)))
+module _ {s : List ℕ} (o : Opened s) where
+  mislaid : (line-is answer-names (line-at (lines s) 0) && head-layout (line-at (lines s) 1)) ≡ false → Refused 12 ≡ opening s
+  mislaid l = opening-refused s 11 (unfold opening-refusal in (rw (le-ltb longest-file (length s) (o .short), o .begun, o .version, l) (unfold refuse first-of in refl)))
 
-      pub unnamed : line-is answer-names (line-here s 0) ≡ false → Refused 12 ≡ opening s
-      unnamed h = mislaid (rw h refl)
+  pub unnamed : line-is answer-names (line-here s 0) ≡ false → Refused 12 ≡ opening s
+  unnamed h = mislaid (rw h refl)
 
-      module _ {z : ℕ} (named : Line-named s 0 answer-names z) where
-        line-2 : line-here s z ≡ line-at (lines s) 1
-        line-2 = rw (sym (named .past) ∙ sym (skip-one s 0)) (skip-line 1 s 0)
+  module _ {z : ℕ} (named : Line-named s 0 answer-names z) where
+    line-2 : line-here s z ≡ line-at (lines s) 1
+    line-2 = rw (sym (named .past) ∙ sym (skip-one s 0)) (skip-line 1 s 0)
 
-        pub unheaded : head-layout (line-here s z) ≡ false → Refused 12 ≡ opening s
-        unheaded h = mislaid (rw (rw line-2 at h, and-false) refl)
+    pub unheaded : head-layout (line-here s z) ≡ false → Refused 12 ≡ opening s
+    unheaded h = mislaid (rw (rw line-2 at h, and-false) refl)
 
-        module _ {b : Bool} {c : Counts} {q : ℕ} (h : Headed s z b c q) where
-          laid : (line-is answer-names (line-at (lines s) 0) && head-layout (line-at (lines s) 1)) ≡ true
-          laid = both-true _ _ (named .line) (rw line-2 at (h .layout))
+    module _ {b : Bool} {c : Counts} {q : ℕ} (h : Headed s z b c q) where
+      laid : (line-is answer-names (line-at (lines s) 0) && head-layout (line-at (lines s) 1)) ≡ true
+      laid = both-true _ _ (named .line) (rw line-2 at (h .layout))
 
-          counts : counts-fit (line-at (lines s) 1) ≡ counts-right b (c .stem) (c .cycle) (c .reached)
-          unfolding counts-fit counts-right
-          counts = rw (← line-2, h .word, stem-is _ (h .counts), cycle-is _ (h .counts), reached-is _ (h .counts)) refl
+      counts : counts-fit (line-at (lines s) 1) ≡ counts-right b (c .stem) (c .cycle) (c .reached)
+      unfolding counts-fit counts-right
+      counts = rw (← line-2, h .word, stem-is _ (h .counts), cycle-is _ (h .counts), reached-is _ (h .counts)) refl
 
-          place : skip 2 s 0 ≡ q
-          place = skip-last 1 s 0 ∙ (rw (skip-one s 0, named .past) (h .past))
+      place : skip 2 s 0 ≡ q
+      place = skip-last 1 s 0 ∙ (rw (skip-one s 0, named .past) (h .past))
 
-          pub miscounted : counts-right b (c .stem) (c .cycle) (c .reached) ≡ false → Refused 12 ≡ opening s
-          miscounted g =
-              opening-refused s 11 (unfold opening-refusal in (rw (le-ltb longest-file (length s) short, begun, version, laid, counts ∙ g) (unfold refuse first-of in refl)))
+      pub miscounted : counts-right b (c .stem) (c .cycle) (c .reached) ≡ false → Refused 12 ≡ opening s
+      miscounted g =
+          opening-refused s 11 (unfold opening-refusal in (rw (le-ltb longest-file (length s) (o .short), o .begun, o .version, laid, counts ∙ g) (unfold refuse first-of in refl)))
 
-          module _ (g : counts-right b (c .stem) (c .cycle) (c .reached) ≡ true) where
-            right : opening-refusal s ≡ 0
-            unfolding opening-refusal
-            right = rw (le-ltb longest-file (length s) short, begun, version, laid, counts ∙ g) (unfold refuse first-of in refl)
+      module _ (g : counts-right b (c .stem) (c .cycle) (c .reached) ≡ true) where
+        right : opening-refusal s ≡ 0
+        unfolding opening-refusal
+        right = rw (le-ltb longest-file (length s) (o .short), o .begun, o .version, laid, counts ∙ g) (unfold refuse first-of in refl)
 
-            pub says-a-lasso : b ≡ true → Lasso c q ≡ opening s
-            unfolding opening
-            says-a-lasso e = sym (rw (right, ← line-2, h .word, e, h .counts, place) refl)
+        pub says-a-lasso : b ≡ true → Lasso c q ≡ opening s
+        unfolding opening
+        says-a-lasso e = sym (rw (right, ← line-2, h .word, e, h .counts, place) refl)
 
-            pub says-none : b ≡ false → Empty (c .reached) q ≡ opening s
-            unfolding opening
-            says-none e = sym (rw (right, ← line-2, h .word, e, h .counts, place) refl)
+        pub says-none : b ≡ false → Empty (c .reached) q ≡ opening s
+        unfolding opening
+        says-none e = sym (rw (right, ← line-2, h .word, e, h .counts, place) refl)
 
 -- WHAT THEY SAY where there is no fault
 pub record Said-lasso (s : List ℕ) (c : Counts) (z : ℕ) : Type 0 where

@@ -52,7 +52,10 @@ same-length-4 : tie.Need-same-length-4 Inv-loop μ-loop
 same-length-4 c = c .before .before .before .before .before .before .loop .inv .1 .long-two
 
 returns-2 : tie.Need-returns-2 Inv-loop μ-loop
-returns-2 c = let g = c .before .before .before .before .before .before .loop .inv in block-stops (g .1) (edges-clean (g .0)) (omega arith) (edges-out (g .0) (row2-read (c .before .before .before .before .row-of-2 .ensures) (c .before .before .from .given .1)) (rw (le-ltb _ _ (c .if1 .taken))))
+returns-2 c =
+    let line = c .before .before in
+    let g = line .before .before .before .before .loop .inv in
+    block-stops (g .1) (edges-clean (g .0)) (omega arith) (edges-out (g .0) (row2-read (line .before .before .row-of-2 .ensures) (line .from .given .1)) (rw (le-ltb _ _ (c .if1 .taken))))
 
 cast-if2 : tie.Need-cast-if2 Inv-loop μ-loop
 cast-if2 c = search needs
@@ -64,7 +67,10 @@ same-length-6 : tie.Need-same-length-6 Inv-loop μ-loop
 same-length-6 c = c .before .before .before .before .before .before .before .loop .inv .1 .long-two
 
 returns-3 : tie.Need-returns-3 Inv-loop μ-loop
-returns-3 c = let g = c .before .before .before .before .before .before .before .loop .inv in block-stops (g .1) (edges-clean (g .0)) (omega arith) (edges-out (g .0) (row2-read (c .before .before .before .before .before .row-of-2 .ensures) (c .before .before .before .from .given .1)) (rw (le-ltb _ _ (c .if2 .taken), and-false)))
+returns-3 c =
+    let line = c .before .before .before in
+    let g = line .before .before .before .before .loop .inv in
+    block-stops (g .1) (edges-clean (g .0)) (omega arith) (edges-out (g .0) (row2-read (line .before .before .row-of-2 .ensures) (line .from .given .1)) (rw (le-ltb _ _ (c .if2 .taken), and-false)))
 
 rising-requires : tie.Need-rising-requires Inv-loop μ-loop
 rising-requires c κs = search needs
@@ -76,7 +82,10 @@ same-length-8 : tie.Need-same-length-8 Inv-loop μ-loop
 same-length-8 c = c .before .before .before .before .before .before .before .before .before .loop .inv .1 .long-two
 
 returns-4 : tie.Need-returns-4 Inv-loop μ-loop
-returns-4 c = let g = c .before .before .before .before .before .before .before .before .before .loop .inv in block-stops (g .1) (edges-clean (g .0)) (omega arith) (edges-back (g .0) (row2-read (c .before .before .before .before .before .before .before .row-of-2 .ensures) (c .before .before .before .before .before .from .given .1)) (omega arith) (omega arith) (sym (c .before .rising .ensures) ∙ refuted _ _ (c .if3 .taken) refl))
+returns-4 c =
+    let line = c .before .before .before .before .before in
+    let g = line .before .before .before .before .loop .inv in
+    block-stops (g .1) (edges-clean (g .0)) (omega arith) (edges-back (g .0) (row2-read (line .before .before .row-of-2 .ensures) (line .from .given .1)) (omega arith) (omega arith) (sym (c .before .rising .ensures) ∙ refuted _ _ (c .if3 .taken) refl))
 
 put-requires : tie.Need-put-requires Inv-loop μ-loop
 put-requires c κs = search needs
@@ -91,9 +100,12 @@ loop-less : tie.Need-loop-less Inv-loop μ-loop
 loop-less c = omega (arith, c .before .before .before .before .before .before .before .before .before .before .before .before .before .before .before .before .loop-test .taken)
 
 loop-again : tie.Need-loop-again Inv-loop μ-loop
-loop-again c = let g = c .before .before .before .before .before .before .before .before .before .before .before .before .before .before .before .before .before .loop .inv in
+loop-again c =
+    let line = c .before .before .before .before .before .before .before .before .before .before .before .before .before in
+    let g = line .before .before .before .before .loop .inv in
+    let rises = sym (c .before .before .before .before .before .before .before .before .before .rising .ensures) ∙ upheld _ _ (c .before .before .before .before .before .before .before .before .if3 .left) refl in
     rw (c .before .before .put2 .ensures, c .before .before .before .before .before .before .put .ensures)
-    (edges-more (g .0) (row2-read (c .before .before .before .before .before .before .before .before .before .before .before .before .before .before .before .row-of-2 .ensures) (c .before .before .before .before .before .before .before .before .before .before .before .before .before .from .given .1)) (c .before .before .before .before .before .before .before .before .before .before .before .before .before .before .before .before .loop-test .taken) (omega (arith, c .before .before .before .before .before .before .before .before .before .before .before .if1 .left)) (omega (arith, c .before .before .before .before .before .before .before .before .before .before .if2 .left)) (sym (c .before .before .before .before .before .before .before .before .before .rising .ensures) ∙ upheld _ _ (c .before .before .before .before .before .before .before .before .if3 .left) refl), lines-more (g .1) (row2-read (c .before .before .before .before .before .before .before .before .before .before .before .before .before .before .before .row-of-2 .ensures) (c .before .before .before .before .before .before .before .before .before .before .before .before .before .from .given .1)) (lit< tt) (lit< tt))
+    (edges-more (g .0) (row2-read (line .before .before .row-of-2 .ensures) (line .from .given .1)) (line .before .before .before .loop-test .taken) (omega (arith, c .before .before .before .before .before .before .before .before .before .before .before .if1 .left)) (omega (arith, c .before .before .before .before .before .before .before .before .before .before .if2 .left)) rises, lines-more (g .1) (row2-read (line .before .before .row-of-2 .ensures) (line .from .given .1)) (lit< tt) (lit< tt))
 
 same-length-9 : tie.Need-same-length-9 Inv-loop μ-loop
 same-length-9 c = c .before .loop .inv .1 .long-one

@@ -76,7 +76,9 @@ in-range-requires : tie.Need-in-range-requires
 in-range-requires c κs = search needs
 
 returns-6 : tie.Need-returns-6
-returns-6 c = head-miscounted (opened (c .before .before .before .before .before .before .before .before .before .before .before)) (named (c .before .before .before .before .before .before .before)) (row5-read (c .before .before .before .before .before .row-of-5 .ensures) (c .before .before .before .n .given .1)) (sym (c .before .in-range .ensures) ∙ refuted _ _ (c .if4 .taken) refl)
+returns-6 c =
+    let counts = c .before .before .before in
+    head-miscounted (opened (counts .before .before .before .before .before .before .before .before)) (named (counts .before .before .before .before)) (row5-read (counts .before .before .row-of-5 .ensures) (counts .n .given .1)) (sym (c .before .in-range .ensures) ∙ refuted _ _ (c .if4 .taken) refl)
 
 slice-aggregate-name-line-2 : tie.Need-slice-aggregate-name-line-2
 slice-aggregate-name-line-2 c = search needs
@@ -91,10 +93,14 @@ enum-told-3 : tie.Need-enum-told-3
 enum-told-3 c = search needs
 
 returns-7 : tie.Need-returns-7
-returns-7 c = head-untitled (opened (c .before .before .before .before .before .before .before .before .before .before .before .before .before .before .before)) (named (c .before .before .before .before .before .before .before .before .before .before .before)) (row5-read (c .before .before .before .before .before .before .before .before .before .row-of-5 .ensures) (c .before .before .before .before .before .before .before .n .given .1)) (sym (c .before .before .before .before .before .in-range .ensures) ∙ upheld _ _ (c .before .before .before .before .if4 .left) refl) (named-other vertex-names _ _ refl (c .before .before .name-line2 .ensures) (c .enum-told3 .given .1))
+returns-7 c =
+    let counts = c .before .before .before .before .before .before .before in
+    head-untitled (opened (counts .before .before .before .before .before .before .before .before)) (named (counts .before .before .before .before)) (row5-read (counts .before .before .row-of-5 .ensures) (counts .n .given .1)) (sym (c .before .before .before .before .before .in-range .ensures) ∙ upheld _ _ (c .before .before .before .before .if4 .left) refl) (named-other vertex-names _ _ refl (c .before .before .name-line2 .ensures) (c .enum-told3 .given .1))
 
 returns-8 : tie.Need-returns-8
-returns-8 c = head-whole (opened (c .before .before .before .before .before .before .before .before .before .before .before .before .before .before .before .before)) (named (c .before .before .before .before .before .before .before .before .before .before .before .before)) (row5-read (c .before .before .before .before .before .before .before .before .before .before .row-of-5 .ensures) (c .before .before .before .before .before .before .before .before .n .given .1)) (sym (c .before .before .before .before .before .before .in-range .ensures) ∙ upheld _ _ (c .before .before .before .before .before .if4 .left) refl) (named-read refl (c .before .before .before .name-line2 .ensures) (c .before .rows .given .1))
+returns-8 c =
+    let counts = c .before .before .before .before .before .before .before .before in
+    head-whole (opened (counts .before .before .before .before .before .before .before .before)) (named (counts .before .before .before .before)) (row5-read (counts .before .before .row-of-5 .ensures) (counts .n .given .1)) (sym (c .before .before .before .before .before .before .in-range .ensures) ∙ upheld _ _ (c .before .before .before .before .before .if4 .left) refl) (named-read refl (c .before .before .before .name-line2 .ensures) (c .before .rows .given .1))
 
 pub read-head-spec : {M : Type 1} → statement M
 read-head-spec =

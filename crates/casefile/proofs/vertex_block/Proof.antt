@@ -49,7 +49,10 @@ same-length-4 : tie.Need-same-length-4 Inv-loop μ-loop
 same-length-4 c = c .before .before .before .before .before .before .before .loop .inv .1 .long-two
 
 returns-2 : tie.Need-returns-2 Inv-loop μ-loop
-returns-2 c = let g = c .before .before .before .before .before .before .before .loop .inv in block-stops (g .1) (vertices-clean (g .0)) (omega arith) (vertices-wrong (g .0) (row3-read (c .before .before .before .before .before .row-of-3 .ensures) (c .before .before .before .vertex .given .1)) (sym (c .before .vertex-right .ensures) ∙ refuted _ _ (c .if1 .taken) refl))
+returns-2 c =
+    let line = c .before .before .before in
+    let g = line .before .before .before .before .loop .inv in
+    block-stops (g .1) (vertices-clean (g .0)) (omega arith) (vertices-wrong (g .0) (row3-read (line .before .before .row-of-3 .ensures) (line .vertex .given .1)) (sym (c .before .vertex-right .ensures) ∙ refuted _ _ (c .if1 .taken) refl))
 
 put-requires : tie.Need-put-requires Inv-loop μ-loop
 put-requires c κs = search needs
@@ -64,9 +67,12 @@ loop-less : tie.Need-loop-less Inv-loop μ-loop
 loop-less c = omega (arith, c .before .before .before .before .before .before .before .before .before .before .before .before .before .before .loop-test .taken)
 
 loop-again : tie.Need-loop-again Inv-loop μ-loop
-loop-again c = let g = c .before .before .before .before .before .before .before .before .before .before .before .before .before .before .before .loop .inv in
+loop-again c =
+    let line = c .before .before .before .before .before .before .before .before .before .before .before in
+    let g = line .before .before .before .before .loop .inv in
+    let right = sym (c .before .before .before .before .before .before .before .before .before .vertex-right .ensures) ∙ upheld _ _ (c .before .before .before .before .before .before .before .before .if1 .left) refl in
     rw (c .before .before .put2 .ensures, c .before .before .before .before .before .before .put .ensures)
-    (vertices-more (g .0) (row3-read (c .before .before .before .before .before .before .before .before .before .before .before .before .before .row-of-3 .ensures) (c .before .before .before .before .before .before .before .before .before .before .before .vertex .given .1)) (c .before .before .before .before .before .before .before .before .before .before .before .before .before .before .loop-test .taken) (sym (c .before .before .before .before .before .before .before .before .before .vertex-right .ensures) ∙ upheld _ _ (c .before .before .before .before .before .before .before .before .if1 .left) refl), lines-more (g .1) (row3-read (c .before .before .before .before .before .before .before .before .before .before .before .before .before .row-of-3 .ensures) (c .before .before .before .before .before .before .before .before .before .before .before .vertex .given .1)) (lit< tt) (lit< tt))
+    (vertices-more (g .0) (row3-read (line .before .before .row-of-3 .ensures) (line .vertex .given .1)) (line .before .before .before .loop-test .taken) right, lines-more (g .1) (row3-read (line .before .before .row-of-3 .ensures) (line .vertex .given .1)) (lit< tt) (lit< tt))
 
 same-length-5 : tie.Need-same-length-5 Inv-loop μ-loop
 same-length-5 c = c .before .loop .inv .1 .long-one

@@ -45,7 +45,9 @@ same-length-2 : tie.Need-same-length-2 Inv-loop μ-loop
 same-length-2 c = search needs
 
 returns-2 : tie.Need-returns-2 Inv-loop μ-loop
-returns-2 c = listing-wrong (c .before .before .before .before .before .before .before .loop .inv) (omega arith) (signed-at (c .before .before .before .before .before .signed-row .ensures) (c .before .before .before .vertex .given .1)) (sym (c .before .in-order .ensures) ∙ refuted _ _ (c .if1 .taken) refl)
+returns-2 c =
+    let line = c .before .before .before in
+    listing-wrong (line .before .before .before .before .loop .inv) (omega arith) (signed-at (line .before .before .signed-row .ensures) (line .vertex .given .1)) (sym (c .before .in-order .ensures) ∙ refuted _ _ (c .if1 .taken) refl)
 
 is-distance-requires : tie.Need-is-distance-requires Inv-loop μ-loop
 is-distance-requires c κs = search needs
@@ -54,16 +56,27 @@ same-length-3 : tie.Need-same-length-3 Inv-loop μ-loop
 same-length-3 c = search needs
 
 returns-3 : tie.Need-returns-3 Inv-loop μ-loop
-returns-3 c = listing-far (c .before .before .before .before .before .before .before .before .before .loop .inv) (omega arith) (signed-at (c .before .before .before .before .before .before .before .signed-row .ensures) (c .before .before .before .before .before .vertex .given .1)) (sym (c .before .before .before .in-order .ensures) ∙ upheld _ _ (c .before .before .if1 .left) refl) (sym (c .before .is-distance .ensures) ∙ refuted _ _ (c .if2 .taken) refl)
+returns-3 c =
+    let line = c .before .before .before .before .before in
+    let in-order = sym (c .before .before .before .in-order .ensures) ∙ upheld _ _ (c .before .before .if1 .left) refl in
+    listing-far (line .before .before .before .before .loop .inv) (omega arith) (signed-at (line .before .before .signed-row .ensures) (line .vertex .given .1)) in-order (sym (c .before .is-distance .ensures) ∙ refuted _ _ (c .if2 .taken) refl)
 
 signed-requires : tie.Need-signed-requires Inv-loop μ-loop
-signed-requires c κs = far-most (c .before .before .before .before .before .before .before .before .before .loop .inv) (omega arith) (signed-at (c .before .before .before .before .before .before .before .signed-row .ensures) (c .before .before .before .before .before .vertex .given .1)) (sym (c .before .before .before .in-order .ensures) ∙ upheld _ _ (c .before .before .if1 .left) refl) (sym (c .before .is-distance .ensures) ∙ upheld _ _ (c .if2 .left) refl)
+signed-requires c κs =
+    let line = c .before .before .before .before .before in
+    let in-order = sym (c .before .before .before .in-order .ensures) ∙ upheld _ _ (c .before .before .if1 .left) refl in
+    let near = sym (c .before .is-distance .ensures) ∙ upheld _ _ (c .if2 .left) refl in
+    far-most (line .before .before .before .before .loop .inv) (omega arith) (signed-at (line .before .before .signed-row .ensures) (line .vertex .given .1)) in-order near
 
 mul-t18 : tie.Need-mul-t18 Inv-loop μ-loop
 mul-t18 c = search needs
 
 slice-set-from-numbers : tie.Need-slice-set-from-numbers Inv-loop μ-loop
-slice-set-from-numbers c = in-table (c .before .before .before .before .before .before .before .before .before .before .loop .inv) (omega arith) (signed-at (c .before .before .before .before .before .before .before .before .signed-row .ensures) (c .before .before .before .before .before .before .vertex .given .1)) (sym (c .before .before .before .before .in-order .ensures) ∙ upheld _ _ (c .before .before .before .if1 .left) refl) (sym (c .before .before .is-distance .ensures) ∙ upheld _ _ (c .before .if2 .left) refl)
+slice-set-from-numbers c =
+    let line = c .before .before .before .before .before .before in
+    let in-order = sym (c .before .before .before .before .in-order .ensures) ∙ upheld _ _ (c .before .before .before .if1 .left) refl in
+    let near = sym (c .before .before .is-distance .ensures) ∙ upheld _ _ (c .before .if2 .left) refl in
+    in-table (line .before .before .before .before .loop .inv) (omega arith) (signed-at (line .before .before .signed-row .ensures) (line .vertex .given .1)) in-order near
 
 add-least : tie.Need-add-least Inv-loop μ-loop
 add-least c = search needs
@@ -75,7 +88,12 @@ loop-less : tie.Need-loop-less Inv-loop μ-loop
 loop-less c = omega arith
 
 loop-again : tie.Need-loop-again Inv-loop μ-loop
-loop-again c = rw (c .signed .ensures, toZ-ofZ (fits-by (c .before .before .before .before .before .before .vertex .given .0 .1 .0) (c .before .before .before .before .before .before .vertex .given .0 .1 .1 .0) (far-most (c .before .before .before .before .before .before .before .before .before .before .loop .inv) (omega arith) (signed-at (c .before .before .before .before .before .before .before .before .signed-row .ensures) (c .before .before .before .before .before .before .vertex .given .1)) (sym (c .before .before .before .before .in-order .ensures) ∙ upheld _ _ (c .before .before .before .if1 .left) refl) (sym (c .before .before .is-distance .ensures) ∙ upheld _ _ (c .before .if2 .left) refl)))) (listing-on (c .before .before .before .before .before .before .before .before .before .before .loop .inv) (omega arith) (signed-at (c .before .before .before .before .before .before .before .before .signed-row .ensures) (c .before .before .before .before .before .before .vertex .given .1)) (sym (c .before .before .before .before .in-order .ensures) ∙ upheld _ _ (c .before .before .before .if1 .left) refl) (sym (c .before .before .is-distance .ensures) ∙ upheld _ _ (c .before .if2 .left) refl))
+loop-again c =
+    let line = c .before .before .before .before .before .before in
+    let in-order = sym (c .before .before .before .before .in-order .ensures) ∙ upheld _ _ (c .before .before .before .if1 .left) refl in
+    let near = sym (c .before .before .is-distance .ensures) ∙ upheld _ _ (c .before .if2 .left) refl in
+    rw (c .signed .ensures, toZ-ofZ (fits-by (line .vertex .given .0 .1 .0) (line .vertex .given .0 .1 .1 .0) (far-most (line .before .before .before .before .loop .inv) (omega arith) (signed-at (line .before .before .signed-row .ensures) (line .vertex .given .1)) in-order near)))
+    (listing-on (line .before .before .before .before .loop .inv) (omega arith) (signed-at (line .before .before .signed-row .ensures) (line .vertex .given .1)) in-order near)
 
 same-length-4 : tie.Need-same-length-4 Inv-loop μ-loop
 same-length-4 c = search needs

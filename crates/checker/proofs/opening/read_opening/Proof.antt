@@ -1,12 +1,20 @@
 -- `checker::opening::read_opening`: fault by fault.
 use mathlib.Core.Path.{refl, sym, _∙_}
 use Rattle.text.proofs.Tests.{refuted, upheld}
-use Rattle.text.proofs.Reading.{named-read, named-other}
+use Rattle.text.proofs.Reading.{Line-named, named-read, named-other}
+use Rattle.casefile.proofs.Whole.{Opened}
 use Rattle.model.specs.Answer.{answer-names}
 use Rattle.checker.proofs.Openings.{headed, no-head, too-long, no-version, another-version, unnamed, unheaded, miscounted, says-a-lasso, says-none}
 use borrow.Author.Needs.{needs}
 use Rattle.checker.proofs.opening.read_opening.Statement.{statement}
 use Rattle.checker.proofs.opening.read_opening.Tie as tie
+
+-- what is known where line 1's names are to be read, and once they are
+opened : (c : tie.Else3) → Opened (c .before .before .before .before .before .before .before .args .text .now)
+opened c = record { short = c .before .before .before .before .before .if1 .left; begun = sym (c .before .before .before .begins-at .ensures) ∙ upheld _ _ (c .before .before .if2 .left) refl; version = sym (c .before .other-version .ensures) ∙ c .if3 .left }
+
+named : (c : tie.After-second) → Line-named (c .before .before .before .before .before .before .before .before .before .before .before .args .text .now) 0 answer-names (c .second .given .0 .0)
+named c = named-read refl (c .before .before .name-line .ensures) (c .second .given .1)
 
 returns : tie.Need-returns
 returns c = too-long _ (c .if1 .taken)
@@ -18,13 +26,13 @@ begins-at-requires : tie.Need-begins-at-requires
 begins-at-requires c κs = search needs
 
 returns-2 : tie.Need-returns-2
-returns-2 c = no-version (c .before .before .before .before .before .args .text .now) (c .before .before .before .if1 .left) (sym (c .before .begins-at .ensures) ∙ refuted _ _ (c .if2 .taken) refl)
+returns-2 c = no-version _ (c .before .before .before .if1 .left) (sym (c .before .begins-at .ensures) ∙ refuted _ _ (c .if2 .taken) refl)
 
 other-version-requires : tie.Need-other-version-requires
 other-version-requires c κs = search needs
 
 returns-3 : tie.Need-returns-3
-returns-3 c = another-version (c .before .before .before .before .before .before .before .args .text .now) (c .before .before .before .before .before .if1 .left) (sym (c .before .before .before .begins-at .ensures) ∙ upheld _ _ (c .before .before .if2 .left) refl) (sym (c .before .other-version .ensures) ∙ c .if3 .taken)
+returns-3 c = another-version _ (c .before .before .before .before .before .if1 .left) (sym (c .before .before .before .begins-at .ensures) ∙ upheld _ _ (c .before .before .if2 .left) refl) (sym (c .before .other-version .ensures) ∙ c .if3 .taken)
 
 slice-aggregate-name-line : tie.Need-slice-aggregate-name-line
 slice-aggregate-name-line c = search needs
@@ -39,7 +47,7 @@ enum-told : tie.Need-enum-told
 enum-told c = search needs
 
 returns-4 : tie.Need-returns-4
-returns-4 c = unnamed (c .before .before .before .before .before .before .before .before .before .before .before .args .text .now) (c .before .before .before .before .before .before .before .before .before .if1 .left) (sym (c .before .before .before .before .before .before .before .begins-at .ensures) ∙ upheld _ _ (c .before .before .before .before .before .before .if2 .left) refl) (sym (c .before .before .before .before .before .other-version .ensures) ∙ c .before .before .before .before .if3 .left) (named-other answer-names _ 0 refl (c .before .before .name-line .ensures) (c .enum-told .given .1))
+returns-4 c = unnamed (opened (c .before .before .before .before)) (named-other answer-names _ 0 refl (c .before .before .name-line .ensures) (c .enum-told .given .1))
 
 read-head-requires : tie.Need-read-head-requires
 read-head-requires c κs = search needs
@@ -51,19 +59,25 @@ enum-told-2 : tie.Need-enum-told-2
 enum-told-2 c = search needs
 
 returns-5 : tie.Need-returns-5
-returns-5 c = unheaded (c .before .before .before .before .before .before .before .before .before .before .before .before .before .before .before .args .text .now) (c .before .before .before .before .before .before .before .before .before .before .before .before .before .if1 .left) (sym (c .before .before .before .before .before .before .before .before .before .before .before .begins-at .ensures) ∙ upheld _ _ (c .before .before .before .before .before .before .before .before .before .before .if2 .left) refl) (sym (c .before .before .before .before .before .before .before .before .before .other-version .ensures) ∙ c .before .before .before .before .before .before .before .before .if3 .left) (named-read refl (c .before .before .before .before .before .before .name-line .ensures) (c .before .before .before .before .second .given .1)) (no-head _ _ (c .before .before .read-head .ensures) (c .enum-told2 .given .1))
+returns-5 c = unheaded (opened (c .before .before .before .before .before .before .before .before)) (named (c .before .before .before .before)) (no-head _ _ (c .before .before .read-head .ensures) (c .enum-told2 .given .1))
 
 right-requires : tie.Need-right-requires
 right-requires c κs = search needs
 
 returns-6 : tie.Need-returns-6
-returns-6 c = miscounted (c .before .before .before .before .before .before .before .before .before .before .before .before .before .before .before .before .before .before .args .text .now) (c .before .before .before .before .before .before .before .before .before .before .before .before .before .before .before .before .if1 .left) (sym (c .before .before .before .before .before .before .before .before .before .before .before .before .before .before .begins-at .ensures) ∙ upheld _ _ (c .before .before .before .before .before .before .before .before .before .before .before .before .before .if2 .left) refl) (sym (c .before .before .before .before .before .before .before .before .before .before .before .before .other-version .ensures) ∙ c .before .before .before .before .before .before .before .before .before .before .before .if3 .left) (named-read refl (c .before .before .before .before .before .before .before .before .before .name-line .ensures) (c .before .before .before .before .before .before .before .second .given .1)) (headed (c .before .before .before .before .before .read-head .ensures) (c .before .before .before .lasso .given .1)) (sym (c .before .right .ensures) ∙ refuted _ _ (c .if4 .taken) refl)
+returns-6 c =
+    let head = c .before .before .before in
+    miscounted (opened (head .before .before .before .before .before .before .before .before)) (named (head .before .before .before .before)) (headed (head .before .before .read-head .ensures) (head .lasso .given .1)) (sym (c .before .right .ensures) ∙ refuted _ _ (c .if4 .taken) refl)
 
 returns-7 : tie.Need-returns-7
-returns-7 c = says-a-lasso (c .before .before .before .before .before .before .before .before .before .before .before .before .before .before .before .before .before .before .before .args .text .now) (c .before .before .before .before .before .before .before .before .before .before .before .before .before .before .before .before .before .if1 .left) (sym (c .before .before .before .before .before .before .before .before .before .before .before .before .before .before .before .begins-at .ensures) ∙ upheld _ _ (c .before .before .before .before .before .before .before .before .before .before .before .before .before .before .if2 .left) refl) (sym (c .before .before .before .before .before .before .before .before .before .before .before .before .before .other-version .ensures) ∙ c .before .before .before .before .before .before .before .before .before .before .before .before .if3 .left) (named-read refl (c .before .before .before .before .before .before .before .before .before .before .name-line .ensures) (c .before .before .before .before .before .before .before .before .second .given .1)) (headed (c .before .before .before .before .before .before .read-head .ensures) (c .before .before .before .before .lasso .given .1)) (sym (c .before .before .right .ensures) ∙ upheld _ _ (c .before .if4 .left) refl) (c .if5 .taken)
+returns-7 c =
+    let head = c .before .before .before .before in
+    says-a-lasso (opened (head .before .before .before .before .before .before .before .before)) (named (head .before .before .before .before)) (headed (head .before .before .read-head .ensures) (head .lasso .given .1)) (sym (c .before .before .right .ensures) ∙ upheld _ _ (c .before .if4 .left) refl) (c .if5 .taken)
 
 returns-8 : tie.Need-returns-8
-returns-8 c = says-none (c .before .before .before .before .before .before .before .before .before .before .before .before .before .before .before .before .before .before .before .args .text .now) (c .before .before .before .before .before .before .before .before .before .before .before .before .before .before .before .before .before .if1 .left) (sym (c .before .before .before .before .before .before .before .before .before .before .before .before .before .before .before .begins-at .ensures) ∙ upheld _ _ (c .before .before .before .before .before .before .before .before .before .before .before .before .before .before .if2 .left) refl) (sym (c .before .before .before .before .before .before .before .before .before .before .before .before .before .other-version .ensures) ∙ c .before .before .before .before .before .before .before .before .before .before .before .before .if3 .left) (named-read refl (c .before .before .before .before .before .before .before .before .before .before .name-line .ensures) (c .before .before .before .before .before .before .before .before .second .given .1)) (headed (c .before .before .before .before .before .before .read-head .ensures) (c .before .before .before .before .lasso .given .1)) (sym (c .before .before .right .ensures) ∙ upheld _ _ (c .before .if4 .left) refl) (c .if5 .left)
+returns-8 c =
+    let head = c .before .before .before .before in
+    says-none (opened (head .before .before .before .before .before .before .before .before)) (named (head .before .before .before .before)) (headed (head .before .before .read-head .ensures) (head .lasso .given .1)) (sym (c .before .before .right .ensures) ∙ upheld _ _ (c .before .if4 .left) refl) (c .if5 .left)
 
 pub read-opening-spec : {M : Type 1} → statement M
 read-opening-spec =
