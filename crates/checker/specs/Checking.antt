@@ -106,7 +106,8 @@ Lasso-says s at x y m u marks froms tos r = (g : Graph) → Tables g m marks fro
 abbrev pub Lasso-checked : (answer : List ℕ) → (m source : ℕ) → (marks froms tos : List ℕ) → ℕ → Type 0
 Lasso-checked s m u marks froms tos r = (g : Graph) → Tables g m marks froms tos → g .source ≡ u → r ≡ lasso-refusal g (line-at (lines s) 1) (lines s)
 
--- VERTEX LINES and their numbers. A table holds one number for each vertex, `not-listed`, which is too far, where there is none
+-- VERTEX LINES and their numbers. A table holds one number for each vertex, `not-listed`, which is too far, where there
+-- is none
 abbrev pub not-listed : ℤ
 not-listed = pos (suc farthest)
 

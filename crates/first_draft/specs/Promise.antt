@@ -52,7 +52,8 @@ unfoldable pub Finds : Type 0
 Finds =
     (bs xs : List ℕ) → accepted bs ≡ true → over (run bs xs) ≡ true → Finding (case-in bs) (run bs xs)
 
--- THE THIRD DEMAND: few acts do something; once that many have the run has ended; rounds end; two ended runs on one graph say the same
+-- THE THIRD DEMAND: few acts do something; once that many have the run has ended; rounds end; two ended runs on one
+-- graph say the same
 unfoldable pub Few-acts : Type 0
 Few-acts =
     (bs xs : List ℕ) → accepted bs ≡ true →

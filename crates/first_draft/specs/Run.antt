@@ -1,4 +1,5 @@
--- Acts, runs by a list and by rounds. A distance is never above 0; it is kept as how far it is below. Assumes nothing: these are definitions.
+-- Acts, runs by a list and by rounds. A distance is never above 0; it is kept as how far it is below. Assumes nothing:
+-- these are definitions.
 use mathlib.Core.Bool.{Bool, true, false, _&&_, _||_, not, cond}
 use mathlib.Core.List.{List, [], _∷_, _++_}
 use mathlib.Core.Option.{Option, none, some}

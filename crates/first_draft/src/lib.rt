@@ -1,4 +1,5 @@
-// Document 03's definitions as given (specs/), and proofs that ours equal them. Kept until a change request alters the meaning.
+// Document 03's definitions as given (specs/), and proofs that ours equal them. Kept until a change request alters the
+// meaning.
 
 // What 03's entries return.
 pub struct Told {

@@ -75,9 +75,9 @@ pub record Rules-kept (c : Case) (x : State) : Type 0 where
   pub empty-always : Nothing-waits x → has-ended x ≡ true
   pub no-cell : (e : ℕ) → owner c (edge (c .graph) e .to) ≡ owner c (edge (c .graph) e .from) → getD (x .cells) e none ≡ none
 
--- at every moment, ended or not: the act rules hold, and the acts counted are those that did something; each distance and each waiting offer is the length of a real walk; further acts
--- never raise a distance; an offer that joins a waiting message is always the lower of the two, so "the lower
--- remains" and "the newer remains" agree
+-- at every moment, ended or not: the act rules hold, and the acts counted are those that did something; each distance
+-- and each waiting offer is the length of a real walk; further acts never raise a distance; an offer that joins a waiting
+-- message is always the lower of the two, so "the lower remains" and "the newer remains" agree
 pub record Moments-kept (c : Case) : Type 0 where
   pub rules : (x : State) → Moment c x → Rules-kept c x
   pub counts : (xs : List ℕ) → by-list c xs .count ≡ acts-done c xs (fresh c)

@@ -1,4 +1,5 @@
--- Breadth-first search in queue order, edges in number order: each vertex is found by its walk of fewest edges, of those the first in dictionary order. Assumes nothing.
+-- Breadth-first search in queue order, edges in number order: each vertex is found by its walk of fewest edges, of
+-- those the first in dictionary order. Assumes nothing.
 use mathlib.Core.Path.{_≡_, refl, sym, subst, _∙_}
 use mathlib.Core.Bool.{true}
 use mathlib.Core.List.{List, [], _∷_, _++_}

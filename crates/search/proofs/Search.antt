@@ -1,4 +1,5 @@
--- The breadth-first search of Breadth.antt in the cells: edge by edge, vertex by vertex, and the stem read back from it. Assumes nothing.
+-- The breadth-first search of Breadth.antt in the cells: edge by edge, vertex by vertex, and the stem read back from
+-- it. Assumes nothing.
 use mathlib.Core.Path.{_≡_, refl, sym, ap, subst, _∙_}
 use mathlib.Core.Bool.{true}
 use mathlib.Core.List.{List, [], _∷_, _++_, append-nil}

@@ -1,4 +1,5 @@
--- What the functions over a run ask and say: each asks that the cells hold some run, and speaks of every run that they hold. Assumes nothing: these are definitions.
+-- What the functions over a run ask and say: each asks that the cells hold some run, and speaks of every run that they
+-- hold. Assumes nothing: these are definitions.
 use mathlib.Core.Path.{_≡_}
 use mathlib.Core.Bool.{Bool, true, false, not, _&&_, _||_}
 use mathlib.Core.List.{List, [], _∷_}
@@ -138,7 +139,8 @@ pub record Offered-asks (v : ℕ) (d : ℤ) (w : List ℤ) : Type 0 where
 unfoldable pub Offered-is : (v : ℕ) → (d r : ℤ) → (w : List ℤ) → Type 0
 Offered-is v d r w = (c : Case) (o : ℕ) → Laid c w → v < c .graph .vertices → d ≡ negℤ (pos o) → r ≡ negℤ (pos (o + mark (c .graph) v))
 
--- A FRESH RUN. Before the source has its distance and its place: nothing has a distance, a parent, a message or a place in a queue
+-- A FRESH RUN. Before the source has its distance and its place: nothing has a distance, a parent, a message or a place
+-- in a queue
 abbrev pub blank : Case → State
 blank c =
     record {

@@ -1,4 +1,5 @@
--- The lent cells: where each table stands, how a list stands in a region of them, and how its elements are coded. Assumes nothing: these are definitions.
+-- The lent cells: where each table stands, how a list stands in a region of them, and how its elements are coded.
+-- Assumes nothing: these are definitions.
 use mathlib.Core.Path.{_≡_}
 use mathlib.Core.List.{List}
 use mathlib.Core.Option.{Option, none, some}
@@ -67,7 +68,8 @@ pub record Below (limit : ℕ) (z : ℤ) : Type 0 where
   pub is : z ≡ pos number
   pub less : number < limit
 
--- CODES: a depth as the distance, 1 where there is none, so that "takes the offer" is one signed comparison; an edge as its number and 1, 0 where there is none
+-- CODES: a depth as the distance, 1 where there is none, so that "takes the offer" is one signed comparison; an edge as
+-- its number and 1, 0 where there is none
 abbrev pub far : Option ℕ → ℤ
 far none = pos 1
 far (some d) = negℤ (pos d)

@@ -1,4 +1,5 @@
--- How a case and a run of it lie in the lent cells: the tables of specs/Cells.antt, queues by links, and the counters of `Run`. Assumes nothing: these are definitions.
+-- How a case and a run of it lie in the lent cells: the tables of specs/Cells.antt, queues by links, and the counters
+-- of `Run`. Assumes nothing: these are definitions.
 use mathlib.Core.Path.{_≡_}
 use mathlib.Core.Bool.{Bool, true, false}
 use mathlib.Core.List.{List, [], _∷_}
@@ -16,7 +17,8 @@ use Rattle.search.specs.Cells.{Region, far, more, by-more, by-from, by-t
 abbrev pub no-edge : Edge
 no-edge = record { from = 0; to = 0 }
 
--- edges are sorted by from, and F v is the number of the first edge from v or a later vertex: v's own edges are F v to F (v + 1)
+-- edges are sorted by from, and F v is the number of the first edge from v or a later vertex: v's own edges are F v to
+-- F (v + 1)
 pub record First-edges (from : ℕ → ℕ) (n m : ℕ) (F : List ℕ) : Type 0 where
   pub sized : length F ≡ n + 1
   pub below : (v : ℕ) → v ≤ n → getD F v 0 ≤ m
@@ -63,7 +65,8 @@ pub record Held (c : Case) (t : Tables) (w : List ℤ) : Type 0 where
   pub heads : Table pos 0 head-at (c .workers) (t .heads) w
   pub tails : Table pos 0 tail-at (c .workers) (t .tails) w
 
--- QUEUES BY LINKS: a vertex's link is 0 if it is in no queue, 1 if it is the last, else the next vertex, coded; a worker's head is 1 if its queue is empty, else its first vertex, coded
+-- QUEUES BY LINKS: a vertex's link is 0 if it is in no queue, 1 if it is the last, else the next vertex, coded; a
+-- worker's head is 1 if its queue is empty, else its first vertex, coded
 abbrev pub coded : (v : ℕ) → ℕ
 coded v = v + 2
 

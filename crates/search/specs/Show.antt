@@ -1,4 +1,5 @@
--- The lasso that an ended run shows, read off the lent cells: the graph and the parents in them, and what the functions of src/show.rt ask and say. Assumes nothing: these are definitions.
+-- The lasso that an ended run shows, read off the lent cells: the graph and the parents in them, and what the functions
+-- of src/show.rt ask and say. Assumes nothing: these are definitions.
 use mathlib.Core.Path.{_≡_}
 use mathlib.Core.List.{List, [], _∷_, _++_}
 use mathlib.Core.Logic.{_⊎_}
@@ -76,7 +77,8 @@ Less p q = Le q p → ⊥
 abbrev pub tip : Graph → List ℕ → ℕ
 tip g t = walk-end g (g .source) t
 
--- THE SEARCH TREE: the walks by which vertices were found, in the order in which they were, and by vertex 0 while it is not found, 1 for the source, else its walk's last edge, coded
+-- THE SEARCH TREE: the walks by which vertices were found, in the order in which they were, and by vertex 0 while it is
+-- not found, 1 for the source, else its walk's last edge, coded
 abbrev pub found-by : (e : ℕ) → ℕ
 found-by e = e + 2
 

@@ -1,4 +1,5 @@
--- The answers' writers: what they ask of the cells, and what they put into the output. Assumes nothing: these are definitions.
+-- The answers' writers: what they ask of the cells, and what they put into the output. Assumes nothing: these are
+-- definitions.
 use mathlib.Core.Path.{_≡_}
 use mathlib.Core.List.{List, [], _∷_}
 use mathlib.Core.Option.{Option, none}
@@ -24,7 +25,8 @@ pub record Edges-at (base count : ℕ) (w : List ℤ) : Type 0 where
 pub record Edges-say (at base count r : ℕ) (w : List ℤ) (o z : List ℕ) : Type 0 where
   pub lines : (es : List ℕ) → Region pos 0 base es w → length es ≡ count → Puts at (text (edge-rows es)) r o z
 
--- VERTICES: the cells of n distances; the line of one vertex, perhaps none, by the distance in its cell; the lines of the first n; how many these are
+-- VERTICES: the cells of n distances; the line of one vertex, perhaps none, by the distance in its cell; the lines of
+-- the first n; how many these are
 pub record Distances-at (n : ℕ) (w : List ℤ) : Type 0 where
   pub few : n ≤ most-vertices
   pub inside : distance-at + n ≤ length w

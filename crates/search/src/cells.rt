@@ -11,7 +11,8 @@ use casefile::Case;
 pub(crate) struct Cells {}
 
 impl Cells {
-    // The case, written once: by vertex its mark and owner; by edge its ends; by vertex its first edge, and one more for the end.
+    // The case, written once: by vertex its mark and owner; by edge its ends; by vertex its first edge, and one more
+    // for the end.
     pub const ACCEPTING: usize = 0;
 
     pub const OWNER: usize = Cells::ACCEPTING + Case::MOST_VERTICES;
@@ -43,7 +44,8 @@ impl Cells {
     pub const CYCLE: usize = Cells::STEM + Case::MOST_VERTICES;
 }
 
-// How the cells code what may be missing (specs/Cells.antt, specs/Rep.antt). A distance or a message that is not there is above
+// How the cells code what may be missing (specs/Cells.antt, specs/Rep.antt). A distance or a message that is not there
+// is above
 // every one that is.
 pub(crate) const NO_DISTANCE: i32 = 1;
 
@@ -52,7 +54,8 @@ pub(crate) const NONE: usize = 0;
 
 pub(crate) const SOME: usize = 1;
 
-// A vertex's link: NOT_QUEUED, or QUEUE_END, or the next vertex and QUEUED. A worker's head: QUEUE_END, or the first vertex and
+// A vertex's link: NOT_QUEUED, or QUEUE_END, or the next vertex and QUEUED. A worker's head: QUEUE_END, or the first
+// vertex and
 // QUEUED.
 pub(crate) const NOT_QUEUED: usize = 0;
 

@@ -1,4 +1,5 @@
--- What the readers of src/read.rt answer at a place of a text, each by the lines and fields of specs/Lines.antt. Assumes nothing: these are definitions.
+-- What the readers of src/read.rt answer at a place of a text, each by the lines and fields of specs/Lines.antt.
+-- Assumes nothing: these are definitions.
 use mathlib.Core.Path.{_≡_}
 use mathlib.Core.Bool.{Bool, _&&_, _||_, cond}
 use mathlib.Core.List.{List, [], _∷_, _++_}
@@ -43,7 +44,8 @@ skip (suc k) s at = skip k s (past-line s at)
 abbrev pub field-here : (text : List ℕ) → (at : ℕ) → List ℕ
 field-here s at = field (line-here s at) 0
 
--- "A field is shown as that very part of the text, never a copy": its bytes, and that it lies in the text's own block, at that place
+-- "A field is shown as that very part of the text, never a copy": its bytes, and that it lies in the text's own block,
+-- at that place
 pub record Part (text : RefT (List ℕ)) (at : ℕ) (part : RefT (List ℕ)) : Type 0 where
   pub bytes : now part ≡ field-here (now text) at
   pub block : part .ptr .0 ≡ text .ptr .0

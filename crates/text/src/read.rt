@@ -1,4 +1,5 @@
-// Readers of a text at a place: lines, fields, rows of numbers. Each reads where it stands, once, and answers at any place, past the text's end too.
+// Readers of a text at a place: lines, fields, rows of numbers. Each reads where it stands, once, and answers at any
+// place, past the text's end too.
 ghost use mathlib.Core.Path.{_≡_};
 ghost use mathlib.Core.Bool.{true};
 ghost use Prim.Native.Nat.{_+_, min};
@@ -332,7 +333,8 @@ pub enum SignedRow {
     Fault,
 }
 
-// A row of a number and a signed one: the number, whether there is a minus sign, what follows the sign, and the place past the line.
+// A row of a number and a signed one: the number, whether there is a minus sign, what follows the sign, and the place
+// past the line.
 pub fn signed_row(text: &[u8], at: usize) -> SignedRow
     ensures { λ r. ⌜ r ≡ signed-row-here (now (text .entry)) at ⌝ }
 {

@@ -1,4 +1,5 @@
-// A reader opened on a text: it shows the field at its place, and moves on a line. Each function takes it apart and calls the one of src/read.rt.
+// A reader opened on a text: it shows the field at its place, and moves on a line. Each function takes it apart and
+// calls the one of src/read.rt.
 ghost use mathlib.Core.Path.{_≡_};
 ghost use Rattle.text.specs.Reading.{Part, past-line};
 use crate::read;
