@@ -17,15 +17,16 @@ mod opening;
 mod tables;
 mod walk;
 
-// The answer's refusals: an answer that is too long, or of another version;
+// The answer's refusals. "1: over 65,536 bytes (also an answer file)"
 const TOO_LONG: u32 = 1;
 
+// "3: line 2's first field is a number other than 1 (also an answer file)"
 const OTHER_VERSION: u32 = 3;
 
-// "layout, a count above 500, a distance outside −500 to 500, `-0`, or counts that do not suit the verdict";
+// "12: layout, a count above 500, a distance outside −500 to 500, `-0`, or counts that do not suit the verdict"
 const MALFORMED: u32 = 12;
 
-// "an edge or vertex number out of range, vertices not rising, or the passing rule broken".
+// "13: an edge or vertex number out of range, vertices not rising, or the passing rule broken"
 const BROKEN: u32 = 13;
 
 // A refusal, or the verdict where it is 0.
