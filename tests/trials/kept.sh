@@ -1,0 +1,20 @@
+# The bench runs that are kept, as files, and what is said of them.
+# shellcheck shell=bash disable=SC2034
+
+names=$'version vertices edges source workers\n'
+answers=$'version verdict stem cycle reached\n'
+file k1 "$names"$'1 3 3 0 2\nvertex accepting owner\n0 0 0\n1 1 1\n2 0 0\nfrom to\n0 1\n1 2\n2 1\n'
+file k2 "$names"$'1 3 3 0 2\nvertex accepting owner\n0 1 0\n1 0 1\n2 0 0\nfrom to\n0 1\n1 2\n2 1\n'
+file k3 "$names"$'1 1 1 0 1\nvertex accepting owner\n0 1 0\nfrom to\n0 0\n'
+file k4 "$names"$'1 1 0 0 1\nvertex accepting owner\n0 1 0\nfrom to\n'
+file k5 "$names"$'1 1 1 0 1\nvertex accepting owner\n0 0 0\nfrom to\n0 0\n'
+file k6 "$names"$'1 2 1 0 1\nvertex accepting owner\n0 0 0\n1 1 0\nfrom to\n1 1\n'
+file k8 "$names"$'1 3 3 0 1\nvertex accepting owner\n0 0 0\n1 1 0\n2 0 0\nfrom to\n0 1\n1 2\n2 1\n'
+file k10 "$names"$'2 3 3 0 2\nvertex accepting owner\n0 0 0\n1 1 1\n2 0 0\nfrom to\n0 1\n1 2\n2 1\n'
+file k11 "$names"$'1 3 4 0 2\nvertex accepting owner\n0 0 0\n1 1 1\n2 0 0\nfrom to\n0 1\n1 2\n1 2\n2 1\n'
+
+lasso_1=$answers$'1 lasso 1 2 0\nedge\n0\n1\n2\n'
+empty_2=$answers$'1 empty 0 0 3\nvertex distance\n0 0\n1 -1\n2 -1\n'
+lasso_3=$answers$'1 lasso 0 1 0\nedge\n0\n'
+source_only=$answers$'1 empty 0 0 1\nvertex distance\n0 0\n'
+

@@ -1,0 +1,214 @@
+# The proved programs as they stand in target/bin: they always end with status 0, and what they print says all.
+# shellcheck shell=bash disable=SC2154,SC2034
+
+find_in() { # NAME OUTPUT CASE: what loopfind prints of the file
+    input=$3
+    trial "loopfind, $1" "$2" '' "$programs/loopfind"
+    input=/dev/null
+}
+
+check_of() { # NAME OUTPUT CASE ANSWER
+    trial "loopcheck, $1" "$2" '' "$programs/loopcheck" "$3" "$4"
+}
+
+check_fails() { # NAME ERRORS ARGUMENT...
+    local name=$1 errors=$2
+    shift 2
+    trial "loopcheck, $name" '' "$errors" "$programs/loopcheck" "$@"
+}
+
+list_of() { # NAME OUTPUT CASE ACTS
+    trial "looplist, $1" "$2" '' "$programs/looplist" "$3" "$4"
+}
+
+list_fails() { # NAME ERRORS ARGUMENT...
+    local name=$1 errors=$2
+    shift 2
+    trial "looplist, $name" '' "$errors" "$programs/looplist" "$@"
+}
+
+find_in K1 "$lasso_1" k1
+find_in K2 "$empty_2" k2
+find_in K3 "$lasso_3" k3
+find_in K4 "$source_only" k4
+find_in K5 "$source_only" k5
+find_in K6 "$source_only" k6
+find_in K8 "$lasso_1" k8
+find_in 'K10, of a newer version' $'refused 3\n' k10
+find_in K11 $'refused 8\n' k11
+
+# ---- loopfind: files that are cut, too long or at a limit
+
+file torn.0 ''
+file torn.1 versio
+head -c -1 k1 >torn.2
+head -n 8 k1 >torn.3
+sed 's/$/\r/' k1 >returns
+{ cat k1; echo; } >more.lines
+{ cat k4; head -c 65536 /dev/zero; } | head -c 65536 >long.65536
+{ cat k4; head -c 65537 /dev/zero; } | head -c 65537 >long.65537
+{ cat k4; head -c 1000000 /dev/zero; } >long.1000000
+find_in 'an empty file' $'refused 2\n' torn.0
+find_in 'torn in its first word' $'refused 2\n' torn.1
+find_in 'torn before its last line feed' $'refused 4\n' torn.2
+find_in 'torn between two lines' $'refused 4\n' torn.3
+find_in 'carriage returns' $'refused 4\n' returns
+find_in 'an empty line at the end' $'refused 4\n' more.lines
+find_in '65,536 bytes' $'refused 4\n' long.65536
+find_in '65,537 bytes' $'refused 1\n' long.65537
+find_in 'a million bytes' $'refused 1\n' long.1000000
+
+# A case of so many vertices, edges (the first of the complete graph) and workers, none accepting.
+sized() { # VERTICES EDGES WORKERS
+    printf '%s1 %d %d 0 %d\nvertex accepting owner\n' "$names" "$1" "$2" "$3"
+    awk -v n="$1" -v m="$2" -v p="$3" 'BEGIN {
+        for (v = 0; v < n; v++) print v, 0, v % p
+        print "from to"
+        for (e = 0; e < m; e++) print int(e / n), e % n
+    }'
+}
+sized 500 2000 16 >full
+sized 500 0 1 >vertices.500
+sized 501 0 1 >vertices.501
+sized 500 2001 1 >edges.2001
+sized 500 2000 17 >workers.17
+all_reached=$answers$'1 empty 0 0 500\nvertex distance\n'$(awk 'BEGIN { for (v = 0; v < 500; v++) print v, 0 }')$'\n'
+find_in '500 vertices, 2,000 edges, 16 workers' "$all_reached" full
+find_in '500 vertices, no edge' "$source_only" vertices.500
+find_in '501 vertices' $'refused 5\n' vertices.501
+find_in '2,001 edges' $'refused 5\n' edges.2001
+find_in '17 workers' $'refused 5\n' workers.17
+
+# ---- loopfind: how it is called
+
+slowly() { { head -c 50 k1; sleep 0.2; tail -c +51 k1; } | "$@"; }
+without_input() { "$@" <&-; }
+into_full() { "$@" >/dev/full; }
+trial 'loopfind, a pipe that comes in parts' "$lasso_1" '' slowly "$programs/loopfind"
+trial 'loopfind, an argument' '' $'usage: loopfind < CASE\n' "$programs/loopfind" k1
+trial 'loopfind, no input' '' $'standard input: Bad file descriptor\n' without_input "$programs/loopfind"
+input=folder
+trial 'loopfind, a folder' '' $'standard input: Is a directory\n' "$programs/loopfind"
+input=k1
+trial 'loopfind, no room' '' $'standard output: No space left on device\n' into_full "$programs/loopfind"
+input=/dev/null
+
+# ---- loopcheck
+
+file a1 "$lasso_1"
+file a2 "$empty_2"
+file a3 "$lasso_3"
+check_of 'K1 and its answer' $'pass lasso\n' k1 a1
+check_of 'K2 and its answer' $'pass empty\n' k2 a2
+check_of 'K3 and its answer' $'pass lasso\n' k3 a3
+file longer "$answers"$'1 lasso 3 4 0\nedge\n0\n1\n2\n1\n2\n1\n2\n'
+file raised "$answers"$'1 empty 0 0 3\nvertex distance\n0 7\n1 6\n2 6\n'
+check_of 'a longer lasso of another tool' $'pass lasso\n' k1 longer
+check_of 'numbers of another tool' $'pass empty\n' k2 raised
+
+sed 's/^2$/3/' a1 >edited
+check_of 'an edge that is not there' $'refused 13\n' k1 edited
+sed '$s/2/1/' a1 >edited
+check_of 'an edge that does not follow' $'refused 13\n' k1 edited
+sed 's/^2 -1$/2 0/' a2 >edited
+check_of 'a distance too high' $'refused 13\n' k2 edited
+sed 's/lasso/loop/' a1 >edited
+check_of 'another word' $'refused 12\n' k1 edited
+sed 's/ -1$/ -0/' a2 >edited
+check_of 'minus zero' $'refused 12\n' k2 edited
+head -c -1 a1 >edited
+check_of 'a torn answer' $'refused 12\n' k1 edited
+{ cat a1; echo; } >edited
+check_of 'an empty line at the end' $'refused 12\n' k1 edited
+sed 's/^1 lasso/2 lasso/' a1 >edited
+check_of 'an answer of a newer version' $'refused 3\n' k1 edited
+check_of 'the answer to another case' $'refused 13\n' k2 a1
+check_of 'an empty answer' $'refused 12\n' k1 torn.0
+{ cat a1; head -c 65537 /dev/zero; } >edited
+check_of 'an answer too long' $'refused 1\n' k1 edited
+head -c 65536 edited >edited.front
+check_of 'an answer of 65,536 bytes' $'refused 12\n' k1 edited.front
+check_of 'a case too long' $'refused 1\n' long.65537 a1
+check_of 'a bad case before a bad answer' $'refused 8\n' k11 torn.0
+check_of 'the two files swapped' $'refused 4\n' a1 k1
+
+usage=$'usage: loopcheck CASE ANSWER\n'
+check_fails 'no argument' "$usage"
+check_fails 'one argument' "$usage" k1
+check_fails 'three arguments' "$usage" k1 a1 a1
+check_fails 'no such case' $'missing: No such file or directory\n' missing a1
+check_fails 'no such answer' $'missing: No such file or directory\n' k1 missing
+check_fails 'neither file' $'missing.case: No such file or directory\n' missing.case missing.answer
+check_fails 'a folder for the case' $'folder: Is a directory\n' folder a1
+check_fails 'a folder for the answer' $'folder: Is a directory\n' k1 folder
+check_fails 'a name without letters' $': No such file or directory\n' '' a1
+check_fails 'a name too long' $'file name: File name too long\n' k1 "$(printf '%05000d' 0)"
+check_fails 'a file below a file' $'k1/a1: Not a directory\n' k1 k1/a1
+
+# ---- looplist: what an order does
+
+acts() { printf '%s\n' "$@"; }
+acts 0 2 1 3 0 4 1 3 >whole
+acts 1 0 0 2 4 1 3 0 4 1 3 >idle
+acts 0 2 1 3 0 4 1 3 0 1 2 >beyond
+acts 0 2 1 3 0 4 1 >short
+acts 2 >k9
+acts 0 2 1 3 0 4 1 3 5 >out
+acts 999999999 >far
+acts 0 1 2 3 4 0 1 2 3 4 0 1 2 3 4 >rounds
+
+done_1=$'refusal 0\nverdict lasso\nacts 8\n'$lasso_1
+list_of 'K1, acts that each do something' "$done_1" k1 whole
+list_of 'K1, idle acts between' "$done_1" k1 idle
+list_of 'K1, acts after the end' "$done_1" k1 beyond
+list_of 'K2, three rounds' $'refusal 0\nverdict empty\nacts 6\n'"$empty_2" k2 rounds
+list_of 'K1, one act too few' $'refusal 10\nverdict none\nacts 7\n' k1 short
+list_of 'K7, no acts' $'refusal 10\nverdict none\nacts 0\n' k1 torn.0
+list_of 'K9, one idle act' $'refusal 10\nverdict none\nacts 0\n' k1 k9
+list_of 'K1, an act out of range after the end' $'refusal 9\nverdict none\nacts 0\n' k1 out
+list_of 'K1, an act far out of range' $'refusal 9\nverdict none\nacts 0\n' k1 far
+list_of 'a case of a newer version' $'refusal 3\nverdict none\nacts 0\n' k10 whole
+list_of 'a case too long' $'refusal 1\nverdict none\nacts 0\n' long.65537 whole
+list_of 'an empty case before an act out of range' $'refusal 2\nverdict none\nacts 0\n' torn.0 far
+
+# ---- looplist: lists that are none
+
+bad_line() { # NAME LINE BYTES
+    file bad "$3"
+    list_fails "$1" "bad: line $2: expected an act, a number of 1 to 9 digits without leading zeros, and a line feed"$'\n' k1 bad
+}
+bad_line 'an empty line' 2 $'0\n\n2\n'
+bad_line 'an empty line at the end' 3 $'0\n2\n\n'
+bad_line 'a word' 1 $'turn\n'
+bad_line 'a sign' 1 $'-1\n'
+bad_line 'a leading zero' 3 $'0\n2\n01\n'
+bad_line 'ten digits' 2 $'0\n1000000000\n'
+bad_line 'two numbers on a line' 1 $'0 2\n'
+bad_line 'a space before' 1 $' 0\n'
+bad_line 'a space behind' 1 $'0 \n'
+bad_line 'a carriage return' 1 $'0\r\n2\r\n'
+bad_line 'no line feed at the end' 2 $'0\n2'
+bad_line 'the first of two bad lines' 2 $'0\nx\ny\n'
+list_fails 'a bad list before a bad case' $'bad: line 2: expected an act, a number of 1 to 9 digits without leading zeros, and a line feed\n' k10 bad
+
+same() { awk -v n="$1" -v s="$2" 'BEGIN { for (i = 0; i < n; i++) print s }'; }
+same 400000 0 >most
+same 400001 0 >too.many
+same 400000 999999999 >most.wide
+same 400001 999999999 >too.many.wide
+{ same 399999 0; echo x; } >last.bad
+head -c 4100000 /dev/zero | tr '\0' 7 >one.line
+list_of '400,000 acts' $'refusal 10\nverdict none\nacts 1\n' k1 most
+list_of '400,000 acts of nine digits' $'refusal 9\nverdict none\nacts 0\n' k1 most.wide
+list_fails '400,001 acts' $'too.many: more than 400000 acts\n' k1 too.many
+list_fails '400,001 acts of nine digits' $'too.many.wide: more than 400000 acts\n' k1 too.many.wide
+list_fails 'line 400,000 is bad' $'last.bad: line 400000: expected an act, a number of 1 to 9 digits without leading zeros, and a line feed\n' k1 last.bad
+list_fails 'one line without end' $'one.line: line 1: expected an act, a number of 1 to 9 digits without leading zeros, and a line feed\n' k1 one.line
+
+usage=$'usage: looplist CASE ACTS\n'
+list_fails 'no argument' "$usage"
+list_fails 'one argument' "$usage" k1
+list_fails 'three arguments' "$usage" k1 whole whole
+list_fails 'no such case' $'missing: No such file or directory\n' missing whole
+list_fails 'no such list' $'missing: No such file or directory\n' k1 missing
+list_fails 'a folder for the list' $'folder: Is a directory\n' k1 folder

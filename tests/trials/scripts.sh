@@ -1,0 +1,180 @@
+# The scripts in bin/, as users and other scripts call them: exit status 0 an answer or a pass, 1 refused, 2 trouble; the
+# rule behind a refusal; `-`; help and version; links, folders and CDPATH.
+# shellcheck shell=bash disable=SC2154,SC2034
+
+ends() { # STATUS NAME OUTPUT ERRORS COMMAND...
+    status=$1
+    shift
+    trial "$@"
+    status=0
+}
+
+rule() { awk -F '\t' -v number="$1" '$1 == number { print $3 }' "$root/share/rezkundo/refusals"; }
+
+# ---- a result
+
+find=$scripts/loopfind check=$scripts/loopcheck list=$scripts/looplist
+input=k1
+ends 0 'bin/loopfind' "$lasso_1" '' "$find"
+ends 0 'bin/loopfind -' "$lasso_1" '' "$find" -
+input=/dev/null
+ends 0 'bin/loopfind, a file' "$empty_2" '' "$find" k2
+ends 0 'bin/loopcheck' $'pass lasso\n' '' "$check" k1 a1
+ends 0 'bin/loopcheck, empty' $'pass empty\n' '' "$check" k2 a2
+ends 0 'bin/looplist' "$done_1" '' "$list" k1 whole
+
+# ---- a refusal: which file, and the rule in plain words
+
+file k6v "$names"$'1 1 0 0 1\nvertex accepting owner\n0 2 0\nfrom to\n'
+file k7e "$names"$'1 1 1 0 1\nvertex accepting owner\n0 0 0\nfrom to\n0 1\n'
+number=0
+for refused in long.65537 torn.0 k10 torn.2 vertices.501 k6v k7e k11; do
+    number=$((number + 1))
+    ends 1 "bin/loopfind, refusal $number" "refused $number"$'\n' "loopfind: case: $(rule $number)"$'\n' "$find" "$refused"
+done
+twice=$'the edges do not rise strictly by "from", then by "to"\n'
+ends 1 'bin/loopcheck, the case' $'refused 8\n' "loopcheck: case: $twice" "$check" k11 a1
+ends 1 'bin/looplist, the case' $'refusal 8\nverdict none\nacts 0\n' "looplist: case: $twice" "$list" k11 whole
+version=$'the file is of another version than 1, the only one that this tool knows\n'
+sed 's/^1 lasso/2 lasso/' a1 >newer
+ends 1 'bin/loopcheck, a newer case' $'refused 3\n' "loopcheck: case: $version" "$check" k10 a1
+ends 1 'bin/loopcheck, a newer answer' $'refused 3\n' "loopcheck: answer: $version" "$check" k1 newer
+ends 1 'bin/loopcheck, a newer case and answer' $'refused 3\n' "loopcheck: case: $version" "$check" k10 newer
+length=$'the file has more than 65,536 bytes\n'
+{ cat a1; head -c 65537 /dev/zero; } >long.answer
+ends 1 'bin/loopcheck, a long case' $'refused 1\n' "loopcheck: case: $length" "$check" long.65537 long.answer
+ends 1 'bin/loopcheck, a long answer' $'refused 1\n' "loopcheck: answer: $length" "$check" k1 long.answer
+ends 1 'bin/loopcheck, an answer torn' $'refused 12\n' "loopcheck: answer: $(rule 12)"$'\n' "$check" k1 torn.0
+ends 1 'bin/loopcheck, a false answer' $'refused 13\n' "loopcheck: answer: $(rule 13)"$'\n' "$check" k2 a1
+ends 1 'bin/looplist, an act too many' $'refusal 9\nverdict none\nacts 0\n' "looplist: acts: $(rule 9)"$'\n' "$list" k1 out
+ends 1 'bin/looplist, unended' $'refusal 10\nverdict none\nacts 7\n' "looplist: acts: $(rule 10)"$'\n' "$list" k1 short
+
+# The table has each refusal once, in order, and docs/REFUSALS.md has a row for each.
+in_table() { cut -f 1 "$root/share/rezkundo/refusals"; }
+in_document() { sed -n 's/^| \([0-9][0-9]*\) | .*/\1/p' "$root/docs/REFUSALS.md"; }
+trial 'the words of each refusal' "$(seq 13)"$'\n' '' in_table
+trial 'the document of each refusal' "$(seq 13)"$'\n' '' in_document
+
+# ---- trouble
+
+unwritten=$': standard output was not written\n'
+closed() { "$@" >&-; }
+ends 2 'bin/loopfind, no such file' '' $'loopfind: missing: No such file or directory\n' "$find" missing
+ends 2 'bin/loopfind, a folder' '' $'loopfind: folder: Is a directory\n' "$find" folder
+ends 2 'bin/loopfind, two files' '' $'usage: loopfind [CASE]\n' "$find" k1 k2
+ends 2 'bin/loopfind, no input' '' $'standard input: Bad file descriptor\n' without_input "$find"
+ends 2 'bin/loopfind, no room' '' "loopfind$unwritten" into_full "$find" k1
+ends 2 'bin/loopfind, refused and no room' '' "loopfind$unwritten" into_full "$find" k10
+ends 2 'bin/loopfind, output closed' '' "loopfind$unwritten" closed "$find" k1
+ends 2 'bin/loopcheck, no such file' '' $'missing: No such file or directory\n' "$check" k1 missing
+ends 2 'bin/loopcheck, one file' '' $'usage: loopcheck CASE ANSWER\n' "$check" k1
+ends 2 'bin/loopcheck, - twice' '' $'loopcheck: only one of the two files can be standard input\n' "$check" - -
+ends 2 'bin/looplist, no list' '' $'usage: looplist CASE ACTS\n' "$list"
+ends 2 'bin/looplist, no room' '' "looplist$unwritten" into_full "$list" k1 whole
+file bad $'0\nx\n'
+no_act=$'line 2: expected an act, a number of 1 to 9 digits without leading zeros, and a line feed\n'
+ends 2 'bin/looplist, a bad list' '' "bad: $no_act" "$list" k1 bad
+ends 2 'bin/looplist, a list too long' '' $'too.many: more than 400000 acts\n' "$list" k1 too.many
+little_stack() { (ulimit -s 1000 && "$@"); }
+ends 2 'bin/looplist, too little stack' '' $'Segmentation fault\nlooplist: ended with status 139; does ulimit -s allow 8 MB of stack?\n' \
+    little_stack "$list" k1 whole
+
+# ---- standard input
+
+input=k1
+ends 0 'bin/loopcheck, - for the case' $'pass lasso\n' '' "$check" - a1
+input=k10
+ends 1 'bin/loopcheck, a newer case by -' $'refused 3\n' "loopcheck: case: $version" "$check" - a1
+ends 1 'bin/looplist, a newer case by -' $'refusal 3\nverdict none\nacts 0\n' "looplist: case: $version" "$list" - whole
+input=newer
+ends 1 'bin/loopcheck, a newer answer by -' $'refused 3\n' "loopcheck: answer: $version" "$check" k1 -
+input=whole
+ends 0 'bin/looplist, - for the acts' "$done_1" '' "$list" k1 -
+input=bad
+ends 2 'bin/looplist, a bad list by -' '' "/dev/stdin: $no_act" "$list" k1 -
+input=most.wide
+ends 1 'bin/looplist, 400,000 acts by -' $'refusal 9\nverdict none\nacts 0\n' "looplist: acts: $(rule 9)"$'\n' "$list" k1 -
+input=too.many.wide
+ends 2 'bin/looplist, 400,001 acts by -' '' $'/dev/stdin: more than 400000 acts\n' "$list" k1 -
+input=folder
+ends 2 'bin/loopcheck, a folder by -' '' $'head: error reading \'standard input\': Is a directory
+loopcheck: standard input was not read\n' "$check" - a1
+input=/dev/null
+
+on_terminal() { # FILE COMMAND...: the command, with the file typed at a terminal as its standard input
+    python3 "$root/tests/trials/on_terminal.py" "$@"
+}
+hint=$': reads from the terminal; end the file by Ctrl-D on a line of its own\n'
+ends 0 'bin/loopfind, from a terminal' "$lasso_1" "loopfind$hint" on_terminal k1 "$find"
+ends 0 'bin/loopcheck, from a terminal' $'pass lasso\n' "loopcheck$hint" on_terminal a1 "$check" k1 -
+ends 0 'bin/loopfind, a file and a terminal' "$lasso_1" '' on_terminal torn.0 "$find" k1
+
+# ---- the one door
+
+door=$scripts/rezkundo
+listed() { "$@" | grep '^  rezkundo '; }
+ends 0 'bin/rezkundo' "\
+  rezkundo find   finds a lasso in a mission, or shows that there is none
+  rezkundo check  checks that an answer file shows what it says of a case
+  rezkundo list   replays a recorded order of the bus on a mission
+  rezkundo draw   draws a mission, and a finding in it, as Graphviz text
+" '' listed "$door"
+ends 0 'bin/rezkundo find' "$lasso_1" '' "$door" find k1
+ends 0 'bin/rezkundo check' $'pass lasso\n' '' "$door" check k1 a1
+ends 0 'bin/rezkundo list' "$done_1" '' "$door" list k1 whole
+ends 2 'bin/rezkundo, another word' '' $'usage: rezkundo [find | check | list | draw] [ARGUMENT]...\n' "$door" seek k1
+
+# ---- help and version, from a tree in which nothing is built and on a machine without the kit
+
+tree() { # FOLDER: the sources, and nothing built
+    mkdir -p "$1"
+    cp -a "$root/crates" "$root/crates.txt" "$root/bin" "$root/share" "$root/tools" "$1"
+}
+tree 'bare tree'
+mkdir without_rt
+ln -sf /usr/bin/* /bin/* without_rt
+rm -f without_rt/rt
+kitless() { PATH=$work/without_rt "$@"; }
+kit=$(rt version)
+about=$(head -n 1 "$root/share/rezkundo/version")$'\n'$(tail -n +2 "$root/share/rezkundo/version")$'\n'kit:
+for name in find check list draw; do
+    trial "loop$name --help" "$(cat "$root/share/rezkundo/help/loop$name")"$'\n' '' kitless "bare tree/bin/loop$name" --help
+    trial "loop$name --version" "loop$name (Rezkundo) $about none on this machine"$'\n' '' kitless "bare tree/bin/loop$name" --version
+    trial "loop$name --version, the kit" "loop$name (Rezkundo) $about $kit"$'\n' '' "bare tree/bin/loop$name" --version
+done
+trial 'rezkundo --version' "rezkundo (Rezkundo) $about $kit"$'\n' '' "$door" --version
+in_help() { grep -c '400,000' "$root/share/rezkundo/help/looplist"; }
+trial 'the greatest list, in the help' $'1\n' '' in_help
+newest() { sed -n 's/^## \([0-9.]*\).*/\1/p' "$root/CHANGELOG.md" | head -n 1; }
+trial 'the version, in CHANGELOG.md' "$(head -n 1 "$root/share/rezkundo/version")"$'\n' '' newest
+
+# ---- where it is called from
+
+mkdir -p elsewhere/bin
+ln -s "$find" elsewhere/finder
+ln -s ../finder elsewhere/bin/again
+in_folder() { (cd "$1" && shift && "$@"); }
+ends 0 'a link' "$lasso_1" '' elsewhere/finder k1
+ends 0 'a link to a link, from its folder' "$lasso_1" '' in_folder elsewhere/bin ./again ../../k1
+by_path() { PATH=$work/elsewhere/bin:$PATH "$@"; }
+ends 0 'a link on the path' "$lasso_1" '' by_path again k1
+with_cdpath() { CDPATH=$work:$root "$@"; }
+ends 0 'CDPATH' "$lasso_1" '' with_cdpath in_folder "$root/bin" ./loopfind "$work/k1"
+ends 0 'a folder below' "$lasso_1" '' with_cdpath in_folder "$root/bin" sh loopfind "$work/k1"
+
+# ---- the examples
+
+example=$root/examples/hold-climb-hold
+ends 0 'examples, lasso' "$(cat "$example.answer")"$'\n' '' "$find" "$example.case"
+ends 0 'examples, its check' $'pass lasso\n' '' "$check" "$example.case" "$example.answer"
+ends 0 'examples, its acts' "$done_1" '' "$list" "$example.case" "$example.acts"
+landed=$root/examples/survey-and-land
+ends 0 'examples, empty' "$(cat "$landed.answer")"$'\n' '' "$find" "$landed.case"
+ends 1 'examples, refused' $'refused 8\n' "loopfind: case: $twice" "$find" "$root/examples/edge-twice.case"
+"$root/examples/large" >field.case
+"$find" field.case >field.answer
+ends 0 'examples, large' $'pass lasso\n' '' "$check" field.case field.answer
+"$root/examples/rounds" k1 3 >three.acts
+"$root/examples/rounds" k1 4 >four.acts
+ends 1 'examples, three rounds' $'refusal 10\nverdict none\nacts 6\n' "looplist: acts: $(rule 10)"$'\n' "$list" k1 three.acts
+ends 0 'examples, four rounds' "$done_1" '' "$list" k1 four.acts
