@@ -75,7 +75,7 @@ file bad $'0\nx\n'
 no_act=$'line 2: expected an act, a number of 1 to 9 digits without leading zeros, and a line feed\n'
 ends 2 'bin/looplist, a bad list' '' "bad: $no_act" "$list" k1 bad
 ends 2 'bin/looplist, a list too long' '' $'too.many: more than 400000 acts\n' "$list" k1 too.many
-little_stack() { (ulimit -s 1000 && "$@"); }
+little_stack() { (ulimit -c 0 -s 1000 && "$@"); }
 ends 2 'bin/looplist, too little stack' '' $'Segmentation fault\nlooplist: ended with status 139; does ulimit -s allow 8 MB of stack?\n' \
     little_stack "$list" k1 whole
 
