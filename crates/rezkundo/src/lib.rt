@@ -1,6 +1,8 @@
-// The C interface: the three entries under their exported names. include/rezkundo.h declares them; a slice crosses as a
-// pointer and a length. Contracts are `model`'s Entry definitions.
+// The C interface: the three entries under their exported names, and the version. include/rezkundo.h declares them; a
+// slice crosses as a pointer and a length. The entries' contracts are `model`'s Entry definitions.
+ghost use mathlib.Core.Path.{_≡_};
 ghost use Rattle.model.specs.Entry.{Check-says, List-says, Rounds-say};
+ghost use Rattle.rezkundo.specs.Version.{product-version};
 use model::Checked;
 use model::Outcome;
 
@@ -28,4 +30,12 @@ pub extern "C" fn rezkundo_check_answer(text: &[u8], answer: &[u8]) -> Checked
     ensures { λ r. ⌜ Check-says (now (text .entry)) (now (answer .entry)) r ⌝ }
 {
     checker::check_answer(text, answer)
+}
+
+// The product's version as one number: `REZKUNDO_VERSION` in the header that goes with this library.
+#[no_mangle]
+pub extern "C" fn rezkundo_version() -> u32
+    ensures { λ r. ⌜ r ≡ product-version ⌝ }
+{
+    10000
 }

@@ -1,0 +1,2 @@
+-- What the C interface says of itself.
+pub mod Version
