@@ -1,7 +1,15 @@
-/* Rezkundo's C interface: target/staticlib/librezkundo.a, built by `rt staticlib rezkundo`.
+/* Rezkundo's C interface: librezkundo.a, built by `rt staticlib rezkundo`. C99 and C++.
  *
- * Every pointer must be valid for its length and no two buffers may overlap; with length 0 the pointer is not read, but
- * it must not be null. Each call returns, for all contents of the buffers.
+ * Buffers. Every pointer must be valid for its length, and no two buffers may overlap. A buffer of length 0 is neither
+ * read nor written, so its pointer may be null: null text is a file of no bytes (2), null acts a list of no acts, null
+ * output or work a buffer that is too short (11), a null answer a file of no bytes (12).
+ *
+ * Calls. Each call returns, for all contents of the buffers. The library takes no memory of its own and keeps nothing
+ * between calls, so calls may run side by side on different buffers; what is only read may be shared. A call takes less
+ * than REZKUNDO_STACK bytes of the caller's stack.
+ *
+ * Linking. The archive has one object, for x86-64 Linux by the System V calling convention. It is position independent,
+ * and of all other code it needs only memset.
  */
 #ifndef REZKUNDO_H
 #define REZKUNDO_H
@@ -13,11 +21,48 @@
 extern "C" {
 #endif
 
-/* Of a run: refusal 0 or its number (docs/REFUSALS.md); verdict 1 lasso, 2 empty, 0 none; the acts counted; the
- * answer's length. */
+/* The version that this header goes with, 1.0.0: major x 10,000 + minor x 100 + patch. */
+#define REZKUNDO_VERSION 10000
+
+/* The version of the linked library. Another than REZKUNDO_VERSION means that header and library do not belong together. */
+uint32_t rezkundo_version(void);
+
+/* The longest file in bytes; the least output in bytes and the least work buffer in cells, which suffice for every case;
+ * and the stack, rounded up from what tests/library measures. */
+#define REZKUNDO_LONGEST_FILE 65536
+#define REZKUNDO_LEAST_OUTPUT 8192
+#define REZKUNDO_LEAST_WORK 16384
+#define REZKUNDO_STACK 32768
+
+/* Verdicts. None stands with every refusal. */
+enum {
+    REZKUNDO_NONE = 0,
+    REZKUNDO_LASSO = 1,
+    REZKUNDO_EMPTY = 2
+};
+
+/* Refusals, in words in docs/REFUSALS.md; 0 is none. */
+enum {
+    REZKUNDO_REFUSED_TOO_LONG = 1,
+    REZKUNDO_REFUSED_NOT_A_CASE = 2,
+    REZKUNDO_REFUSED_OTHER_VERSION = 3,
+    REZKUNDO_REFUSED_CASE_LAYOUT = 4,
+    REZKUNDO_REFUSED_CASE_COUNT = 5,
+    REZKUNDO_REFUSED_CASE_VERTEX = 6,
+    REZKUNDO_REFUSED_CASE_EDGE = 7,
+    REZKUNDO_REFUSED_CASE_EDGE_ORDER = 8,
+    REZKUNDO_REFUSED_NO_SUCH_ACT = 9,
+    REZKUNDO_REFUSED_UNENDED = 10,
+    REZKUNDO_REFUSED_BUFFER_TOO_SHORT = 11,
+    REZKUNDO_REFUSED_ANSWER_LAYOUT = 12,
+    REZKUNDO_REFUSED_ANSWER_FALSE = 13
+};
+
+/* Of a run: refusal or 0; verdict; the acts counted; the answer's length in bytes. A later library may have refusals and
+ * verdicts that this header does not name: take an unknown one for an error, never for "empty". */
 typedef struct { uint32_t refusal, verdict, acts, written; } rezkundo_outcome;
 
-/* Of a check: refusal 0 or its number; the answer's verdict where it passes, 0 where it does not. */
+/* Of a check: refusal or 0; the answer's verdict where it passes. */
 typedef struct { uint32_t refusal, verdict; } rezkundo_checked;
 
 /* Runs a case by a list of acts. 11 if the output has under 8,192 bytes or the work buffer under 16,384 cells; then 1
