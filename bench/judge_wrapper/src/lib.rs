@@ -1,6 +1,7 @@
 //! The C entry of `libjudge_bench.a`, which only judges a case file, as a
 //! safe function.
 
+#[link(name = "judge_bench", kind = "static")]
 unsafe extern "C" {
     fn rezkundo_judge(text: *const u8, len: usize) -> u32;
 }

@@ -1,108 +1,64 @@
-//! The C interface of `librezkundo.a` as a tool: safe functions over slices.
-//!
-//! This crate alone holds unsafe code.
+//! The library as a tool that the comparison calls, over the binding in
+//! bindings/rust. The binding keeps every number that the library returns, so
+//! nothing that the comparison looks at is lost on the way.
 
 use reference::entries::{Checked, Outcome, Tool};
-
-/// `rezkundo_outcome` in C.
-#[repr(C)]
-struct RawOutcome {
-    refusal: u32,
-    verdict: u32,
-    acts: u32,
-    written: u32,
-}
-
-/// `rezkundo_checked` in C.
-#[repr(C)]
-struct RawChecked {
-    refusal: u32,
-    verdict: u32,
-}
-
-unsafe extern "C" {
-    fn rezkundo_run_list(
-        text: *const u8,
-        text_len: usize,
-        acts: *const u32,
-        acts_len: usize,
-        output: *mut u8,
-        output_len: usize,
-        work: *mut i32,
-        work_len: usize,
-    ) -> RawOutcome;
-
-    fn rezkundo_run_rounds(
-        text: *const u8,
-        text_len: usize,
-        output: *mut u8,
-        output_len: usize,
-        work: *mut i32,
-        work_len: usize,
-    ) -> RawOutcome;
-
-    fn rezkundo_check_answer(
-        text: *const u8,
-        text_len: usize,
-        answer: *const u8,
-        answer_len: usize,
-    ) -> RawChecked;
-}
+use rezkundo::{Error, Finding, check_answer, run_list, run_rounds};
 
 /// The proved library.
 pub struct Library;
 
 impl Tool for Library {
     fn run_list(&self, text: &[u8], acts: &[u32], output: &mut [u8], work: &mut [i32]) -> Outcome {
-        // SAFETY: each pointer and length come from one slice that lives, and
-        // is lent to nobody else, until the call returns.
-        let raw = unsafe {
-            rezkundo_run_list(
-                text.as_ptr(),
-                text.len(),
-                acts.as_ptr(),
-                acts.len(),
-                output.as_mut_ptr(),
-                output.len(),
-                work.as_mut_ptr(),
-                work.len(),
-            )
-        };
-        outcome(&raw)
+        outcome(run_list(text, acts, output, work))
     }
 
     fn run_rounds(&self, text: &[u8], output: &mut [u8], work: &mut [i32]) -> Outcome {
-        // SAFETY: as above.
-        let raw = unsafe {
-            rezkundo_run_rounds(
-                text.as_ptr(),
-                text.len(),
-                output.as_mut_ptr(),
-                output.len(),
-                work.as_mut_ptr(),
-                work.len(),
-            )
-        };
-        outcome(&raw)
+        outcome(run_rounds(text, output, work))
     }
 
     fn check_answer(&self, text: &[u8], answer: &[u8]) -> Checked {
-        // SAFETY: as above; the call only reads.
-        let raw = unsafe {
-            rezkundo_check_answer(text.as_ptr(), text.len(), answer.as_ptr(), answer.len())
-        };
-        Checked {
-            refusal: raw.refusal,
-            verdict: raw.verdict,
+        match check_answer(text, answer) {
+            Ok(verdict) => Checked {
+                refusal: 0,
+                verdict: verdict.number(),
+            },
+            Err(error) => {
+                let Outcome {
+                    refusal, verdict, ..
+                } = numbers(error);
+                Checked { refusal, verdict }
+            }
         }
     }
 }
 
-fn outcome(raw: &RawOutcome) -> Outcome {
-    Outcome {
-        refusal: raw.refusal,
-        verdict: raw.verdict,
-        acts: raw.acts,
-        written: raw.written,
+fn outcome(result: Result<Finding, Error>) -> Outcome {
+    match result {
+        Ok(found) => Outcome {
+            refusal: 0,
+            verdict: found.verdict.number(),
+            acts: found.acts,
+            written: found.written as u32,
+        },
+        Err(error) => numbers(error),
+    }
+}
+
+/// The numbers behind an error: a refusal has verdict 0 and no answer.
+fn numbers(error: Error) -> Outcome {
+    match error {
+        Error::Refused { refusal, acts } => Outcome {
+            refusal: refusal.number(),
+            verdict: 0,
+            acts,
+            written: 0,
+        },
+        Error::Unknown(raw) => Outcome {
+            refusal: raw.refusal,
+            verdict: raw.verdict,
+            acts: raw.acts,
+            written: raw.written,
+        },
     }
 }

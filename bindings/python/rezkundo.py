@@ -1,0 +1,128 @@
+"""Rezkundo's library as Python functions, over ctypes. include/rezkundo.h has the contract of each entry.
+
+A run or a check gives a verdict or raises an error. Numbers that this binding does not know raise one too, so nothing is
+ever taken for "empty" that is not."""
+import array
+import ctypes
+import enum
+import os
+from typing import NamedTuple
+
+# The version that this binding goes with, as Library.version tells the library's: major x 10,000 + minor x 100 + patch.
+VERSION = 10000
+# The longest file in bytes; the least output in bytes and the least work buffer in cells, which suffice for every case.
+LONGEST_FILE = 65536
+LEAST_OUTPUT = 8192
+LEAST_WORK = 16384
+
+
+class Verdict(enum.IntEnum):
+    """What was found, or what an answer shows."""
+    LASSO = 1
+    EMPTY = 2
+
+
+class Refusal(enum.IntEnum):
+    """Why a call was refused; docs/REFUSALS.md has each number in words."""
+    TOO_LONG = 1
+    NOT_A_CASE = 2
+    OTHER_VERSION = 3
+    CASE_LAYOUT = 4
+    CASE_COUNT = 5
+    CASE_VERTEX = 6
+    CASE_EDGE = 7
+    CASE_EDGE_ORDER = 8
+    NO_SUCH_ACT = 9
+    UNENDED = 10
+    BUFFER_TOO_SHORT = 11
+    ANSWER_LAYOUT = 12
+    ANSWER_FALSE = 13
+
+
+class Refused(Exception):
+    """The call was refused. 'acts' are the acts counted where the list ran out (UNENDED), else 0."""
+
+    def __init__(self, refusal, acts):
+        super().__init__(f'refused {refusal.value}')
+        self.refusal, self.acts = refusal, acts
+
+
+class Unknown(Exception):
+    """The library returned numbers that this binding does not know: it is not the one that the library goes with."""
+
+
+class Finding(NamedTuple):
+    """A run that ended: its verdict, the acts counted, and the answer file."""
+    verdict: Verdict
+    acts: int
+    answer: bytes
+
+
+class _Outcome(ctypes.Structure):
+    _fields_ = [(name, ctypes.c_uint32) for name in ('refusal', 'verdict', 'acts', 'written')]
+
+
+class _Checked(ctypes.Structure):
+    _fields_ = [(name, ctypes.c_uint32) for name in ('refusal', 'verdict')]
+
+
+class Library:
+    """librezkundo.so, loaded from a path, else from the one in REZKUNDO_SO, else by the system's search."""
+
+    def __init__(self, path=None):
+        self._library = ctypes.CDLL(path or os.environ.get('REZKUNDO_SO') or 'librezkundo.so')
+        slices = [ctypes.c_void_p, ctypes.c_size_t]
+        self._declare('rezkundo_version', ctypes.c_uint32, [])
+        self._declare('rezkundo_run_list', _Outcome, slices * 4)
+        self._declare('rezkundo_run_rounds', _Outcome, slices * 3)
+        self._declare('rezkundo_check_answer', _Checked, slices * 2)
+
+    def _declare(self, name, result, parameters):
+        entry = getattr(self._library, name)
+        entry.restype, entry.argtypes = result, parameters
+
+    def version(self):
+        """The version of the loaded library."""
+        return self._library.rezkundo_version()
+
+    def run_list(self, text, acts):
+        """Runs a case by a list of acts, each below 2 ** 32: its Finding."""
+        # An array raises an error for a number that it cannot hold, where ctypes would cut it to another act.
+        numbers = array.array('I', acts)
+        address, length = numbers.buffer_info()
+        return _run(self._library.rezkundo_run_list, text, address, length)
+
+    def run_rounds(self, text):
+        """Runs a case by rounds, to the run's end: its Finding."""
+        return _run(self._library.rezkundo_run_rounds, text)
+
+    def check_answer(self, text, answer):
+        """Checks an answer to a case: the Verdict that it shows."""
+        text, answer = _bytes(text), _bytes(answer)
+        checked = self._library.rezkundo_check_answer(text, len(text), answer, len(answer))
+        return _verdict(checked.refusal, checked.verdict, 0, 0)
+
+
+def _bytes(lent):
+    """The bytes of what has some; a string or a number is an error."""
+    return memoryview(lent).tobytes()
+
+
+def _run(entry, text, *acts):
+    text = _bytes(text)
+    output = (ctypes.c_uint8 * LEAST_OUTPUT)()
+    work = (ctypes.c_int32 * LEAST_WORK)()
+    ran = entry(text, len(text), *acts, output, LEAST_OUTPUT, work, LEAST_WORK)
+    verdict = _verdict(ran.refusal, ran.verdict, ran.acts, ran.written)
+    return Finding(verdict, ran.acts, bytes(output[:ran.written]))
+
+
+def _verdict(refusal, verdict, acts, written):
+    """The verdict, or the error that the numbers mean. A refusal has no verdict and no answer, and only UNENDED counts
+    acts; whatever differs from that is unknown."""
+    if refusal == 0 and verdict in set(Verdict):
+        return Verdict(verdict)
+    counts = refusal == Refusal.UNENDED or acts == 0
+    if refusal in set(Refusal) and verdict == 0 and written == 0 and counts:
+        raise Refused(Refusal(refusal), acts)
+    raise Unknown(f'the library returned refusal {refusal}, verdict {verdict}, acts {acts}, written {written}')

@@ -1,0 +1,312 @@
+//! Rezkundo's library, `librezkundo.a`, as safe functions over slices. `include/rezkundo.h` has the contract of each
+//! entry.
+//!
+//! A run or a check either gives a verdict or an [`Error`]. Numbers that this binding does not know are an error too, so
+//! nothing is ever taken for "empty" that is not.
+
+use std::fmt;
+
+/// The version that this binding goes with, as [`version`] tells the library's: major × 10,000 + minor × 100 + patch.
+pub const VERSION: u32 = 10_000;
+/// The longest file, in bytes.
+pub const LONGEST_FILE: usize = 65_536;
+/// The least output, in bytes; it suffices for every case.
+pub const LEAST_OUTPUT: usize = 8_192;
+/// The least work buffer, in cells; it suffices for every case.
+pub const LEAST_WORK: usize = 16_384;
+
+/// What was found, or what an answer shows.
+#[derive(Clone, Copy, Debug, PartialEq, Eq)]
+#[repr(u32)]
+pub enum Verdict {
+    Lasso = 1,
+    Empty = 2,
+}
+
+impl Verdict {
+    const ALL: [Verdict; 2] = [Verdict::Lasso, Verdict::Empty];
+
+    /// Its number in the C interface.
+    pub fn number(self) -> u32 {
+        self as u32
+    }
+}
+
+impl fmt::Display for Verdict {
+    /// The word that answer files have for it.
+    fn fmt(&self, out: &mut fmt::Formatter) -> fmt::Result {
+        out.write_str(match self {
+            Verdict::Lasso => "lasso",
+            Verdict::Empty => "empty",
+        })
+    }
+}
+
+/// Why a call was refused; docs/REFUSALS.md has each number in words.
+#[derive(Clone, Copy, Debug, PartialEq, Eq)]
+#[repr(u32)]
+pub enum Refusal {
+    TooLong = 1,
+    NotACase = 2,
+    OtherVersion = 3,
+    CaseLayout = 4,
+    CaseCount = 5,
+    CaseVertex = 6,
+    CaseEdge = 7,
+    CaseEdgeOrder = 8,
+    NoSuchAct = 9,
+    Unended = 10,
+    BufferTooShort = 11,
+    AnswerLayout = 12,
+    AnswerFalse = 13,
+}
+
+impl Refusal {
+    /// Every refusal, by rising number.
+    pub const ALL: [Refusal; 13] = [
+        Refusal::TooLong,
+        Refusal::NotACase,
+        Refusal::OtherVersion,
+        Refusal::CaseLayout,
+        Refusal::CaseCount,
+        Refusal::CaseVertex,
+        Refusal::CaseEdge,
+        Refusal::CaseEdgeOrder,
+        Refusal::NoSuchAct,
+        Refusal::Unended,
+        Refusal::BufferTooShort,
+        Refusal::AnswerLayout,
+        Refusal::AnswerFalse,
+    ];
+
+    /// Its number.
+    pub fn number(self) -> u32 {
+        self as u32
+    }
+}
+
+/// A run that ended.
+#[derive(Clone, Copy, Debug, PartialEq, Eq)]
+pub struct Finding {
+    pub verdict: Verdict,
+    /// The acts counted.
+    pub acts: u32,
+    /// The length of the answer, which stands at the output's front.
+    pub written: usize,
+}
+
+/// No verdict.
+#[derive(Clone, Copy, Debug, PartialEq, Eq)]
+pub enum Error {
+    /// The call was refused. `acts` are the acts counted where the list ran out ([`Refusal::Unended`]), else 0.
+    Refused { refusal: Refusal, acts: u32 },
+    /// The library returned these numbers, and this binding does not know what they mean together: it is not the one
+    /// that the library goes with.
+    Unknown(Outcome),
+}
+
+impl fmt::Display for Error {
+    fn fmt(&self, out: &mut fmt::Formatter) -> fmt::Result {
+        match self {
+            Error::Refused { refusal, .. } => write!(out, "refused {}", refusal.number()),
+            Error::Unknown(numbers) => {
+                write!(out, "the library returned unknown numbers: {numbers:?}")
+            }
+        }
+    }
+}
+
+impl std::error::Error for Error {}
+
+/// The numbers that the library returns of a run: `rezkundo_outcome` in C.
+#[derive(Clone, Copy, Debug, PartialEq, Eq)]
+#[repr(C)]
+pub struct Outcome {
+    pub refusal: u32,
+    pub verdict: u32,
+    pub acts: u32,
+    pub written: u32,
+}
+
+/// The numbers that the library returns of a check: `rezkundo_checked` in C.
+#[repr(C)]
+struct Checked {
+    refusal: u32,
+    verdict: u32,
+}
+
+// The archive becomes part of this crate, so that a program needs no shared object.
+#[link(name = "rezkundo", kind = "static")]
+unsafe extern "C" {
+    fn rezkundo_version() -> u32;
+
+    fn rezkundo_run_list(
+        text: *const u8,
+        text_len: usize,
+        acts: *const u32,
+        acts_len: usize,
+        output: *mut u8,
+        output_len: usize,
+        work: *mut i32,
+        work_len: usize,
+    ) -> Outcome;
+
+    fn rezkundo_run_rounds(
+        text: *const u8,
+        text_len: usize,
+        output: *mut u8,
+        output_len: usize,
+        work: *mut i32,
+        work_len: usize,
+    ) -> Outcome;
+
+    fn rezkundo_check_answer(
+        text: *const u8,
+        text_len: usize,
+        answer: *const u8,
+        answer_len: usize,
+    ) -> Checked;
+}
+
+/// The version of the linked library.
+pub fn version() -> u32 {
+    // SAFETY: the call takes nothing and touches no memory.
+    unsafe { rezkundo_version() }
+}
+
+/// Runs a case by a list of acts.
+pub fn run_list(
+    text: &[u8],
+    acts: &[u32],
+    output: &mut [u8],
+    work: &mut [i32],
+) -> Result<Finding, Error> {
+    // SAFETY: each pointer and length come from one slice that lives, and is lent to nobody else, until the call
+    // returns.
+    finding(unsafe {
+        rezkundo_run_list(
+            text.as_ptr(),
+            text.len(),
+            acts.as_ptr(),
+            acts.len(),
+            output.as_mut_ptr(),
+            output.len(),
+            work.as_mut_ptr(),
+            work.len(),
+        )
+    })
+}
+
+/// Runs a case by rounds, to the run's end.
+pub fn run_rounds(text: &[u8], output: &mut [u8], work: &mut [i32]) -> Result<Finding, Error> {
+    // SAFETY: as above.
+    finding(unsafe {
+        rezkundo_run_rounds(
+            text.as_ptr(),
+            text.len(),
+            output.as_mut_ptr(),
+            output.len(),
+            work.as_mut_ptr(),
+            work.len(),
+        )
+    })
+}
+
+/// Checks an answer to a case: the verdict that it shows.
+pub fn check_answer(text: &[u8], answer: &[u8]) -> Result<Verdict, Error> {
+    // SAFETY: as above; the call only reads.
+    let checked =
+        unsafe { rezkundo_check_answer(text.as_ptr(), text.len(), answer.as_ptr(), answer.len()) };
+    let numbers = Outcome {
+        refusal: checked.refusal,
+        verdict: checked.verdict,
+        acts: 0,
+        written: 0,
+    };
+    finding(numbers).map(|found| found.verdict)
+}
+
+/// What the numbers mean. A refusal has no verdict and no answer, and only `Unended` counts acts; whatever differs from
+/// that is unknown.
+fn finding(numbers: Outcome) -> Result<Finding, Error> {
+    let Outcome {
+        refusal,
+        verdict,
+        acts,
+        written,
+    } = numbers;
+    let known_refusal = Refusal::ALL
+        .into_iter()
+        .find(|known| known.number() == refusal);
+    let known_verdict = Verdict::ALL
+        .into_iter()
+        .find(|known| known.number() == verdict);
+    match (known_refusal, known_verdict) {
+        (None, Some(verdict)) if refusal == 0 => Ok(Finding {
+            verdict,
+            acts,
+            written: written as usize,
+        }),
+        (Some(refusal), None)
+            if verdict == 0 && written == 0 && (acts == 0 || refusal == Refusal::Unended) =>
+        {
+            Err(Error::Refused { refusal, acts })
+        }
+        _ => Err(Error::Unknown(numbers)),
+    }
+}
+
+#[cfg(test)]
+mod tests {
+    use super::*;
+
+    fn outcome(refusal: u32, verdict: u32, acts: u32, written: u32) -> Outcome {
+        Outcome {
+            refusal,
+            verdict,
+            acts,
+            written,
+        }
+    }
+
+    #[test]
+    fn known_numbers() {
+        let found = |verdict| {
+            Ok(Finding {
+                verdict,
+                acts: 8,
+                written: 60,
+            })
+        };
+        assert_eq!(finding(outcome(0, 1, 8, 60)), found(Verdict::Lasso));
+        assert_eq!(finding(outcome(0, 2, 8, 60)), found(Verdict::Empty));
+        for (place, refusal) in Refusal::ALL.into_iter().enumerate() {
+            assert_eq!(refusal.number(), place as u32 + 1);
+            assert_eq!(
+                finding(outcome(refusal.number(), 0, 0, 0)),
+                Err(Error::Refused { refusal, acts: 0 })
+            );
+        }
+        let unended = Error::Refused {
+            refusal: Refusal::Unended,
+            acts: 8,
+        };
+        assert_eq!(finding(outcome(10, 0, 8, 0)), Err(unended));
+    }
+
+    #[test]
+    fn unknown_numbers() {
+        for (refusal, verdict, acts, written) in [
+            (0, 0, 0, 0),
+            (0, 3, 8, 60),
+            (14, 0, 0, 0),
+            (9, 0, 1, 0),
+            (2, 0, 0, 1),
+            (2, 2, 0, 0),
+            (14, 2, 8, 60),
+        ] {
+            let numbers = outcome(refusal, verdict, acts, written);
+            assert_eq!(finding(numbers), Err(Error::Unknown(numbers)));
+        }
+    }
+}
