@@ -1,0 +1,81 @@
+/* Every entry with every buffer lent as a null pointer and length 0, each alone and all together. */
+#include <stdio.h>
+#include <string.h>
+
+#include "rezkundo.h"
+
+#define FILLED 0x5a
+
+static const char text[] = "version vertices edges source workers\n1 3 3 0 2\nvertex accepting owner\n0 0 0\n1 1 1\n2 0 0\n"
+                           "from to\n0 1\n1 2\n2 1\n";
+static const uint32_t acts[] = {0, 2, 1, 3, 0, 4, 1, 3};
+static uint8_t output[REZKUNDO_LEAST_OUTPUT];
+static int32_t work[REZKUNDO_LEAST_WORK];
+static int trials, faults;
+
+static void fill(void)
+{
+    memset(output, FILLED, sizeof output);
+    memset(work, FILLED, sizeof work);
+}
+
+/* Whether every byte of a buffer is this one. */
+static int all(const void *buffer, size_t size, int byte)
+{
+    const unsigned char *bytes = buffer;
+    size_t at = 0;
+    while (at < size && bytes[at] == byte)
+        at++;
+    return at == size;
+}
+
+static void judge(const char *name, uint32_t refusal, uint32_t expected, int as_promised)
+{
+    trials++;
+    if (refusal != expected || !as_promised) {
+        printf("%s: refusal %u, expected %u; the rest is%s right\n", name, (unsigned)refusal, (unsigned)expected,
+               as_promised ? "" : " not");
+        faults++;
+    }
+}
+
+/* A refused run: nothing is changed, save that 10 leaves work all zeros. */
+static void refused(const char *name, rezkundo_outcome run, uint32_t expected)
+{
+    int work_left = expected == REZKUNDO_REFUSED_UNENDED ? 0 : FILLED;
+    judge(name, run.refusal, expected,
+          run.verdict == REZKUNDO_NONE && run.acts == 0 && run.written == 0 && all(output, sizeof output, FILLED) &&
+              all(work, sizeof work, work_left));
+    fill();
+}
+
+static void checked(const char *name, rezkundo_checked check, uint32_t expected)
+{
+    judge(name, check.refusal, expected, check.verdict == REZKUNDO_NONE);
+}
+
+#define TEXT (const uint8_t *)text, sizeof text - 1
+#define LIST acts, sizeof acts / sizeof *acts
+#define OUTPUT output, sizeof output
+#define WORK work, REZKUNDO_LEAST_WORK
+#define NOTHING NULL, 0
+
+int main(void)
+{
+    fill();
+    refused("list, text", rezkundo_run_list(NOTHING, LIST, OUTPUT, WORK), REZKUNDO_REFUSED_NOT_A_CASE);
+    refused("list, acts", rezkundo_run_list(TEXT, NOTHING, OUTPUT, WORK), REZKUNDO_REFUSED_UNENDED);
+    refused("list, output", rezkundo_run_list(TEXT, LIST, NOTHING, WORK), REZKUNDO_REFUSED_BUFFER_TOO_SHORT);
+    refused("list, work", rezkundo_run_list(TEXT, LIST, OUTPUT, NOTHING), REZKUNDO_REFUSED_BUFFER_TOO_SHORT);
+    refused("list, text and acts", rezkundo_run_list(NOTHING, NOTHING, OUTPUT, WORK), REZKUNDO_REFUSED_NOT_A_CASE);
+    refused("list, all", rezkundo_run_list(NOTHING, NOTHING, NOTHING, NOTHING), REZKUNDO_REFUSED_BUFFER_TOO_SHORT);
+    refused("rounds, text", rezkundo_run_rounds(NOTHING, OUTPUT, WORK), REZKUNDO_REFUSED_NOT_A_CASE);
+    refused("rounds, output", rezkundo_run_rounds(TEXT, NOTHING, WORK), REZKUNDO_REFUSED_BUFFER_TOO_SHORT);
+    refused("rounds, work", rezkundo_run_rounds(TEXT, OUTPUT, NOTHING), REZKUNDO_REFUSED_BUFFER_TOO_SHORT);
+    refused("rounds, all", rezkundo_run_rounds(NOTHING, NOTHING, NOTHING), REZKUNDO_REFUSED_BUFFER_TOO_SHORT);
+    checked("check, text", rezkundo_check_answer(NOTHING, TEXT), REZKUNDO_REFUSED_NOT_A_CASE);
+    checked("check, answer", rezkundo_check_answer(TEXT, NOTHING), REZKUNDO_REFUSED_ANSWER_LAYOUT);
+    checked("check, both", rezkundo_check_answer(NOTHING, NOTHING), REZKUNDO_REFUSED_NOT_A_CASE);
+    printf("null pointers: %d trials, %d faults\n", trials, faults);
+    return faults != 0;
+}

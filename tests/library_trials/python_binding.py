@@ -1,0 +1,50 @@
+"""python_binding.py CASE ANSWER ACTS OTHER: tries the Python binding on a case, its answer and a list that ends it, and
+on another library, whose runs give a verdict that nobody knows."""
+import pathlib
+import sys
+
+import rezkundo
+from rezkundo import Finding, Library, Refusal, Refused, Unknown, Verdict
+
+case, answer, listed = (pathlib.Path(name).read_bytes() for name in sys.argv[1:4])
+acts = [int(line) for line in listed.split()]
+library, other = Library(), Library(sys.argv[4])
+
+
+def raised(error, call, *arguments):
+    """The error that the call raises; any other ends the program."""
+    try:
+        result = call(*arguments)
+    except error as caught:
+        return caught
+    raise AssertionError(f'{result} instead of {error.__name__}')
+
+
+def refused(call, *arguments):
+    """The refusal and the acts counted."""
+    error = raised(Refused, call, *arguments)
+    return error.refusal, error.acts
+
+
+lasso = Finding(Verdict.LASSO, 8, answer)
+assert library.run_rounds(case) == lasso
+assert library.run_list(case, acts) == lasso
+assert library.run_list(memoryview(case), iter(acts)) == lasso
+assert library.check_answer(case, bytearray(answer)) is Verdict.LASSO
+assert refused(library.run_list, case, acts[:1]) == (Refusal.UNENDED, 0)
+assert refused(library.run_list, case, acts[1:4]) == (Refusal.UNENDED, 3)
+assert refused(library.run_list, case, []) == (Refusal.UNENDED, 0)
+assert refused(library.run_list, case, [5]) == (Refusal.NO_SUCH_ACT, 0)
+assert refused(library.run_list, case, [2 ** 32 - 1]) == (Refusal.NO_SUCH_ACT, 0)
+assert refused(library.run_rounds, b'') == (Refusal.NOT_A_CASE, 0)
+assert refused(library.run_rounds, bytes(rezkundo.LONGEST_FILE + 1)) == (Refusal.TOO_LONG, 0)
+assert refused(library.check_answer, case, b'') == (Refusal.ANSWER_LAYOUT, 0)
+# Numbers that would be cut to other acts, and what has no bytes.
+raised(OverflowError, library.run_list, case, [2 ** 32])
+raised(OverflowError, library.run_list, case, [-1])
+raised(TypeError, library.run_rounds, case.decode())
+raised(TypeError, library.check_answer, case, 5)
+# A verdict that nobody knows is no "empty".
+raised(Unknown, other.run_rounds, case)
+raised(Unknown, other.run_list, case, acts)
+raised(Unknown, other.check_answer, case, answer)

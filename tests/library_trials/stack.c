@@ -1,0 +1,100 @@
+/* Runs each entry on a painted stack over the largest cases, and prints the bytes that were used at most. It fails where
+ * they are more than REZKUNDO_STACK. */
+#define _XOPEN_SOURCE 600
+#include <stdio.h>
+#include <string.h>
+#include <ucontext.h>
+
+#include "cases.h"
+
+#define ROOM (1 << 20)
+#define PAINT 0xa5
+
+static unsigned char stack[ROOM];
+static ucontext_t outside, inside;
+
+/* What the call on the painted stack takes and gives: a context's function has no parameters of use. */
+static struct text text, answer;
+static uint32_t acts[ACTS];
+static uint8_t output[REZKUNDO_LEAST_OUTPUT];
+static int32_t work[REZKUNDO_LEAST_WORK];
+static rezkundo_outcome run;
+static rezkundo_checked check;
+static uint32_t version;
+
+static void by_list(void)
+{
+    run = rezkundo_run_list((uint8_t *)text.bytes, text.size, acts, ACTS, output, sizeof output, work, REZKUNDO_LEAST_WORK);
+}
+
+static void by_rounds(void)
+{
+    run = rezkundo_run_rounds((uint8_t *)text.bytes, text.size, output, sizeof output, work, REZKUNDO_LEAST_WORK);
+}
+
+static void checking(void)
+{
+    check = rezkundo_check_answer((uint8_t *)text.bytes, text.size, (uint8_t *)answer.bytes, answer.size);
+}
+
+static void asking(void) { version = rezkundo_version(); }
+
+/* The bytes of stack between the first and the farthest that a call changed. */
+static size_t used(void (*call)(void))
+{
+    memset(stack, PAINT, sizeof stack);
+    getcontext(&inside);
+    inside.uc_stack.ss_sp = stack;
+    inside.uc_stack.ss_size = sizeof stack;
+    inside.uc_link = &outside;
+    makecontext(&inside, call, 0);
+    swapcontext(&outside, &inside);
+    size_t untouched = 0;
+    while (untouched < sizeof stack && stack[untouched] == PAINT)
+        untouched++;
+    return sizeof stack - untouched;
+}
+
+static size_t larger(size_t a, size_t b) { return a > b ? a : b; }
+
+/* A trial that does not end in a verdict has measured something else. */
+static int verdicts;
+
+static size_t run_used(void (*call)(void))
+{
+    size_t size = used(call);
+    verdicts += run.refusal == 0;
+    memcpy(answer.bytes, output, run.written);
+    answer.size = run.written;
+    return size;
+}
+
+static size_t check_used(void)
+{
+    size_t size = used(checking);
+    verdicts += check.refusal == 0;
+    return size;
+}
+
+int main(void)
+{
+    size_t list = 0, rounds = 0, checks = 0, asked = used(asking), longest = 0;
+    for (int shape = 0; shape < SHAPES; shape++) {
+        write_case(&text, (enum shape)shape);
+        write_acts(acts, (enum shape)shape);
+        list = larger(list, run_used(by_list));
+        rounds = larger(rounds, run_used(by_rounds));
+        longest = larger(longest, answer.size);
+        checks = larger(checks, check_used());
+    }
+    write_case(&text, KNOT);
+    write_longest_lasso(&answer);
+    checks = larger(checks, check_used());
+    printf("stack: run_list %zu, run_rounds %zu, check_answer %zu, version %zu of %d bytes; longest answer %zu\n", list,
+           rounds, checks, asked, REZKUNDO_STACK, longest);
+    if (verdicts != 3 * SHAPES + 1) {
+        printf("stack: only %d trials ended in a verdict\n", verdicts);
+        return 1;
+    }
+    return larger(larger(list, rounds), larger(checks, asked)) > REZKUNDO_STACK;
+}
