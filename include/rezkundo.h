@@ -24,7 +24,7 @@ extern "C" {
 /* The version that this header goes with, 1.0.0: major x 10,000 + minor x 100 + patch. */
 #define REZKUNDO_VERSION 10000
 
-/* The version of the linked library. Another than REZKUNDO_VERSION means that header and library do not belong together. */
+/* The version of the linked library. If it is not REZKUNDO_VERSION, header and library do not belong together. */
 uint32_t rezkundo_version(void);
 
 /* The longest file in bytes; the least output in bytes and the least work buffer in cells, which suffice for every case;

@@ -93,8 +93,9 @@ static int read_acts(const char *name, FILE *file, struct acts *acts)
         return 0;
     }
     if (next == NO_ACT)
-        fprintf(stderr, "%s: line %zu: expected an act, a number of 1 to 9 digits without leading zeros, and a line feed\n",
-                name, acts->count + 1);
+        fprintf(stderr,
+                "%s: line %zu: expected an act, a number of 1 to %d digits without leading zeros, and a line feed\n",
+                name, acts->count + 1, MOST_DIGITS);
     return next == END;
 }
 

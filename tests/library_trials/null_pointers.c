@@ -6,8 +6,8 @@
 
 #define FILLED 0x5a
 
-static const char text[] = "version vertices edges source workers\n1 3 3 0 2\nvertex accepting owner\n0 0 0\n1 1 1\n2 0 0\n"
-                           "from to\n0 1\n1 2\n2 1\n";
+static const char text[] = "version vertices edges source workers\n1 3 3 0 2\n"
+                           "vertex accepting owner\n0 0 0\n1 1 1\n2 0 0\nfrom to\n0 1\n1 2\n2 1\n";
 static const uint32_t acts[] = {0, 2, 1, 3, 0, 4, 1, 3};
 static uint8_t output[REZKUNDO_LEAST_OUTPUT];
 static int32_t work[REZKUNDO_LEAST_WORK];

@@ -24,7 +24,8 @@ static uint32_t version;
 
 static void by_list(void)
 {
-    run = rezkundo_run_list((uint8_t *)text.bytes, text.size, acts, ACTS, output, sizeof output, work, REZKUNDO_LEAST_WORK);
+    run = rezkundo_run_list((uint8_t *)text.bytes, text.size, acts, ACTS, output, sizeof output, work,
+                            REZKUNDO_LEAST_WORK);
 }
 
 static void by_rounds(void)
