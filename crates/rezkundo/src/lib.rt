@@ -32,10 +32,13 @@ pub extern "C" fn rezkundo_check_answer(text: &[u8], answer: &[u8]) -> Checked
     checker::check_answer(text, answer)
 }
 
-// The product's version as one number: `REZKUNDO_VERSION` in the header that goes with this library.
+// `REZKUNDO_VERSION` in the header that goes with this library.
+const VERSION: u32 = 10000;
+
+// The product's version as one number.
 #[no_mangle]
 pub extern "C" fn rezkundo_version() -> u32
     ensures { λ r. ⌜ r ≡ product-version ⌝ }
 {
-    10000
+    VERSION
 }
