@@ -38,6 +38,10 @@ ends 1 'loopdraw, a bad case' '' "loopdraw: case: $twice" "$draw" k11
 ends 1 'loopdraw, a bad case with an answer' '' "loopdraw: case: $twice" "$draw" k11 a1
 ends 1 'loopdraw, a false answer' '' "loopdraw: answer: $(rule 13)"$'\n' "$draw" k2 a1
 ends 1 'loopdraw, an answer without a byte' '' "loopdraw: answer: $(rule 12)"$'\n' "$draw" k1 torn.0
+cp k1 first=k1
+cp a1 ./-a1
+ends 0 'loopdraw, names that awk would read otherwise' "$lasso" '' "$draw" first=k1 -a1
+ends 2 'loopdraw, a name without letters' '' $': No such file or directory\n' "$draw" k1 ''
 ends 2 'loopdraw, no such file' '' $'missing: No such file or directory\n' "$draw" missing
 ends 2 'loopdraw, no file' '' $'usage: loopdraw CASE [ANSWER]\n' "$draw"
 ends 2 'loopdraw, no room' '' "loopdraw$unwritten" into_full "$draw" k1

@@ -83,7 +83,7 @@ cp -a "$root/target/stamp" "$root/target/bin" "$root/target/build" changed/targe
 ln -s "$root/target/rlib" changed/target/rlib
 ends 0 'edit: before' "$lasso_1" '' changed/bin/loopfind k1
 (
-    cd changed/crates/loopfind
+    cd changed/crates/loopfind || exit
     sed -i 's/desk::print(/desk::complain(/' src/main.rt
     sed -i 's/aggregate-print/aggregate-complain/g; s/print-requires/complain-requires/g' proofs/print_found/Proof.antt
 )

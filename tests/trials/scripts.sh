@@ -81,6 +81,9 @@ ends 2 'bin/looplist, too little stack' '' $'Segmentation fault\nlooplist: ended
 
 # ---- standard input
 
+on_terminal() { # FILE COMMAND...: the command, with the file typed at a terminal as its standard input
+    python3 "$root/tests/trials/on_terminal.py" "$@"
+}
 input=k1
 ends 0 'bin/loopcheck, - for the case' $'pass lasso\n' '' "$check" - a1
 input=k10
@@ -96,14 +99,13 @@ input=most.wide
 ends 1 'bin/looplist, 400,000 acts by -' $'refusal 9\nverdict none\nacts 0\n' "looplist: acts: $(rule 9)"$'\n' "$list" k1 -
 input=too.many.wide
 ends 2 'bin/looplist, 400,001 acts by -' '' $'/dev/stdin: more than 400000 acts\n' "$list" k1 -
+cp k1 ./-:k1
+ends 0 'bin/loopcheck, a name that begins -:' $'pass lasso\n' '' on_terminal k1 "$check" -:k1 a1
 input=folder
 ends 2 'bin/loopcheck, a folder by -' '' $'head: error reading \'standard input\': Is a directory
 loopcheck: standard input was not read\n' "$check" - a1
 input=/dev/null
 
-on_terminal() { # FILE COMMAND...: the command, with the file typed at a terminal as its standard input
-    python3 "$root/tests/trials/on_terminal.py" "$@"
-}
 hint=$': reads from the terminal; end the file by Ctrl-D on a line of its own\n'
 ends 0 'bin/loopfind, from a terminal' "$lasso_1" "loopfind$hint" on_terminal k1 "$find"
 ends 0 'bin/loopcheck, from a terminal' $'pass lasso\n' "loopcheck$hint" on_terminal a1 "$check" k1 -
@@ -158,9 +160,9 @@ ends 0 'a link' "$lasso_1" '' elsewhere/finder k1
 ends 0 'a link to a link, from its folder' "$lasso_1" '' in_folder elsewhere/bin ./again ../../k1
 by_path() { PATH=$work/elsewhere/bin:$PATH "$@"; }
 ends 0 'a link on the path' "$lasso_1" '' by_path again k1
-with_cdpath() { CDPATH=$work:$root "$@"; }
-ends 0 'CDPATH' "$lasso_1" '' with_cdpath in_folder "$root/bin" ./loopfind "$work/k1"
-ends 0 'a folder below' "$lasso_1" '' with_cdpath in_folder "$root/bin" sh loopfind "$work/k1"
+with_cdpath() { CDPATH=$work/elsewhere "$@"; }
+ends 0 'CDPATH, with a bin/ of its own' "$lasso_1" '' with_cdpath in_folder "$root" bin/loopfind "$work/k1"
+ends 0 'by sh, from its folder' "$lasso_1" '' in_folder "$root/bin" sh loopfind "$work/k1"
 
 # ---- the examples
 
