@@ -25,7 +25,7 @@ use Rattle.first_draft.proofs.SameFile.{first-last, case-refusal-same, 
 use Rattle.first_draft.proofs.SameRun.{old-state, some-same, many-same, over-same, by-list-same, by-rounds-same}
 use Rattle.first_draft.proofs.SameAnswer.{list-answer-same, rounds-answer-same}
 
--- an outcome of ours as one of 03's
+-- an outcome of ours as one of 03's, which had no tallies
 unfoldable pub told-of : Outcome → Told
 told-of r = record { refusal = r .refusal; verdict = r .verdict; acts = r .acts; written = r .written }
 
@@ -64,39 +64,46 @@ verdict-same : (x : R.State) → T.verdict (old-state x) ≡ E.verdict x
 unfolding T.verdict E.verdict R.ended-lasso old-state
 verdict-same x = rw (some-same (x .broken)) refl
 
+-- what ours has beyond 03's: the tallies that an outcome carries, by its refusal save 10
+unfoldable pub tallies-due : (refusal : ℕ) → R.State → R.Tallies
+tallies-due zero x = x .tallies
+tallies-due (suc k) x = R.no-tallies
+
 module _ (c : Case) (x : R.State) (r : Outcome) (o z : List ℕ) (w v : List ℤ) where
   ended-both : (b : Bool) → B.answer (old-case c) (old-state x) ≡ A.answer (c .graph) x →
-      Both (E.Run-says 0 b c x r o z w v) (T.Ended b (old-case c) (old-state x) (told-of r) o z × (v ≡ T.zeros w))
+      Both (E.Run-says 0 b c x r o z w v) ((T.Ended b (old-case c) (old-state x) (told-of r) o z × (v ≡ T.zeros w)) × (E.tallies-of r ≡ x .tallies))
   unfolding E.Run-says T.Ended told-of old-state T.zeros E.zeros T.in-front E.in-front
   ended-both true a = rw (a, verdict-same x) (
-    λ f. ((f .refusal, f .verdict, f .acts, f .written, f .output), f .work),
-    λ t. record { refusal = t .0 .0; verdict = t .0 .1; acts = t .0 .2; written = t .0 .3; output = t .0 .4; work = t .1 },
+    λ f. (((f .refusal, f .verdict, f .acts, f .written, f .output), f .work), f .tallies),
+    λ t. record { refusal = t .0 .0 .0; verdict = t .0 .0 .1; acts = t .0 .0 .2; written = t .0 .0 .3; tallies = t .1; output = t .0 .0 .4; work = t .0 .1 },
   )
   ended-both false a = (
-    λ f. ((f .refusal, f .verdict, f .acts, f .written, f .output), f .work),
-    λ t. record { refusal = t .0 .0; verdict = t .0 .1; acts = t .0 .2; written = t .0 .3; output = t .0 .4; work = t .1 },
+    λ f. (((f .refusal, f .verdict, f .acts, f .written, f .output), f .work), f .tallies),
+    λ t. record { refusal = t .0 .0 .0; verdict = t .0 .0 .1; acts = t .0 .0 .2; written = t .0 .0 .3; tallies = t .1; output = t .0 .0 .4; work = t .0 .1 },
   )
 
-  run-both : (k : ℕ) (y : O.Running) → (k ≡ 0 → Alike c x y) → Both (E.Run-says k (R.has-ended x) c x r o z w v) (T.Run-as k (old-case c) y (told-of r) o z w v)
-  unfolding E.Run-says T.Run-as told-of
+  run-both : (k : ℕ) (y : O.Running) → (k ≡ 0 → Alike c x y) → Both (E.Run-says k (R.has-ended x) c x r o z w v) (T.Run-as k (old-case c) y (told-of r) o z w v × (E.tallies-of r ≡ tallies-due k x))
+  unfolding E.Run-says T.Run-as told-of tallies-due
   run-both zero y f = rw (f refl .run, over-same x) (ended-both (R.has-ended x) (f refl .answer))
   run-both (suc k) y f = (
-    λ f. (f .refusal, f .verdict, f .acts, f .written, f .output, f .work),
-    λ t. record { refusal = t .0; verdict = t .1; acts = t .2; written = t .3; output = t .4; work = t .5 },
+    λ f. ((f .refusal, f .verdict, f .acts, f .written, f .output, f .work), f .tallies),
+    λ t. record { refusal = t .0 .0; verdict = t .0 .1; acts = t .0 .2; written = t .0 .3; tallies = t .1; output = t .0 .4; work = t .0 .5 },
   )
 
 -- THE ENTRIES
 sound : (bs : List ℕ) → F.case-refusal bs ≡ 0 → Sound (F.case-in bs)
 sound bs e = file-sound bs (unfold F.accepted in (eq-eqb (F.case-refusal bs) 0 e)) .0
 
-pub list-both : (bs xs : List ℕ) (r : Outcome) (o z : List ℕ) (w v : List ℤ) → Both (E.List-says bs xs r o z w v) (T.List-says bs xs (told-of r) o z w v)
+pub list-both : (bs xs : List ℕ) (r : Outcome) (o z : List ℕ) (w v : List ℤ) → Both (E.List-says bs xs r o z w v)
+    (T.List-says bs xs (told-of r) o z w v × (E.tallies-of r ≡ tallies-due (E.list-refusal bs xs (length o) (length w)) (R.by-list (F.case-in bs) xs)))
 unfolding E.List-says T.List-says E.list-refusal
 list-both bs xs r o z w v =
     let c = F.case-in bs in
     rw (case-in-same bs, list-refusal-same bs xs (length o) (length w)) (run-both c (R.by-list c xs) r o z w v (E.list-refusal bs xs (length o) (length w)) _ (λ e.
     let ok = sound bs (first-zero _ _ (first-zero _ _ e .1) .0) in record { run = by-list-same c ok xs; answer = list-answer-same c ok xs }))
 
-pub rounds-both : (bs : List ℕ) (r : Outcome) (o z : List ℕ) (w v : List ℤ) → Both (E.Rounds-say bs r o z w v) (T.Rounds-say bs (told-of r) o z w v)
+pub rounds-both : (bs : List ℕ) (r : Outcome) (o z : List ℕ) (w v : List ℤ) → Both (E.Rounds-say bs r o z w v)
+    (T.Rounds-say bs (told-of r) o z w v × (E.tallies-of r ≡ tallies-due (E.rounds-refusal bs (length o) (length w)) (R.by-rounds (F.case-in bs))))
 unfolding E.Rounds-say T.Rounds-say E.rounds-refusal
 rounds-both bs r o z w v =
     let c = F.case-in bs in

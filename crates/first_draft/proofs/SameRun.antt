@@ -107,7 +107,7 @@ send-same : (e d : ℕ) (x : R.State) → x .broken ≡ none → O.sent e d (old
 unfolding O.sent old-state O.with-cell
 send-same e d x b = rw (lower-same (getD (x .cells) e none) d) (go (x .broken) b)
   where
-    go : (o : Option ℕ) → o ≡ none → cond (O.is-some o) (old-state x) (old-state (R.with-cells (set (x .cells) e (some (R.lower (getD (x .cells) e none) d))) x)) ≡ old-state (R.with-cells (set (x .cells) e (some (R.lower (getD (x .cells) e none) d))) x)
+    go : (o : Option ℕ) → o ≡ none → cond (O.is-some o) (old-state x) (old-state (R.send e d x)) ≡ old-state (R.send e d x)
     go (some k) h = let z : _≡_ {A = ℕ} 0 1 = cc in absurd (omega arith)
     go none h = unfold O.is-some in refl
 
@@ -167,9 +167,9 @@ turn-same c w (v ∷ q) x = ap O.counted (head ∙ scan-same (length (c .graph .
 delivery-same : (c : Case) (e : ℕ) (o : Option ℕ) (x : R.State) → x .broken ≡ none → ((d : ℕ) → o ≡ some d → e < length (c .graph .edges)) → O.delivered (old-case c) e o (old-state x) ≡ old-state (R.delivery-of c e o x)
 unfolding O.delivered R.delivery-of
 delivery-same c e none x b l = refl
-delivery-same c e (some d) x b l = ap O.counted (emptied ∙ relax-same c e d (R.with-cells (set (x .cells) e none) x) (l d refl) b) ∙ counted-same (R.relax c e d (R.with-cells (set (x .cells) e none) x))
+delivery-same c e (some d) x b l = ap O.counted (emptied ∙ relax-same c e d (R.emptied e x) (l d refl) b) ∙ counted-same (R.relax c e d (R.emptied e x))
   where
-    emptied : O.try (old-case c) e d (O.with-cell (old-state x) e none) ≡ O.try (old-case c) e d (old-state (R.with-cells (set (x .cells) e none) x))
+    emptied : O.try (old-case c) e d (O.with-cell (old-state x) e none) ≡ O.try (old-case c) e d (old-state (R.emptied e x))
     emptied = unfold O.with-cell old-state in refl
 
 pub over-same : (x : R.State) → O.over (old-state x) ≡ R.has-ended x

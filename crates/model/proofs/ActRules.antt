@@ -12,7 +12,7 @@ use lib.ListN.{length, getD, set}
 use lib.Seq.{getD-set-other}
 use Rattle.model.specs.Graph.{edge, edge-depth, accepting-count}
 use Rattle.model.specs.Case.{Case, owner, Sound}
-use Rattle.model.specs.Run.{State, distance, is-some, ended-lasso, has-ended, fresh, with-queues, with-cells, no-vertex, no-message, depth-or, turn, turn-of, delivery, delivery-of, idle, does-something, act, acted, acts-done, by-list, Moment}
+use Rattle.model.specs.Run.{State, distance, is-some, ended-lasso, has-ended, fresh, with-queues, emptied, no-vertex, no-message, depth-or, turn, turn-of, delivery, delivery-of, idle, does-something, act, acted, acts-done, by-list, Moment}
 use Rattle.model.specs.Promise.{Below-floor, Nothing-waits, Rules-kept}
 use Rattle.text.proofs.Tests.{Test, test, holds, fails, Same, same?, same, other, or-left, or-right, and-both, clash}
 use Rattle.model.proofs.Tools.{getD-replicate-same, some-not-none, some-of, none-of}
@@ -85,6 +85,19 @@ pub counts : (c : Case) (xs : List ℕ) → by-list c xs .count ≡ acts-done c 
 unfolding by-list
 counts c xs = let z : fresh c .count ≡ 0 = unfold fresh in refl in omega (arith, acted-count c xs (fresh c))
 
+-- no more than the list has
+acts-done-few : (c : Case) (xs : List ℕ) (x : State) → acts-done c xs x ≤ length xs
+unfolding acts-done
+acts-done-few c [] x = omega arith
+acts-done-few c (a ∷ xs) x = go (does-something c a x) (acts-done-few c xs (act c a x))
+  where
+    go : (b : Bool) → acts-done c xs (act c a x) ≤ length xs → cond b (suc (acts-done c xs (act c a x))) (acts-done c xs (act c a x)) ≤ suc (length xs)
+    go true h = omega arith
+    go false h = omega arith
+
+pub count-few : (c : Case) (xs : List ℕ) → by-list c xs .count ≤ length xs
+count-few c xs = omega (arith, counts c xs, acts-done-few c xs (fresh c))
+
 -- WITHIN ONE OWNER no message is ever sent
 module _ (c : Case) (e : ℕ) (own : owner c (edge (c .graph) e .to) ≡ owner c (edge (c .graph) e .from)) where
   silent-acts : Acts c (λ x. getD (x .cells) e none ≡ none)
@@ -95,7 +108,7 @@ module _ (c : Case) (e : ℕ) (own : owner c (edge (c .graph) e .to) ≡ owner c
       own = λ f y _ _ _ p. rw (relax-cells c f (depth-or (getD (x .depths) v none) + edge-depth (c .graph) f) y) p;
       other = λ f y _ _ i n p. getD-set-other (y .cells) f e _ none (λ q. n (subst (λ (j : ℕ). owner c (edge (c .graph) j .to) ≡ owner c v) q (own ∙ ap (owner c) (ap (λ (j : ℕ). edge (c .graph) j .from) q ∙ i)))) ∙ p;
     }) (with-queues (set (x .queues) w q) x) p;
-    delivery = λ f d x _ h p. rw (relax-cells c f d (with-cells (set (x .cells) f none) x)) (go f d x h p (same? e f));
+    delivery = λ f d x _ h p. rw (relax-cells c f d (emptied f x)) (go f d x h p (same? e f));
   }
     where
       go : (f d : ℕ) (x : State) → getD (x .cells) f none ≡ some d → getD (x .cells) e none ≡ none → Same e f → getD (set (x .cells) f none) e none ≡ none

@@ -6,27 +6,28 @@ use mathlib.Core.Logic.{_⊎_, inl, inr}
 use mathlib.Core.Option.{Option, none, some}
 use Prim.Native.Nat.{ℕ, zero, suc, _+_, _≤_, _<_}
 use native.Mathlib.Omega.{arith}
-use borrow.Author.Tests.{eq-eqb, lt-leb}
+use borrow.Author.Tests.{eqb-true, eq-eqb, lt-leb}
 use lib.Dec.{leb}
 use lib.ListN.{length, take, drop}
 use lib.Seq.{take-append-seam, drop-append-seam}
 use lib.IntN.{ℤ}
 use Rattle.text.specs.Lines.{lines, line-at}
 use Rattle.model.specs.Graph.{Graph, Has-lasso, No-lasso}
-use Rattle.model.specs.Case.{Case, most-acts, Sound, Within}
+use Rattle.model.specs.Case.{Case, most-acts, most-sent, Sound, Within}
 use Rattle.model.specs.CaseFile.{refuse, first-of, case-refusal, accepted, case-in}
-use Rattle.model.specs.Run.{State, is-some, range, ended-lasso, has-ended, taken, round-acts, by-list, by-rounds}
+use Rattle.model.specs.Run.{Tallies, State, is-some, range, ended-lasso, has-ended, full-cells, round-acts, by-list, by-rounds}
 use Rattle.model.specs.Answer.{lasso-verdict, empty-verdict, cycle-start, cycle, stem, answer-of, answer}
 use Rattle.model.specs.Passing.{says-lasso, answer-refusal, check-refusal, answer-verdict}
-use Rattle.model.specs.Entry.{any-at-or-above, acts-refusal, list-refusal, rounds-refusal, verdict, in-front, Refused, Cut-short, Finished, Run-says, List-says, Rounds-say}
-use Rattle.model.specs.Promise.{Ended, Finding, whole-rounds, Agree, Checker-sound, Says, Definite, Runs-definite, Checks-definite, True-verdict, Shows-lasso, Shows-distances, Runs-right, Check-right, Runs-agree, Rounds-as-list, Ten, Ten-exactly, Rounds-never-ten}
+use Rattle.model.specs.Entry.{any-at-or-above, acts-refusal, list-refusal, rounds-refusal, verdict, in-front, tallies-of, Refused, Cut-short, Finished, Run-says, List-says, Rounds-say}
+use Rattle.model.specs.Promise.{Ended, Finding, whole-rounds, Balanced, Tallied, Agree, Checker-sound, Says, Definite, Runs-definite, Checks-definite, True-verdict, Shows-lasso, Shows-distances, Result-tallied, Runs-right, Check-right, Runs-agree, Rounds-as-list, Ten, Ten-exactly, Rounds-never-ten, Rounds-join-none}
 use Rattle.model.specs.declared.Outcome.{Outcome}
 use Rattle.text.proofs.Tests.{Same, same?, same, other, or-false, clash}
-use Rattle.model.proofs.Tools.{none-of, some-of}
+use Rattle.model.proofs.Tools.{none-of, some-of, no-message-is}
 use Rattle.model.proofs.Few.{paid, few}
+use Rattle.model.proofs.Tallied.{tallied, moment-tallied}
 use Rattle.model.proofs.Rounds.{rounds-end}
-use Rattle.model.proofs.Findings.{known, finding}
-use Rattle.model.proofs.ActRules.{counts}
+use Rattle.model.proofs.Findings.{ended-listed, known, finding}
+use Rattle.model.proofs.ActRules.{rules-kept, counts}
 use Rattle.model.proofs.Accepting.{first-zero, zero-first, first-none}
 use Rattle.model.proofs.Refusals.{list-numbers, rounds-numbers, check-numbers}
 use Rattle.model.proofs.CheckerSound.{checker-sound}
@@ -77,6 +78,7 @@ record Result (bs : List ℕ) (r : Outcome) (z : List ℕ) : Type 0 where
   ended : Ended (case-in bs) state
   verdict : r .verdict ≡ verdict state
   acts : r .acts ≡ state .count
+  tallies : tallies-of r ≡ state .tallies
   shown : take (r .written) z ≡ answer (case-in bs .graph) state
 
 finished : (bs : List ℕ) (x : State) (r : Outcome) (o z : List ℕ) (w v : List ℤ) → case-refusal bs ≡ 0 → Ended (case-in bs) x → Finished (case-in bs) x r o z w v → Result bs r z
@@ -88,6 +90,7 @@ finished bs x r o z w v k e t = record {
   ended = e;
   verdict = t .verdict;
   acts = t .acts;
+  tallies = t .tallies;
   shown = ap (λ (n : ℕ). take n z) (t .written) ∙ ap (λ (l : List ℕ). take (length (answer (case-in bs .graph) x)) l) (t .output) ∙ front;
 }
   where
@@ -156,6 +159,24 @@ shows-distances c ok x e l = let n = none-of (x .broken) l in let F = finding c 
   reached = F .reached n;
 }
 
+-- the tallies that a result carries
+sent-by : (c : Case) (x : State) (r : Outcome) → tallies-of r ≡ x .tallies → Tallied c x → Balanced (tallies-of r) (full-cells (x .cells)) × (r .sent ≤ most-sent c)
+sent-by c x r e t = (rw e (t .balanced), let z : r .sent ≡ x .tallies .sent = ap (λ (t : Tallies). t .sent) e in omega (arith, t .few-sent))
+
+none-full : (c : Case) → Sound c → (x : State) → Ended c x → ended-lasso x ≡ false → full-cells (x .cells) ≡ 0
+none-full c ok x e l = eqb-true (full-cells (x .cells)) 0 (no-message-is (x .cells) ∙ rules-kept c ok x (ended-listed c x e) .empty-only (or-else (e .ended)) .1 .cells)
+  where
+    or-else : has-ended x ≡ true → x .ended-empty ≡ true
+    or-else h = unfold has-ended in (rw l at h)
+
+result-tallied : (c : Case) → Sound c → (x : State) → Ended c x → (r : Outcome) → r .verdict ≡ verdict x → tallies-of r ≡ x .tallies → Result-tallied c r
+result-tallied c ok x e r v t = let s = sent-by c x r t (moment-tallied c ok x (ended-listed c x e)) in record {
+  full = full-cells (x .cells);
+  balanced = s .0;
+  none-full = λ q. none-full c ok x e (verdict-two x (sym v ∙ q));
+  few-sent = s .1;
+}
+
 pub runs-right : Runs-right
 unfolding Runs-right check-refusal
 runs-right bs r o z w v s e =
@@ -167,6 +188,7 @@ runs-right bs r o z w v s e =
       lasso = λ q. rw (p .shown) (shows-lasso (case-in bs) (p .sound) (p .state) (p .ended) (verdict-one (p .state) (sym (p .verdict) ∙ q)));
       empty = λ q. rw (p .shown) (shows-distances (case-in bs) (p .sound) (p .state) (p .ended) (verdict-two (p .state) (sym (p .verdict) ∙ q)));
       acts = omega (arith, p .acts, few (case-in bs) (p .sound) (p .state) (known (case-in bs) (p .sound) (p .state) (p .ended) .paid) .0);
+      tallies = result-tallied (case-in bs) (p .sound) (p .state) (p .ended) r (p .verdict) (p .tallies);
       passes = (zero-first _ _ (p .taken) (zero-first _ _ a first-none), rw (p .shown) (k .1 ∙ sym (p .verdict)));
     }
 
@@ -198,10 +220,29 @@ ten-exactly bs xs r o z w v s = let x = by-list (case-in bs) xs in let k = list-
       always = λ n _. absurd (omega (arith, q, n));
       below = λ e. absurd (not-ten j q (sym (t .refusal) ∙ e));
       counted = λ e. absurd (not-ten j q (sym (t .refusal) ∙ e));
+      balanced = λ e. absurd (not-ten j q (sym (t .refusal) ∙ e));
+      few-sent = λ e. absurd (not-ten j q (sym (t .refusal) ∙ e));
     })
-    (λ n b t. record { only = λ e. absurd (omega (arith, t .refusal)); always = λ _ f. clash (has-ended (by-list (case-in bs) xs)) b f; below = λ e. absurd (omega (arith, t .refusal)); counted = λ e. absurd (omega (arith, t .refusal)) })
-    (λ n b t. record { only = λ _. (n, b); always = λ _ _. t .refusal; below = λ _. below (list-accepted bs xs (length o) (length w) n) b (t .acts); counted = λ _. t .acts ∙ counts (case-in bs) xs })
+    (λ n b t. record {
+      only = λ e. absurd (omega (arith, t .refusal));
+      always = λ _ f. clash (has-ended (by-list (case-in bs) xs)) b f;
+      below = λ e. absurd (omega (arith, t .refusal));
+      counted = λ e. absurd (omega (arith, t .refusal));
+      balanced = λ e. absurd (omega (arith, t .refusal));
+      few-sent = λ e. absurd (omega (arith, t .refusal));
+    })
+    (λ n b t. let a = list-accepted bs xs (length o) (length w) n in record {
+      only = λ _. (n, b);
+      always = λ _ _. t .refusal;
+      below = λ _. below a b (t .acts);
+      counted = λ _. t .acts ∙ counts (case-in bs) xs;
+      balanced = λ _. sums a (t .tallies) .0;
+      few-sent = λ _. sums a (t .tallies) .1;
+    })
   where
+    sums : case-refusal bs ≡ 0 → tallies-of r ≡ by-list (case-in bs) xs .tallies → Balanced (tallies-of r) (full-cells (by-list (case-in bs) xs .cells)) × (r .sent ≤ most-sent (case-in bs))
+    sums a t = sent-by (case-in bs) (by-list (case-in bs) xs) r t (tallied (case-in bs) (accepted-by bs a .0) xs)
+
     not-ten : (j : ℕ) → list-refusal bs xs (length o) (length w) ≡ suc j → suc j ≡ 10 → ⊥
     not-ten j q e = list-numbers (λ n. n ≡ 10 → ⊥) (λ n l e. omega arith) (λ e. omega arith) (λ e. omega arith) bs xs (length o) (length w) (q ∙ e)
 
@@ -255,6 +296,16 @@ rounds-never-ten bs r o z w v s e = let x = by-rounds (case-in bs) in says-cases
     rounds-past-end-end : (bs : List ℕ) → case-refusal bs ≡ 0 → has-ended (by-rounds (case-in bs)) ≡ true
     rounds-past-end-end bs n = unfold by-rounds in (rounds-end (case-in bs) (accepted-by bs n .0))
 
+pub rounds-join-none : Rounds-join-none
+unfolding Rounds-join-none Rounds-say
+rounds-join-none bs r o z w v s = let x = by-rounds (case-in bs) in says-cases (r .joined ≡ 0) (rounds-refusal bs (length o) (length w)) (has-ended x) (case-in bs) x r o z w v s
+    (λ _ _ t. ap (λ (t : Tallies). t .joined) (t .tallies))
+    (λ n _ t. ap (λ (t : Tallies). t .joined) (t .tallies) ∙ none n)
+    (λ n _ t. ap (λ (t : Tallies). t .joined) (t .tallies) ∙ none n)
+  where
+    none : rounds-refusal bs (length o) (length w) ≡ 0 → by-rounds (case-in bs) .tallies .joined ≡ 0
+    none n = runs-kept (case-in bs) (accepted-by bs (rounds-accepted bs (length o) (length w) n) .0) .rounds-join-none
+
 -- THE FIRST DEMAND
 rest-kept : (written : ℕ) (new o z : List ℕ) → written ≡ length new → z ≡ in-front new o → drop written z ≡ drop written o
 unfolding in-front
@@ -262,9 +313,9 @@ rest-kept k new o z e f = rw (e, f) (drop-append-seam new (drop (length new) o))
 
 definite-says : (k : ℕ) (b : Bool) (c : Case) (x : State) (r : Outcome) (o z : List ℕ) (w v : List ℤ) → k ≤ 11 → (k ≡ 10 → ⊥) → Run-says k b c x r o z w v → Definite r o z w v
 definite-says k b c x r o z w v l n s = says-cases (Definite r o z w v) k b c x r o z w v s
-    (λ j q t. record { listed = omega (arith, q, t .refusal); output = λ _. t .output; work = λ _ _. t .work; zeroed = λ e. absurd (n (q ∙ sym (t .refusal) ∙ e)); length-zero = λ _. t .written; acts-zero = λ _ _. t .acts; rest = λ e. absurd (omega (arith, sym (t .refusal) ∙ e)); cleared = λ e. absurd (omega (arith, sym (t .refusal) ∙ e)) })
-    (λ q _ t. record { listed = omega (arith, t .refusal); output = λ n. absurd (n (t .refusal)); work = λ n _. absurd (n (t .refusal)); zeroed = λ e. absurd (omega (arith, t .refusal)); length-zero = λ n. absurd (n (t .refusal)); acts-zero = λ n _. absurd (n (t .refusal)); rest = λ _. rest-kept (r .written) (answer (c .graph) x) o z (t .written) (t .output); cleared = λ _. t .work })
-    (λ q _ t. record { listed = omega (arith, t .refusal); output = λ _. t .output; work = λ _ n. absurd (n (t .refusal)); zeroed = λ _. t .work; length-zero = λ _. t .written; acts-zero = λ _ n. absurd (n (t .refusal)); rest = λ e. absurd (omega (arith, sym (t .refusal) ∙ e)); cleared = λ e. absurd (omega (arith, sym (t .refusal) ∙ e)) })
+    (λ j q t. record { listed = omega (arith, q, t .refusal); output = λ _. t .output; work = λ _ _. t .work; zeroed = λ e. absurd (n (q ∙ sym (t .refusal) ∙ e)); length-zero = λ _. t .written; acts-zero = λ _ _. t .acts; tallies-zero = λ _ _. t .tallies; rest = λ e. absurd (omega (arith, sym (t .refusal) ∙ e)); cleared = λ e. absurd (omega (arith, sym (t .refusal) ∙ e)) })
+    (λ q _ t. record { listed = omega (arith, t .refusal); output = λ n. absurd (n (t .refusal)); work = λ n _. absurd (n (t .refusal)); zeroed = λ e. absurd (omega (arith, t .refusal)); length-zero = λ n. absurd (n (t .refusal)); acts-zero = λ n _. absurd (n (t .refusal)); tallies-zero = λ n _. absurd (n (t .refusal)); rest = λ _. rest-kept (r .written) (answer (c .graph) x) o z (t .written) (t .output); cleared = λ _. t .work })
+    (λ q _ t. record { listed = omega (arith, t .refusal); output = λ _. t .output; work = λ _ n. absurd (n (t .refusal)); zeroed = λ _. t .work; length-zero = λ _. t .written; acts-zero = λ _ n. absurd (n (t .refusal)); tallies-zero = λ _ n. absurd (n (t .refusal)); rest = λ e. absurd (omega (arith, sym (t .refusal) ∙ e)); cleared = λ e. absurd (omega (arith, sym (t .refusal) ∙ e)) })
 
 pub runs-definite : Runs-definite
 unfolding Runs-definite Says List-says Rounds-say

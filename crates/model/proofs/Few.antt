@@ -10,7 +10,7 @@ use lib.ListN.{length, getD, set}
 use lib.Seq.{getD-set-same, getD-set-other}
 use Rattle.model.specs.Graph.{edge, edge-depth, accepting-count}
 use Rattle.model.specs.Case.{Case, owner, most-acts, Sound}
-use Rattle.model.specs.Run.{State, is-some, ended-lasso, has-ended, fresh, with-queues, with-cells, takes, member, enqueue, relax, send, scan, no-vertex, no-message, depth-or, turn, delivery, by-list}
+use Rattle.model.specs.Run.{State, is-some, ended-lasso, has-ended, fresh, with-queues, emptied, takes, member, enqueue, relax, send, scan, no-vertex, no-message, depth-or, turn, delivery, by-list}
 use Rattle.text.proofs.Tests.{Test, test, Same, same?, or-left, or-right, holds, fails, same, other}
 use Rattle.model.proofs.Tools.{sum, sum-le, sum-lt, sum-bound, sum-has, none-of, some-of, once-head, member-later, member-first, getD-replicate-same, no-queue, no-queues, no-cells, snoc-in}
 use Rattle.model.proofs.Steps.{relax-cases, scan-keeps, Acts, acted-keeps}
@@ -19,12 +19,12 @@ use Rattle.model.proofs.Shapes.{Shape, enqueue-cases, not-broken, shape
 unfoldable pub bit : Bool → ℕ
 bit b = cond b 1 0
 
-bit-le : (b : Bool) → bit b ≤ 1
+pub bit-le : (b : Bool) → bit b ≤ 1
 unfolding bit
 bit-le true = omega arith
 bit-le false = omega arith
 
-bit-mono : (a b : Bool) → (a ≡ true → b ≡ true) → bit a ≤ bit b
+pub bit-mono : (a b : Bool) → (a ≡ true → b ≡ true) → bit a ≤ bit b
 unfolding bit
 bit-mono true b h = rw (h refl) (omega arith)
 bit-mono false b h = omega arith
@@ -56,7 +56,7 @@ unfolding room takes
 room-takes A none d p q t l = omega arith
 room-takes A (some k) d p q t l = omega (arith, ltb-true)
 
-R-most : (c : Case) (x : State) (v : ℕ) → R c x v ≤ suc (accepting-count (c .graph))
+pub R-most : (c : Case) (x : State) (v : ℕ) → R c x v ≤ suc (accepting-count (c .graph))
 unfolding R
 R-most c x v = go (getD (x .depths) v none) (bit (waiting c x v)) (bit-le (waiting c x v))
   where
@@ -69,6 +69,9 @@ relax-cells c e d x = relax-cases (λ y. y .cells ≡ x .cells) c e d x (λ _. r
 
 pub relax-count : (c : Case) (e d : ℕ) (x : State) → relax c e d x .count ≡ x .count
 relax-count c e d x = relax-cases (λ y. y .count ≡ x .count) c e d x (λ _. refl) (λ _. refl)
+
+pub relax-tallies : (c : Case) (e d : ℕ) (x : State) → relax c e d x .tallies ≡ x .tallies
+relax-tallies c e d x = relax-cases (λ y. y .tallies ≡ x .tallies) c e d x (λ _. refl) (λ _. refl)
 
 -- what a scan of v leaves: no room is more, only cells of v's edges differ
 record Scanned (c : Case) (v : ℕ) (x y : State) : Type 0 where
@@ -84,7 +87,7 @@ pub record Paid (c : Case) (x : State) : Type 0 where
   pub told : x .ended-empty ≡ (not (is-some (x .broken)) && (no-vertex (x .queues) && no-message (x .cells)))
 
 module _ (c : Case) (ok : Sound c) where
-  R-relax : (e d : ℕ) (x : State) → e < length (c .graph .edges) → Shape c x → (u : ℕ) → R c (relax c e d x) u ≤ R c x u
+  pub R-relax : (e d : ℕ) (x : State) → e < length (c .graph .edges) → Shape c x → (u : ℕ) → R c (relax c e d x) u ≤ R c x u
   unfolding R waiting
   R-relax e d x l s u = relax-cases (λ y. R c y u ≤ R c x u) c e d x (λ _. omega arith) (λ t. go t (same? u (edge (c .graph) e .to)))
     where
@@ -102,7 +105,7 @@ module _ (c : Case) (ok : Sound c) where
       go t (other n) = rw (getD-set-other (x .depths) v u (some d) none n) (room-mono (accepting-count (c .graph)) (getD (x .depths) u none) _ _
           (bit-mono _ _ (enqueue-cases (owner c v) v (x .queues) (owner c u) (λ q. member u q ≡ true → member u (getD (x .queues) (owner c u) []) ≡ true) o (λ _ m. m) (λ i w m. snoc-in u v _ m (λ m. m) (λ q. absurd (n q))))))
 
-  R-queue : (w v : ℕ) (q : List ℕ) (x : State) → w < c .workers → getD (x .queues) w [] ≡ v ∷ q → Shape c x → (u : ℕ) → R c (with-queues (set (x .queues) w q) x) u ≤ R c x u
+  pub R-queue : (w v : ℕ) (q : List ℕ) (x : State) → w < c .workers → getD (x .queues) w [] ≡ v ∷ q → Shape c x → (u : ℕ) → R c (with-queues (set (x .queues) w q) x) u ≤ R c x u
   unfolding R waiting
   R-queue w v q x l e s u = room-mono (accepting-count (c .graph)) (getD (x .depths) u none) _ _ (bit-mono _ _ (go (same? (owner c u) w)))
     where
@@ -110,7 +113,7 @@ module _ (c : Case) (ok : Sound c) where
       go (same p) m = rw (p, e) (member-later u v q (rw (p, getD-set-same (x .queues) w q [] (rw (s .queues) l)) at m))
       go (other n) m = rw (getD-set-other (x .queues) w (owner c u) q [] n) at m
 
-  R-head : (w v : ℕ) (q : List ℕ) (x : State) → w < c .workers → getD (x .queues) w [] ≡ v ∷ q → Shape c x → x .broken ≡ none → R c (with-queues (set (x .queues) w q) x) v < R c x v
+  pub R-head : (w v : ℕ) (q : List ℕ) (x : State) → w < c .workers → getD (x .queues) w [] ≡ v ∷ q → Shape c x → x .broken ≡ none → R c (with-queues (set (x .queues) w q) x) v < R c x v
   unfolding R waiting room bit
   R-head w v q x l e s b = go (some-of (getD (x .depths) v none) (s .deep v w here))
     where
@@ -123,7 +126,7 @@ module _ (c : Case) (ok : Sound c) where
       go : (d : ℕ) × (getD (x .depths) v none ≡ some d) → suc (room (accepting-count (c .graph)) (getD (x .depths) v none) (bit (member v (getD (set (x .queues) w q) (owner c v) [])))) ≤ room (accepting-count (c .graph)) (getD (x .depths) v none) (bit (member v (getD (x .queues) (owner c v) [])))
       go (d, h) = rw (own, getD-set-same (x .queues) w q [] (rw (s .queues) l), e, h, once-head v q (rw e at (s .once w)), member-first v q) (omega (arith, s .above b v d h))
 
-  R-send : (e d : ℕ) (x : State) (u : ℕ) → R c (send e d x) u ≡ R c x u
+  pub R-send : (e d : ℕ) (x : State) (u : ℕ) → R c (send e d x) u ≡ R c x u
   unfolding R waiting
   R-send e d x u = refl
 
@@ -165,7 +168,7 @@ module _ (c : Case) (ok : Sound c) where
       cell f (same i) = unfold S in (rw i (omega (arith, less, bit-le (is-some (getD (y .cells) f none)))))
       cell f (other n) = unfold S in (rw (h .cells f n) (omega (arith, rooms (edge (c .graph) f .from))))
 
-  Φ-delivery : (e d : ℕ) (x : State) → x .broken ≡ none → getD (x .cells) e none ≡ some d → Shape c x → Φ c (relax c e d (with-cells (set (x .cells) e none) x)) < Φ c x
+  Φ-delivery : (e d : ℕ) (x : State) → x .broken ≡ none → getD (x .cells) e none ≡ some d → Shape c x → Φ c (relax c e d (emptied e x)) < Φ c x
   unfolding Φ
   Φ-delivery e d x b h s =
       omega (
@@ -175,22 +178,22 @@ module _ (c : Case) (ok : Sound c) where
       )
     where
       y : State
-      y = relax c e d (with-cells (set (x .cells) e none) x)
+      y = relax c e d (emptied e x)
 
       l : e < length (c .graph .edges)
       l = cell-in c ok x e d s h
 
       rooms : (u : ℕ) → R c y u ≤ R c x u
-      rooms u = unfold R waiting in (R-relax e d (with-cells (set (x .cells) e none) x) l (shape-cell c ok e none x s) u)
+      rooms u = unfold R waiting in (R-relax e d (emptied e x) l (shape-cell c ok e none x s) u)
 
-      emptied : getD (y .cells) e none ≡ none
-      emptied = rw (relax-cells c e d (with-cells (set (x .cells) e none) x)) (getD-set-same (x .cells) e none none (rw (s .cells) l))
+      none-left : getD (y .cells) e none ≡ none
+      none-left = rw (relax-cells c e d (emptied e x)) (getD-set-same (x .cells) e none none (rw (s .cells) l))
 
       kept : (f : ℕ) → (f ≡ e → ⊥) → getD (y .cells) f none ≡ getD (x .cells) f none
-      kept f n = rw (relax-cells c e d (with-cells (set (x .cells) e none) x)) (getD-set-other (x .cells) e f none none n)
+      kept f n = rw (relax-cells c e d (emptied e x)) (getD-set-other (x .cells) e f none none n)
 
       less : S c y e < S c x e
-      less = unfold S is-some bit in (rw (emptied, h) (omega (arith, rooms (edge (c .graph) e .from))))
+      less = unfold S is-some bit in (rw (none-left, h) (omega (arith, rooms (edge (c .graph) e .from))))
 
       cell : (f : ℕ) → Same f e → S c y f ≤ S c x f
       cell f (same i) = rw i (omega (arith, less))
@@ -210,7 +213,7 @@ module _ (c : Case) (ok : Sound c) where
           told = refl;
         };
     delivery = λ e d x o h p.
-        let k : relax c e d (with-cells (set (x .cells) e none) x) .count ≡ x .count = relax-count c e d (with-cells (set (x .cells) e none) x) in
+        let k : relax c e d (emptied e x) .count ≡ x .count = relax-count c e d (emptied e x) in
         record {
           shape = shape-counted c ok _ (shape-relax c ok e d _ (not-broken x o) (cell-in c ok x e d (p .shape) h) (shape-cell c ok e none x (p .shape)));
           paid = omega (arith, Φ-delivery e d x (not-broken x o) h (p .shape), p .paid);

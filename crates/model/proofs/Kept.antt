@@ -21,7 +21,9 @@ use Rattle.text.proofs.Tests.{or-cases, clash}
 use Rattle.model.proofs.Tools.{some-of}
 use Rattle.model.proofs.Walks.{lasso-whole}
 use Rattle.model.proofs.Few.{paid, few}
+use Rattle.model.proofs.Tallied.{tallied, tallied-inside}
 use Rattle.model.proofs.Rounds.{rounds-listed, rounds-end}
+use Rattle.model.proofs.RoundCells.{rounds-join-none}
 use Rattle.model.proofs.Settled.{tale, relaxed}
 use Rattle.model.proofs.Moments.{never-raised, joins-lower}
 use Rattle.model.proofs.Stems.{fewest-one}
@@ -29,7 +31,7 @@ use Rattle.model.proofs.Findings.{Known, known, walk-real, distances-le
 use Rattle.model.proofs.ActRules.{rules-kept, counts}
 use Rattle.model.proofs.Accepting.{files-sound}
 use Rattle.model.proofs.Fits.{walk-below, below-append, cycle-few, accepting-few, answer-fits, answers-fit}
-use Rattle.model.proofs.Bounds.{most-acts-small}
+use Rattle.model.proofs.Bounds.{most-acts-small, most-sent-small}
 use Rattle.model.proofs.CheckerComplete.{lasso-complete, empty-complete}
 
 -- ROUNDS past the end change nothing, so enough whole rounds are the run by rounds
@@ -61,6 +63,7 @@ runs-kept c ok = record {
   then-ended = λ xs. few c ok (by-list c xs) (paid c ok xs) .1;
   rounds-end = unfold by-rounds in (rounds-end c ok);
   rounds-listed = rounds-are-list c ok;
+  rounds-join-none = rounds-join-none c ok;
 }
 
 moments-kept : (c : Case) → Sound c → Moments-kept c
@@ -71,6 +74,8 @@ moments-kept c ok = record {
   real-offers = λ xs e o h. walk-real (c .graph) (edge (c .graph) e .to) o (tale c ok xs .walked .cells e o h);
   never-raised = λ xs ys v d h. let r = never-raised c ok xs ys (tale c ok xs .walked .shape) v d h in (r .0, r .1, distances-le d (r .0) (r .2));
   joins-lower = λ xs w v q e k _ h i m. joins-lower c ok xs w v q e k h i m;
+  tallied = tallied c ok;
+  tallied-inside = tallied-inside c ok;
 }
 
 -- WHAT AN ENDED RUN WRITES is read back and passes
@@ -95,7 +100,7 @@ unfolding answer verdict ended-lasso
 passes c ok w x e = complete-at c ok w x (known c ok x e) (x .broken) refl (unfold has-ended ended-lasso in (or-cases (is-some (x .broken)) (x .ended-empty) (e .ended)))
 
 limits-kept : (c : Case) → Sound c → Within c → Limits-kept c
-limits-kept c ok l = record { answers-fit = answers-fit c ok l; counts-fit = most-acts-small c ok l; passes = passes c ok l }
+limits-kept c ok l = record { answers-fit = answers-fit c ok l; counts-fit = most-acts-small c ok l; tallies-fit = most-sent-small c ok l; passes = passes c ok l }
 
 pub of-cases : Of-cases
 unfolding Of-cases

@@ -5,7 +5,9 @@ pub mod Walks
 pub mod Steps
 pub mod Shapes
 pub mod Few
+pub mod Tallied
 pub mod Rounds
+pub mod RoundCells
 pub mod Walked
 pub mod Settled
 pub mod Trace

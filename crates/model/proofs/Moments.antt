@@ -12,7 +12,7 @@ use lib.ListN.{length, getD, set}
 use lib.Seq.{getD-set-same, getD-set-other}
 use Rattle.model.specs.Graph.{edge, edge-depth}
 use Rattle.model.specs.Case.{Case, owner, Sound}
-use Rattle.model.specs.Run.{State, ended-lasso, fresh, with-queues, with-cells, takes, member, taken, relax, send, scan-edge, scan-from, counted, depth-or, acted, by-list}
+use Rattle.model.specs.Run.{Tallies, State, ended-lasso, fresh, with-queues, with-cells, emptied, takes, member, taken, relax, send, scan-edge, scan-from, counted, depth-or, acted, by-list}
 use Rattle.text.proofs.Tests.{Same, same?, same, other, clash}
 use Rattle.model.proofs.Tools.{some-not-none, getD-replicate-same, member-later, member-first, once-head, set-some, some-inj, snoc-in}
 use Rattle.model.proofs.Steps.{relax-cases, scan-keeps, Acts, acted-keeps}
@@ -44,7 +44,7 @@ module _ (c : Case) (ok : Sound c) (v d : ℕ) where
         }) (with-queues (set (x .queues) w q) x) (shape-queue c ok w u q x l e (p .0), p .1) in
         (shape-counted c ok _ (r .0), r .1);
     delivery = λ e o x n h p.
-        let r = stays-relax e o (with-cells (set (x .cells) e none) x) (not-broken x n) (cell-in c ok x e o (p .0) h) (shape-cell c ok e none x (p .0), p .1) in
+        let r = stays-relax e o (emptied e x) (not-broken x n) (cell-in c ok x e o (p .0) h) (shape-cell c ok e none x (p .0), p .1) in
         (shape-counted c ok _ (r .0), r .1);
   }
 
@@ -113,13 +113,13 @@ module _ (c : Case) (ok : Sound c) where
         newer = λ w. p .newer (waits-taken e o x l s v n w);
       }
 
-  late-cell : (e : ℕ) (o : Option ℕ) (x : State) → e < length (c .graph .edges) → ((k : ℕ) → o ≡ some k → Late c x e k) → Lates c x → Lates c (with-cells (set (x .cells) e o) x)
-  late-cell e o x l p s = record {
+  late-cell : (e : ℕ) (o : Option ℕ) {t : Tallies} (x : State) → e < length (c .graph .edges) → ((k : ℕ) → o ≡ some k → Late c x e k) → Lates c x → Lates c (with-cells (set (x .cells) e o) t x)
+  late-cell e o {t} x l p s = record {
     shape = shape-cell c ok e o x (s .shape);
     late = λ f k h. move f k (set-some (x .cells) e f o k (rw (s .shape .cells) l) h (λ i q. subst (λ (z : ℕ). Late c x z k) (sym i) (p k q)) (λ _ q. s .late f k q));
   }
     where
-      move : (f k : ℕ) → Late c x f k → Late c (with-cells (set (x .cells) e o) x) f k
+      move : (f k : ℕ) → Late c x f k → Late c (with-cells (set (x .cells) e o) t x) f k
       move f k p = record { du = p .du; before = p .before; fits = p .fits; newer = λ w. p .newer (unfold waiting in w) }
 
   late-send : (v d e : ℕ) (x : State) → e < length (c .graph .edges) → edge (c .graph) e .from ≡ v → Scanned c v d x → Lates c x → Lates c (send e (d + edge-depth (c .graph) e) x)
@@ -182,7 +182,7 @@ module _ (c : Case) (ok : Sound c) where
         )) .0);
     delivery = λ e o x n h s.
         let l = cell-in c ok x e o (s .shape) h in
-        late-counted _ (late-relax e o (with-cells (set (x .cells) e none) x) (not-broken x n) l (late-cell e none x l (λ k q. some-not-none none k q refl) s));
+        late-counted _ (late-relax e o (emptied e x) (not-broken x n) l (late-cell e none x l (λ k q. some-not-none none k q refl) s));
   }
 
   lates : (xs : List ℕ) → Lates c (by-list c xs)

@@ -11,7 +11,7 @@ use borrow.Author.Tests.{lt-ltb, le-ltb, eq-eqb, ne-eqb}
 use lib.ListN.{length, getD, set}
 use Rattle.model.specs.Graph.{edge-depth}
 use Rattle.model.specs.Case.{Case, most-acts, Sound}
-use Rattle.model.specs.Run.{State, is-some, ended-lasso, has-ended, fresh, with-queues, with-cells, member, relax, scan, counted, depth-or, turn-of, turn, delivery-of, delivery, act, acted, range, round-acts, rounds}
+use Rattle.model.specs.Run.{State, is-some, ended-lasso, has-ended, fresh, with-queues, emptied, member, relax, scan, counted, depth-or, turn-of, turn, delivery-of, delivery, act, acted, range, round-acts, rounds}
 use Rattle.model.specs.Promise.{whole-rounds}
 use Rattle.text.proofs.Tests.{Same, same?, or-left, or-right, clash, same, other}
 use Rattle.model.proofs.Tools.{member-first, no-queues, no-cells}
@@ -56,8 +56,8 @@ scan-count c v d x = scan-keeps c v d (λ _ y. y .count ≡ x .count) (record {
 pub turn-count : (c : Case) (w v d : ℕ) (q : List ℕ) (x : State) → counted (scan c v d (with-queues (set (x .queues) w q) x)) .count ≡ suc (x .count)
 turn-count c w v d q x = ap suc (scan-count c v d (with-queues (set (x .queues) w q) x))
 
-pub delivery-count : (c : Case) (e d : ℕ) (x : State) → counted (relax c e d (with-cells (set (x .cells) e none) x)) .count ≡ suc (x .count)
-delivery-count c e d x = ap suc (relax-count c e d (with-cells (set (x .cells) e none) x))
+pub delivery-count : (c : Case) (e d : ℕ) (x : State) → counted (relax c e d (emptied e x)) .count ≡ suc (x .count)
+delivery-count c e d x = ap suc (relax-count c e d (emptied e x))
 
 -- idle, or counted
 pub act-or : (c : Case) (a : ℕ) (x : State) → (act c a x ≡ x) ⊎ (x .count < act c a x .count)
@@ -73,7 +73,7 @@ act-or c a x = act-keeps c (λ y. (y ≡ x) ⊎ (x .count < y .count)) (record {
     turn : (w v : ℕ) (q : List ℕ) (y : State) → (y ≡ x) ⊎ (x .count < y .count) → x .count < counted (scan c v (depth-or (getD (y .depths) v none)) (with-queues (set (y .queues) w q) y)) .count
     turn w v q y p = omega (arith, least y p, turn-count c w v (depth-or (getD (y .depths) v none)) q y)
 
-    delivery : (e d : ℕ) (y : State) → (y ≡ x) ⊎ (x .count < y .count) → x .count < counted (relax c e d (with-cells (set (y .cells) e none) y)) .count
+    delivery : (e d : ℕ) (y : State) → (y ≡ x) ⊎ (x .count < y .count) → x .count < counted (relax c e d (emptied e y)) .count
     delivery e d y p = omega (arith, least y p, delivery-count c e d y)
 
 pub acted-mono : (c : Case) (xs : List ℕ) (x : State) → x .count ≤ acted c xs x .count

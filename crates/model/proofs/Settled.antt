@@ -11,7 +11,7 @@ use lib.ListN.{length, getD, set}
 use lib.Seq.{getD-set-same, getD-set-other}
 use Rattle.model.specs.Graph.{edge, edge-depth}
 use Rattle.model.specs.Case.{Case, owner, Sound}
-use Rattle.model.specs.Run.{State, is-some, fresh, with-queues, with-cells, takes, member, taken, relax, lower, send, scan, no-vertex, no-message, counted, depth-or, turn, delivery, by-list}
+use Rattle.model.specs.Run.{Tallies, State, is-some, fresh, with-queues, with-cells, emptied, takes, member, taken, relax, lower, send, scan, no-vertex, no-message, counted, depth-or, turn, delivery, by-list}
 use Rattle.text.proofs.Tests.{Same, same?, and-both, clash, same, other}
 use Rattle.model.proofs.Tools.{some-not-none, member-first, no-queue, no-cell, member-end, member-before, some-inj, member-rest}
 use Rattle.model.proofs.Walks.{Relaxed}
@@ -82,18 +82,18 @@ module _ (c : Case) (ok : Sound c) where
       changed t f du i h a (other n) = still f du t i (a f du i (sym (taken-other c ok e d x l s (edge (c .graph) f .from) n) ∙ h))
 
   -- a write to e's cell unsettles no other edge
-  settle-cell : (X Y : ℕ → ℕ → Type 0) (e : ℕ) (k : Option ℕ) (x : State) → All-but X c x →
+  settle-cell : (X Y : ℕ → ℕ → Type 0) (e : ℕ) (k : Option ℕ) {t : Tallies} (x : State) → All-but X c x →
       ((f du : ℕ) → (f ≡ e → ⊥) → X f du → Y f du) →
-      ((du : ℕ) → Settled c x e du ⊎ X e du → Settled c (with-cells (set (x .cells) e k) x) e du ⊎ Y e du) → All-but Y c (with-cells (set (x .cells) e k) x)
-  settle-cell X Y e k x a g h = λ n f du i q. go f du (a n f du i q) (same? f e)
+      ((du : ℕ) → Settled c x e du ⊎ X e du → Settled c (with-cells (set (x .cells) e k) t x) e du ⊎ Y e du) → All-but Y c (with-cells (set (x .cells) e k) t x)
+  settle-cell X Y e k {t} x a g h = λ n f du i q. go f du (a n f du i q) (same? f e)
     where
-      move : (f du : ℕ) → (f ≡ e → ⊥) → Settled c x f du → Settled c (with-cells (set (x .cells) e k) x) f du
+      move : (f du : ℕ) → (f ≡ e → ⊥) → Settled c x f du → Settled c (with-cells (set (x .cells) e k) t x) f du
       move f du n (later p) = later (unfold waiting in p)
       move f du n (done dv p i) = done dv p i
       move f du n (there o p i) = there o (getD-set-other (x .cells) e f k none n ∙ p) i
 
-      go : (f du : ℕ) → Settled c x f du ⊎ X f du → Same f e → Settled c (with-cells (set (x .cells) e k) x) f du ⊎ Y f du
-      go f du p (same q) = subst (λ (z : ℕ). Settled c (with-cells (set (x .cells) e k) x) z du ⊎ Y z du) (sym q) (h du (subst (λ (z : ℕ). Settled c x z du ⊎ X z du) q p))
+      go : (f du : ℕ) → Settled c x f du ⊎ X f du → Same f e → Settled c (with-cells (set (x .cells) e k) t x) f du ⊎ Y f du
+      go f du p (same q) = subst (λ (z : ℕ). Settled c (with-cells (set (x .cells) e k) t x) z du ⊎ Y z du) (sym q) (h du (subst (λ (z : ℕ). Settled c x z du ⊎ X z du) q p))
       go f du (inl p) (other n) = inl (move f du n p)
       go f du (inr p) (other n) = inr (g f du n p)
 
@@ -106,7 +106,7 @@ module _ (c : Case) (ok : Sound c) where
       cell : getD (set (x .cells) e (some k)) e none ≡ some k
       cell = getD-set-same (x .cells) e (some k) none (rw (s .cells) l)
 
-      settled : (du : ℕ) → Settled c x e du ⊎ Owed c v d e e du → Settled c (with-cells (set (x .cells) e (some k)) x) e du ⊎ Owed c v d (suc e) e du
+      settled : (du : ℕ) → Settled c x e du ⊎ Owed c v d e e du → Settled c (send e (d + edge-depth (c .graph) e) x) e du ⊎ Owed c v d (suc e) e du
       settled du (inl (later p)) = inl (later (unfold waiting in p))
       settled du (inl (done dv p h)) = inl (done dv p h)
       settled du (inl (there o p h)) = inl (there k cell (omega (arith, lower-old (getD (x .cells) e none) (d + edge-depth (c .graph) e) o p)))
@@ -151,11 +151,11 @@ module _ (c : Case) (ok : Sound c) where
       end f du i (inl p) = inl p
       end f du i (inr (p, q, r)) = absurd (omega arith)
 
-  settle-delivery : (e d : ℕ) (x : State) → x .broken ≡ none → getD (x .cells) e none ≡ some d → Shape c x → All-but (λ _ _. ⊥) c x → All-but (λ _ _. ⊥) c (relax c e d (with-cells (set (x .cells) e none) x))
-  settle-delivery e d x b h s a = settle-relax (λ f du. (f ≡ e) × (du + edge-depth (c .graph) e ≤ d)) (λ _ _. ⊥) e d (with-cells (set (x .cells) e none) x) b (cell-in c ok x e d s h) (shape-cell c ok e none x s)
+  settle-delivery : (e d : ℕ) (x : State) → x .broken ≡ none → getD (x .cells) e none ≡ some d → Shape c x → All-but (λ _ _. ⊥) c x → All-but (λ _ _. ⊥) c (relax c e d (emptied e x))
+  settle-delivery e d x b h s a = settle-relax (λ f du. (f ≡ e) × (du + edge-depth (c .graph) e ≤ d)) (λ _ _. ⊥) e d (emptied e x) b (cell-in c ok x e d s h) (shape-cell c ok e none x s)
       (settle-cell (λ _ _. ⊥) (λ f du. (f ≡ e) × (du + edge-depth (c .graph) e ≤ d)) e none x a (λ f du n z. absurd z) go) (λ f du i p. inl p)
     where
-      go : (du : ℕ) → Settled c x e du ⊎ ⊥ → Settled c (with-cells (set (x .cells) e none) x) e du ⊎ ((e ≡ e) × (du + edge-depth (c .graph) e ≤ d))
+      go : (du : ℕ) → Settled c x e du ⊎ ⊥ → Settled c (emptied e x) e du ⊎ ((e ≡ e) × (du + edge-depth (c .graph) e ≤ d))
       go du (inl (later p)) = inl (later (unfold waiting in p))
       go du (inl (done dv p i)) = inl (done dv p i)
       go du (inl (there o p i)) = inr (refl, let z : o ≡ d = some-inj o d (sym p ∙ h) in omega arith)
@@ -182,7 +182,7 @@ module _ (c : Case) (ok : Sound c) where
         let s = t .walked .shape in
         let l = cell-in c ok x e d s h in
         let b = not-broken x o in
-        tale-counted _ (walked-relax c ok e d (with-cells (set (x .cells) e none) x) b l (t .walked .cells e d h) (walked-cell c ok e none x l (λ k q. some-not-none none k q refl) (t .walked)))
+        tale-counted _ (walked-relax c ok e d (emptied e x) b l (t .walked .cells e d h) (walked-cell c ok e none x l (λ k q. some-not-none none k q refl) (t .walked)))
         (settle-delivery e d x b h s (t .settled));
   }
 

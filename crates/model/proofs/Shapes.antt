@@ -12,7 +12,7 @@ use lib.ListN.{length, getD, set, replicate, length-set, length-replicate}
 use lib.Seq.{getD-set-same, getD-set-other}
 use Rattle.model.specs.Graph.{edge, accepting-count}
 use Rattle.model.specs.Case.{Case, owner, Sound}
-use Rattle.model.specs.Run.{State, is-some, ended-lasso, has-ended, fresh, with-queues, with-cells, member, enqueue, below-floor, relax, counted, depth-or}
+use Rattle.model.specs.Run.{Tallies, State, is-some, ended-lasso, has-ended, fresh, with-queues, with-cells, member, enqueue, below-floor, relax, counted, depth-or}
 use Rattle.model.specs.Passing.{above}
 use Rattle.text.proofs.Tests.{Test, test, Same, same?, or-false, clash, holds, fails, same, other}
 use Rattle.model.proofs.Tools.{Once, once-snoc, getD-out, some-not-none, none-of, once-tail, member-later, member-first, getD-replicate-same, set-some, some-inj, snoc-in, some-after}
@@ -89,7 +89,7 @@ module _ (c : Case) (ok : Sound c) where
         above = λ g. above-kept (accepting-count (c .graph)) (x .depths) v d (s .above b) g (rw (s .depths) h);
       })
 
-  pub shape-cell : (e : ℕ) (o : Option ℕ) (x : State) → Shape c x → Shape c (with-cells (set (x .cells) e o) x)
+  pub shape-cell : (e : ℕ) (o : Option ℕ) {t : Tallies} (x : State) → Shape c x → Shape c (with-cells (set (x .cells) e o) t x)
   shape-cell e o x s = record {
     depths = s .depths;
     parents = s .parents;

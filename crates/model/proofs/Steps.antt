@@ -4,14 +4,14 @@ use mathlib.Core.Path.{_≡_, refl, subst}
 use mathlib.Core.Bool.{Bool, true, false, _||_, not, cond}
 use mathlib.Core.List.{List, [], _∷_}
 use mathlib.Core.Option.{Option, none, some}
-use Prim.Native.Nat.{ℕ, zero, suc, _+_, _-_, _<_}
+use Prim.Native.Nat.{ℕ, zero, suc, _+_, _-_, _≤_, _<_}
 use native.Mathlib.Omega.{arith}
 use lib.Dec.{ltb, eqb}
-use borrow.Author.Tests.{ltb-true, eqb-true, eqb-false}
+use borrow.Author.Tests.{ltb-true, ltb-false, eqb-true, eqb-false}
 use lib.ListN.{length, getD, set}
 use Rattle.model.specs.Graph.{edge, edge-depth}
 use Rattle.model.specs.Case.{Case, owner}
-use Rattle.model.specs.Run.{State, is-some, ended-lasso, has-ended, with-queues, with-cells, takes, taken, relax, send, scan-edge, scan-from, scan, counted, depth-or, turn-of, turn, delivery-of, delivery, act, acted}
+use Rattle.model.specs.Run.{State, is-some, ended-lasso, has-ended, with-queues, emptied, takes, taken, relax, send, scan-edge, scan-from, scan, counted, depth-or, turn-of, turn, delivery-of, delivery, act, acted}
 use Rattle.text.proofs.Tests.{other}
 
 -- a try: the offer is not taken, or it is
@@ -41,38 +41,53 @@ scan-edge-keeps c v d P s e x l p = go (x .broken) refl (eqb (edge (c .graph) e 
     go none h true q true r = unfold is-some in (s .own e x h l (eqb-true (edge (c .graph) e .from) v q) p)
     go none h true q false r = unfold is-some in (s .other e x h l (eqb-true (edge (c .graph) e .from) v q) (eqb-false (owner c (edge (c .graph) e .to)) (owner c v) r) p)
 
-scan-from-keeps : (c : Case) (v d : ℕ) (P : ℕ → State → Type 0) → Scans c v d P → (k e : ℕ) (x : State) → k + e ≡ length (c .graph .edges) → P e x → P (length (c .graph .edges)) (scan-from k e c v d x)
+-- after so many edges from e on
+pub scan-from-keeps : (c : Case) (v d : ℕ) (P : ℕ → State → Type 0) → Scans c v d P → (k e : ℕ) (x : State) → e + k ≤ length (c .graph .edges) → P e x → P (e + k) (scan-from k e c v d x)
 unfolding scan-from
-scan-from-keeps c v d P s zero e x h p = subst (λ (i : ℕ). P i x) (let z : e ≡ length (c .graph .edges) = omega arith in z) p
-scan-from-keeps c v d P s (suc k) e x h p = scan-from-keeps c v d P s k (suc e) (scan-edge c v d e x) (omega arith) (scan-edge-keeps c v d P s e x (omega arith) p)
+scan-from-keeps c v d P s zero e x h p = subst (λ (i : ℕ). P i x) (let z : e ≡ e + 0 = omega arith in z) p
+scan-from-keeps c v d P s (suc k) e x h p =
+    let z : suc e + k ≡ e + suc k = omega arith in
+    subst (λ (i : ℕ). P i (scan-from k (suc e) c v d (scan-edge c v d e x))) z
+    (scan-from-keeps c v d P s k (suc e) (scan-edge c v d e x) (omega arith) (scan-edge-keeps c v d P s e x (omega arith) p))
 
 pub scan-keeps : (c : Case) (v d : ℕ) (P : ℕ → State → Type 0) → Scans c v d P → (x : State) → P 0 x → P (length (c .graph .edges)) (scan c v d x)
 unfolding scan
-scan-keeps c v d P s x p = scan-from-keeps c v d P s (length (c .graph .edges)) 0 x (omega arith) p
+scan-keeps c v d P s x p =
+    let m = length (c .graph .edges) in
+    let z : 0 + m ≡ m = omega arith in
+    subst (λ (i : ℕ). P i (scan-from m 0 c v d x)) z (scan-from-keeps c v d P s m 0 x (omega arith) p)
 
 -- an act that is not idle, of a run that is not over
 pub record Acts (c : Case) (P : State → Type 0) : Type 0 where
   pub turn : (w v : ℕ) (q : List ℕ) (x : State) → has-ended x ≡ false → w < c .workers → getD (x .queues) w [] ≡ v ∷ q → P x →
       P (counted (scan c v (depth-or (getD (x .depths) v none)) (with-queues (set (x .queues) w q) x)))
   pub delivery : (e d : ℕ) (x : State) → has-ended x ≡ false → getD (x .cells) e none ≡ some d → P x →
-      P (counted (relax c e d (with-cells (set (x .cells) e none) x)))
+      P (counted (relax c e d (emptied e x)))
 
-pub act-keeps : (c : Case) (P : State → Type 0) → Acts c P → (a : ℕ) (x : State) → P x → P (act c a x)
+-- an act by its number: nothing is done after the end; a turn, idle or not; a delivery, idle or not
+pub act-cases : (P : State → Type 0) (c : Case) (a : ℕ) (x : State) → (has-ended x ≡ true → P x) →
+    (a < c .workers → getD (x .queues) a [] ≡ [] → P x) →
+    ((v : ℕ) (q : List ℕ) → has-ended x ≡ false → a < c .workers → getD (x .queues) a [] ≡ v ∷ q → P (counted (scan c v (depth-or (getD (x .depths) v none)) (with-queues (set (x .queues) a q) x)))) →
+    (c .workers ≤ a → getD (x .cells) (a - c .workers) none ≡ none → P x) →
+    ((d : ℕ) → has-ended x ≡ false → c .workers ≤ a → getD (x .cells) (a - c .workers) none ≡ some d → P (counted (relax c (a - c .workers) d (emptied (a - c .workers) x)))) → P (act c a x)
 unfolding act turn delivery turn-of delivery-of
-act-keeps c P s a x p = go (has-ended x) (ltb a (c .workers)) refl refl
+act-cases P c a x over no-turn turn no-delivery delivery = go (has-ended x) (ltb a (c .workers)) refl refl
   where
     turns : (q : List ℕ) → has-ended x ≡ false → a < c .workers → getD (x .queues) a [] ≡ q → P (turn-of c a q x)
-    turns [] o l e = p
-    turns (v ∷ q) o l e = s .turn a v q x o l e p
+    turns [] o l e = no-turn l e
+    turns (v ∷ q) o l e = turn v q o l e
 
-    delivers : (o : Option ℕ) (e : ℕ) → has-ended x ≡ false → getD (x .cells) e none ≡ o → P (delivery-of c e o x)
-    delivers none e l h = p
-    delivers (some d) e l h = s .delivery e d x l h p
+    delivers : (o : Option ℕ) → has-ended x ≡ false → c .workers ≤ a → getD (x .cells) (a - c .workers) none ≡ o → P (delivery-of c (a - c .workers) o x)
+    delivers none o l h = no-delivery l h
+    delivers (some d) o l h = delivery d o l h
 
     go : (o t : Bool) → has-ended x ≡ o → ltb a (c .workers) ≡ t → P (cond o x (cond t (turn-of c a (getD (x .queues) a []) x) (delivery-of c (a - c .workers) (getD (x .cells) (a - c .workers) none) x)))
-    go true t e h = p
+    go true t e h = over e
     go false true e h = turns (getD (x .queues) a []) e (ltb-true a (c .workers) h) refl
-    go false false e h = delivers (getD (x .cells) (a - c .workers) none) (a - c .workers) e refl
+    go false false e h = delivers (getD (x .cells) (a - c .workers) none) e (ltb-false a (c .workers) h) refl
+
+pub act-keeps : (c : Case) (P : State → Type 0) → Acts c P → (a : ℕ) (x : State) → P x → P (act c a x)
+act-keeps c P s a x p = act-cases P c a x (λ _. p) (λ _ _. p) (λ v q o l e. s .turn a v q x o l e p) (λ _ _. p) (λ d o _ h. s .delivery (a - c .workers) d x o h p)
 
 pub acted-keeps : (c : Case) (P : State → Type 0) → Acts c P → (xs : List ℕ) (x : State) → P x → P (acted c xs x)
 unfolding acted

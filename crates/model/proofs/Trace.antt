@@ -13,7 +13,7 @@ use lib.ListN.{length, getD, set}
 use lib.Seq.{getD-set-same, getD-set-other}
 use Rattle.model.specs.Graph.{Graph, edge, edge-depth, accepting-count}
 use Rattle.model.specs.Case.{Case, Sound}
-use Rattle.model.specs.Run.{State, fresh, with-queues, with-cells, takes, below-floor, taken, relax, send, scan, counted, depth-or, turn, delivery, by-list}
+use Rattle.model.specs.Run.{Tallies, State, fresh, with-queues, with-cells, emptied, takes, below-floor, taken, relax, send, scan, counted, depth-or, turn, delivery, by-list}
 use Rattle.text.proofs.Tests.{Same, same?, same, other}
 use Rattle.model.proofs.Tools.{some-not-none, getD-replicate-same, set-some, some-inj}
 use Rattle.model.proofs.Steps.{relax-cases, scan-keeps, Acts, acted-keeps}
@@ -190,8 +190,8 @@ module _ (c : Case) (ok : Sound c) where
   trace-relax : (e d : ℕ) (x : State) → x .broken ≡ none → e < length (c .graph .edges) → Offer (c .graph) (x .depths) e d → Trace c x → Trace c (relax c e d x)
   trace-relax e d x b l o r = relax-cases (Trace c) c e d x (λ _. r) (λ k. record { t = stamp (r .t) (edge (c .graph) e .to) (r .T); T = suc (r .T); traced = traced-taken e d x l (r .t) (r .T) (r .traced) o k b })
 
-  trace-cell : (e : ℕ) (k : Option ℕ) (x : State) → e < length (c .graph .edges) → ((o : ℕ) → k ≡ some o → Offer (c .graph) (x .depths) e o) → Trace c x → Trace c (with-cells (set (x .cells) e k) x)
-  trace-cell e k x l o r = record {
+  trace-cell : (e : ℕ) (k : Option ℕ) {u : Tallies} (x : State) → e < length (c .graph .edges) → ((o : ℕ) → k ≡ some o → Offer (c .graph) (x .depths) e o) → Trace c x → Trace c (with-cells (set (x .cells) e k) u x)
+  trace-cell e k {u} x l o r = record {
     t = r .t;
     T = r .T;
     traced = record {
@@ -207,7 +207,7 @@ module _ (c : Case) (ok : Sound c) where
       a : Traced c x (r .t) (r .T)
       a = r .traced
 
-      cell : (f j : ℕ) → getD ((with-cells (set (x .cells) e k) x) .cells) f none ≡ some j → Offer (c .graph) ((with-cells (set (x .cells) e k) x) .depths) f j
+      cell : (f j : ℕ) → getD ((with-cells (set (x .cells) e k) u x) .cells) f none ≡ some j → Offer (c .graph) ((with-cells (set (x .cells) e k) u x) .depths) f j
       cell f j h = (set-some (x .cells) e f k j (rw (a .shape .cells) l) h (λ p q. rw p (o j q)) (λ _ q. a .cell f j q))
 
   trace-send : (e d : ℕ) (x : State) → e < length (c .graph .edges) → Offer (c .graph) (x .depths) e d → Trace c x → Trace c (send e d x)
@@ -265,7 +265,7 @@ module _ (c : Case) (ok : Sound c) where
     turn = λ w v q x o l e r. trace-counted _ (trace-scan v (depth-or (getD (x .depths) v none)) (with-queues (set (x .queues) w q) x) ((head-depth c ok w v q x (r .traced .shape) e)) (trace-queue w v q x l e r));
     delivery = λ e d x o h r.
         let l = cell-in c ok x e d (r .traced .shape) h in
-        trace-counted _ (trace-relax e d (with-cells (set (x .cells) e none) x) (not-broken x o) l ((r .traced .cell e d h)) (trace-cell e none x l (λ k q. some-not-none none k q refl) r));
+        trace-counted _ (trace-relax e d (emptied e x) (not-broken x o) l ((r .traced .cell e d h)) (trace-cell e none x l (λ k q. some-not-none none k q refl) r));
   }
 
   trace-fresh : Trace c (fresh c)

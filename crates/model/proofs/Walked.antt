@@ -11,7 +11,7 @@ use lib.ListN.{length, getD, set}
 use lib.Seq.{getD-set-same, getD-set-other}
 use Rattle.model.specs.Graph.{edge, edge-depth, is-walk, walk-end, walk-depth}
 use Rattle.model.specs.Case.{Case, owner, Sound}
-use Rattle.model.specs.Run.{State, is-some, fresh, with-queues, with-cells, takes, taken, relax, lower, send, scan, counted, turn, delivery, by-list}
+use Rattle.model.specs.Run.{Tallies, State, is-some, fresh, with-queues, with-cells, takes, taken, relax, lower, send, scan, counted, turn, delivery, by-list}
 use Rattle.text.proofs.Tests.{Same, same?, clash, same, other}
 use Rattle.model.proofs.Tools.{some-not-none, is-some-of, getD-replicate-same, set-some, some-inj, some-after}
 use Rattle.model.proofs.Walks.{Walk, walk-on}
@@ -97,7 +97,7 @@ module _ (c : Case) (ok : Sound c) where
       deep v k i = set-some (x .depths) (edge (c .graph) e .to) v (some d) k (to-in c ok e d x l (s .shape)) i
           (λ p q. subst (λ (z : ℕ). Walk (c .graph) z k) (sym p) (subst (λ (z : ℕ). Walk (c .graph) (edge (c .graph) e .to) z) (some-inj d k q) w)) (λ _ q. s .depths v k q)
 
-  pub walked-cell : (e : ℕ) (o : Option ℕ) (x : State) → e < length (c .graph .edges) → ((d : ℕ) → o ≡ some d → Walk (c .graph) (edge (c .graph) e .to) d) → Walked c x → Walked c (with-cells (set (x .cells) e o) x)
+  pub walked-cell : (e : ℕ) (o : Option ℕ) {t : Tallies} (x : State) → e < length (c .graph .edges) → ((d : ℕ) → o ≡ some d → Walk (c .graph) (edge (c .graph) e .to) d) → Walked c x → Walked c (with-cells (set (x .cells) e o) t x)
   walked-cell e o x l w s = record {
     shape = shape-cell c ok e o x (s .shape);
     depths = s .depths;

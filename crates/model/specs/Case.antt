@@ -51,6 +51,10 @@ known-version = 1
 unfoldable pub most-acts : Case → ℕ
 most-acts c = (c .graph .vertices + length (c .graph .edges)) * (accepting-count (c .graph) + 1)
 
+-- "sent ≤ m × (A + 1)": so many offers at most are put into cells
+unfoldable pub most-sent : Case → ℕ
+most-sent c = length (c .graph .edges) * (accepting-count (c .graph) + 1)
+
 -- SOUND: what the promises ask of a case, and every accepted file gives
 pub record Sound (c : Case) : Type 0 where
   pub source : c .graph .source < c .graph .vertices

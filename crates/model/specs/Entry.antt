@@ -9,7 +9,7 @@ use lib.ListN.{length, drop, replicate}
 use lib.IntN.{ℤ, pos}
 use Rattle.model.specs.Case.{Case, least-output, least-work}
 use Rattle.model.specs.CaseFile.{refuse, first-of, case-refusal, case-in}
-use Rattle.model.specs.Run.{State, has-ended, ended-lasso, by-list, by-rounds}
+use Rattle.model.specs.Run.{Tallies, no-tallies, State, has-ended, ended-lasso, by-list, by-rounds}
 use Rattle.model.specs.Answer.{lasso-verdict, empty-verdict, no-verdict, answer}
 use Rattle.model.specs.Passing.{check-refusal, answer-verdict}
 use Rattle.model.specs.declared.Outcome.{Outcome}
@@ -44,23 +44,29 @@ in-front new old = new ++ drop (length new) old
 unfoldable pub zeros : List ℤ → List ℤ
 zeros ws = replicate (length ws) (pos 0)
 
--- A REFUSED CALL. "A refusal returns its number, answer length 0 and 0 acts. It changes neither output nor work."
--- Buffers: output o before and z after, work w before and v after
+-- "A result carries three tallies: sent, delivered, joined"
+abbrev pub tallies-of : Outcome → Tallies
+tallies-of r = record { sent = r .sent; delivered = r .delivered; joined = r .joined }
+
+-- A REFUSED CALL. "A refusal returns its number, answer length 0 and 0 acts. It changes neither output nor work";
+-- "other refusals return zeros" as tallies. Buffers: output o before and z after, work w before and v after
 pub record Refused (k : ℕ) (r : Outcome) (o z : List ℕ) (w v : List ℤ) : Type 0 where
   pub refusal : r .refusal ≡ k
   pub verdict : r .verdict ≡ no-verdict
   pub acts : r .acts ≡ 0
   pub written : r .written ≡ 0
+  pub tallies : tallies-of r ≡ no-tallies
   pub output : z ≡ o
   pub work : v ≡ w
 
--- A RUN CUT SHORT. "10: the list ran out before the run ended"; "10 returns the acts counted" and "leaves work all
--- zeros"
+-- A RUN CUT SHORT. "10: the list ran out before the run ended"; "10 returns the acts counted", the tallies, and
+-- "leaves work all zeros"
 pub record Cut-short (x : State) (r : Outcome) (o z : List ℕ) (w v : List ℤ) : Type 0 where
   pub refusal : r .refusal ≡ 10
   pub verdict : r .verdict ≡ no-verdict
   pub acts : r .acts ≡ x .count
   pub written : r .written ≡ 0
+  pub tallies : tallies-of r ≡ x .tallies
   pub output : z ≡ o
   pub work : v ≡ zeros w
 
@@ -71,6 +77,7 @@ pub record Finished (c : Case) (x : State) (r : Outcome) (o z : List ℕ) (w v :
   pub verdict : r .verdict ≡ verdict x
   pub acts : r .acts ≡ x .count
   pub written : r .written ≡ length (answer (c .graph) x)
+  pub tallies : tallies-of r ≡ x .tallies
   pub output : z ≡ in-front (answer (c .graph) x) o
   pub work : v ≡ zeros w
 

@@ -1,5 +1,5 @@
--- "Bench runs kept": K1 to K11 as one table, and examples of each refusal as a second, each with a test that
--- computes. proofs/KeptRuns.antt proves both tests. Assumes nothing: these are definitions.
+-- "Bench runs kept": K1 to K11 and two runs with messages under way as one table, and examples of each refusal as a
+-- second, each with a test that computes. proofs/KeptRuns.antt proves both tests. Assumes nothing: these are definitions.
 use mathlib.Core.Bool.{Bool, true, false, _&&_}
 use mathlib.Core.List.{List, [], _∷_, _++_}
 use mathlib.Core.Option.{Option, none, some}
@@ -11,7 +11,7 @@ use Rattle.text.specs.Ascii.{ascii}
 use Rattle.text.specs.Lines.{equal}
 use Rattle.model.specs.Case.{Case, longest-file, least-output, least-work}
 use Rattle.model.specs.CaseFile.{case-refusal, case-in}
-use Rattle.model.specs.Run.{State, has-ended, by-list, by-rounds}
+use Rattle.model.specs.Run.{Tallies, no-tallies, State, has-ended, by-list, by-rounds}
 use Rattle.model.specs.Answer.{lasso-verdict, empty-verdict, no-verdict, answer}
 use Rattle.model.specs.Passing.{check-refusal}
 use Rattle.model.specs.Entry.{list-refusal, rounds-refusal, verdict}
@@ -38,16 +38,20 @@ pub record Kept : Type 0 where
   pub refusal : ℕ
   pub verdict : ℕ
   pub count : ℕ
+  pub tallies : Tallies
   pub answer : List ℕ
 
-unfoldable pub is-outcome : Kept → (refusal verdict count : ℕ) → (answer : List ℕ) → Bool
-is-outcome k r v n a = (eqb (k .refusal) r && eqb (k .verdict) v) && (eqb (k .count) n && equal (k .answer) a)
+unfoldable pub are-tallies : Tallies → Tallies → Bool
+are-tallies t u = eqb (t .sent) (u .sent) && (eqb (t .delivered) (u .delivered) && eqb (t .joined) (u .joined))
+
+unfoldable pub is-outcome : Kept → (refusal verdict count : ℕ) → Tallies → (answer : List ℕ) → Bool
+is-outcome k r v n t a = (eqb (k .refusal) r && eqb (k .verdict) v) && (eqb (k .count) n && (are-tallies (k .tallies) t && equal (k .answer) a))
 
 -- the outcome is the one that `Entry` names
 unfoldable pub comes : Kept → (refusal : ℕ) → (ended : Bool) → Case → State → Bool
-comes k (suc r) b c x = is-outcome k (suc r) no-verdict 0 []
-comes k zero true c x = is-outcome k 0 (verdict x) (x .count) (answer (c .graph) x)
-comes k zero false c x = is-outcome k 10 no-verdict (x .count) []
+comes k (suc r) b c x = is-outcome k (suc r) no-verdict 0 no-tallies []
+comes k zero true c x = is-outcome k 0 (verdict x) (x .count) (x .tallies) (answer (c .graph) x)
+comes k zero false c x = is-outcome k 10 no-verdict (x .count) (x .tallies) []
 
 unfoldable pub holds-by : Kept → (acts : Option (List ℕ)) → Bool
 holds-by k none = let x = by-rounds (case-in (k .case)) in comes k (rounds-refusal (k .case) least-output least-work) (has-ended x) (case-in (k .case)) x
@@ -57,29 +61,37 @@ unfoldable pub all-hold : List Kept → Bool
 all-hold [] = true
 all-hold (k ∷ ks) = holds-by k (k .acts) && all-hold ks
 
-abbrev lasso : (case : List ℕ) → (count : ℕ) → (answer : List ℕ) → Kept
-lasso c n a = record { case = c; acts = none; refusal = 0; verdict = lasso-verdict; count = n; answer = a }
+abbrev tally : (sent delivered joined : ℕ) → Tallies
+tally s d j = record { sent = s; delivered = d; joined = j }
 
-abbrev empty : (case : List ℕ) → (count : ℕ) → (answer : List ℕ) → Kept
-empty c n a = record { case = c; acts = none; refusal = 0; verdict = empty-verdict; count = n; answer = a }
+abbrev lasso : (case : List ℕ) → (count : ℕ) → Tallies → (answer : List ℕ) → Kept
+lasso c n t a = record { case = c; acts = none; refusal = 0; verdict = lasso-verdict; count = n; tallies = t; answer = a }
+
+abbrev empty : (case : List ℕ) → (count : ℕ) → Tallies → (answer : List ℕ) → Kept
+empty c n t a = record { case = c; acts = none; refusal = 0; verdict = empty-verdict; count = n; tallies = t; answer = a }
 
 abbrev refused : (case : List ℕ) → (acts : Option (List ℕ)) → (refusal : ℕ) → Kept
-refused c xs k = record { case = c; acts = xs; refusal = k; verdict = no-verdict; count = 0; answer = [] }
+refused c xs k = record { case = c; acts = xs; refusal = k; verdict = no-verdict; count = 0; tallies = no-tallies; answer = [] }
 
--- K1 to K11, a row each
+abbrev cut-short : (case acts : List ℕ) → (count : ℕ) → Tallies → Kept
+cut-short c xs n t = record { case = c; acts = some xs; refusal = 10; verdict = no-verdict; count = n; tallies = t; answer = [] }
+
+-- K1 to K11, a row each; then K1 with its first message under way, and a run in which a message joins
 abbrev pub kept-runs : List Kept
 kept-runs =
-    lasso K1 8 lasso-of-K1
-    ∷ empty (case-text "1 3 3 0 2" "0 1 0\n1 0 1\n2 0 0\n" "0 1\n1 2\n2 1\n") 6 (answer-text "1 empty 0 0 3" "vertex distance" "0 0\n1 -1\n2 -1\n")
-    ∷ lasso (case-text "1 1 1 0 1" "0 1 0\n" "0 0\n") 2 (answer-text "1 lasso 0 1 0" "edge" "0\n")
-    ∷ empty (case-text "1 1 0 0 1" "0 1 0\n" "") 1 (answer-text "1 empty 0 0 1" "vertex distance" "0 0\n")
-    ∷ empty (case-text "1 1 1 0 1" "0 0 0\n" "0 0\n") 1 (answer-text "1 empty 0 0 1" "vertex distance" "0 0\n")
-    ∷ empty (case-text "1 2 1 0 1" "0 0 0\n1 1 0\n" "1 1\n") 1 (answer-text "1 empty 0 0 1" "vertex distance" "0 0\n")
+    lasso K1 8 (tally 4 4 0) lasso-of-K1
+    ∷ empty (case-text "1 3 3 0 2" "0 1 0\n1 0 1\n2 0 0\n" "0 1\n1 2\n2 1\n") 6 (tally 3 3 0) (answer-text "1 empty 0 0 3" "vertex distance" "0 0\n1 -1\n2 -1\n")
+    ∷ lasso (case-text "1 1 1 0 1" "0 1 0\n" "0 0\n") 2 no-tallies (answer-text "1 lasso 0 1 0" "edge" "0\n")
+    ∷ empty (case-text "1 1 0 0 1" "0 1 0\n" "") 1 no-tallies (answer-text "1 empty 0 0 1" "vertex distance" "0 0\n")
+    ∷ empty (case-text "1 1 1 0 1" "0 0 0\n" "0 0\n") 1 no-tallies (answer-text "1 empty 0 0 1" "vertex distance" "0 0\n")
+    ∷ empty (case-text "1 2 1 0 1" "0 0 0\n1 1 0\n" "1 1\n") 1 no-tallies (answer-text "1 empty 0 0 1" "vertex distance" "0 0\n")
     ∷ refused K1 (some []) 10
-    ∷ lasso (case-text "1 3 3 0 1" "0 0 0\n1 1 0\n2 0 0\n" "0 1\n1 2\n2 1\n") 4 lasso-of-K1
+    ∷ lasso (case-text "1 3 3 0 1" "0 0 0\n1 1 0\n2 0 0\n" "0 1\n1 2\n2 1\n") 4 no-tallies lasso-of-K1
     ∷ refused K1 (some (2 ∷ [])) 10
     ∷ refused (case-text "2 3 3 0 2" "0 0 0\n1 1 1\n2 0 0\n" "0 1\n1 2\n2 1\n") none 3
     ∷ refused (case-text "1 3 4 0 2" "0 0 0\n1 1 1\n2 0 0\n" "0 1\n1 2\n1 2\n2 1\n") none 8
+    ∷ cut-short K1 (0 ∷ []) 1 (tally 1 0 0)
+    ∷ cut-short (case-text "1 3 4 0 3" "0 0 0\n1 1 1\n2 0 2\n" "0 1\n0 2\n1 0\n1 2\n") (0 ∷ 3 ∷ 1 ∷ 5 ∷ 0 ∷ []) 5 (tally 6 2 1)
     ∷ []
 
 -- EXAMPLES OF REFUSALS: what is asked of a case (to be judged; to be run by a list, with buffers so long; to be the

@@ -10,12 +10,12 @@ use lib.ListN.{length, getD, set, take, drop}
 use lib.IntN.{ℤ, pos, negℤ}
 use lib.Signed.{leZ, ltZ}
 use Rattle.model.specs.Graph.{Graph, edge, edge-depth, accepting-count, walk-end, Reaches, is-lasso, Has-lasso, No-lasso, Has-walk, Distance, Fewest}
-use Rattle.model.specs.Case.{Case, Sound, Within, owner, most-acts, least-output}
+use Rattle.model.specs.Case.{Case, Sound, Within, owner, most-acts, most-sent, least-output}
 use Rattle.model.specs.CaseFile.{accepted, case-in}
-use Rattle.model.specs.Run.{State, distance, is-some, ended-lasso, has-ended, fresh, with-queues, depth-or, scan-from, no-vertex, no-message, idle, does-something, act, acts-done, round-acts, by-list, by-rounds, Moment}
+use Rattle.model.specs.Run.{Tallies, no-tallies, State, distance, is-some, ended-lasso, has-ended, fresh, with-queues, depth-or, scan-from, no-vertex, no-message, full-cells, idle, does-something, act, acts-done, round-acts, by-list, by-rounds, Moment}
 use Rattle.model.specs.Answer.{cycle-start, cycle, stem, lasso-text, empty-text, lasso-verdict, empty-verdict, answer}
 use Rattle.model.specs.Passing.{answer-refusal, check-refusal, answer-verdict}
-use Rattle.model.specs.Entry.{List-says, Rounds-say, Check-says, list-refusal, verdict, zeros}
+use Rattle.model.specs.Entry.{List-says, Rounds-say, Check-says, list-refusal, verdict, zeros, tallies-of}
 use Rattle.model.specs.declared.Outcome.{Outcome}
 use Rattle.model.specs.declared.Checked.{Checked}
 
@@ -42,14 +42,15 @@ whole-rounds zero c = []
 whole-rounds (suc k) c = round-acts c ++ whole-rounds k c
 
 -- every run of one case: demand 2 at its end; of demand 3, that "at most (n + m) × (A + 1) acts do something, and
--- once that many have, the run has ended", for any list, in range or not, and that rounds end and are a list of
--- enough whole rounds
+-- once that many have, the run has ended", for any list, in range or not, and that rounds end, are a list of enough
+-- whole rounds, and join no message
 pub record Runs-kept (c : Case) : Type 0 where
   pub finds : (x : State) → Ended c x → Finding (c .graph) x
   pub few-acts : (xs : List ℕ) → by-list c xs .count ≤ most-acts c
   pub then-ended : (xs : List ℕ) → by-list c xs .count ≡ most-acts c → has-ended (by-list c xs) ≡ true
   pub rounds-end : has-ended (by-rounds c) ≡ true
   pub rounds-listed : (k : ℕ) → most-acts c ≤ k → by-rounds c ≡ by-list c (whole-rounds k c)
+  pub rounds-join-none : by-rounds c .tallies .joined ≡ 0
 
 -- "A run ends as lasso as soon as a try, done whole, has left a distance below −A": a vertex whose distance is
 pub record Below-floor (c : Case) (x : State) : Type 0 where
@@ -75,9 +76,18 @@ pub record Rules-kept (c : Case) (x : State) : Type 0 where
   pub empty-always : Nothing-waits x → has-ended x ≡ true
   pub no-cell : (e : ℕ) → owner c (edge (c .graph) e .to) ≡ owner c (edge (c .graph) e .from) → getD (x .cells) e none ≡ none
 
+-- "At any moment sent equals delivered plus joined plus cells still full"
+abbrev pub Balanced : Tallies → (full : ℕ) → Type 0
+Balanced t k = t .sent ≡ (t .delivered + t .joined) + k
+
+pub record Tallied (c : Case) (x : State) : Type 0 where
+  pub balanced : Balanced (x .tallies) (full-cells (x .cells))
+  pub few-sent : x .tallies .sent ≤ most-sent c
+
 -- at every moment, ended or not: the act rules hold, and the acts counted are those that did something; each distance
 -- and each waiting offer is the length of a real walk; further acts never raise a distance; an offer that joins a waiting
--- message is always the lower of the two, so "the lower remains" and "the newer remains" agree
+-- message is always the lower of the two, so "the lower remains" and "the newer remains" agree; the tallies are right,
+-- also inside a scan, after any number of edges
 pub record Moments-kept (c : Case) : Type 0 where
   pub rules : (x : State) → Moment c x → Rules-kept c x
   pub counts : (xs : List ℕ) → by-list c xs .count ≡ acts-done c xs (fresh c)
@@ -90,12 +100,17 @@ pub record Moments-kept (c : Case) : Type 0 where
       (xs : List ℕ) (w v : ℕ) (q : List ℕ) (e waiting : ℕ) → let x = by-list c xs in let d = depth-or (getD (x .depths) v none) in
       has-ended x ≡ false → getD (x .queues) w [] ≡ v ∷ q → edge (c .graph) e .from ≡ v →
       getD (scan-from e 0 c v d (with-queues (set (x .queues) w q) x) .cells) e none ≡ some waiting → waiting < d + edge-depth (c .graph) e
+  pub tallied : (xs : List ℕ) → Tallied c (by-list c xs)
+  pub tallied-inside :
+      (xs : List ℕ) (w v : ℕ) (q : List ℕ) (k : ℕ) → let x = by-list c xs in has-ended x ≡ false → getD (x .queues) w [] ≡ v ∷ q → k ≤ length (c .graph .edges) →
+      Tallied c (scan-from k 0 c v (depth-or (getD (x .depths) v none)) (with-queues (set (x .queues) w q) x))
 
--- within the limits: an answer fits the least output, a count fits 32 bits, and the checker "passes all that our
+-- within the limits: an answer fits the least output, a count and a tally fit 32 bits, and the checker "passes all that our
 -- finished runs write"
 pub record Limits-kept (c : Case) : Type 0 where
   pub answers-fit : (x : State) → Ended c x → length (answer (c .graph) x) ≤ least-output
   pub counts-fit : most-acts c < 2 ^ 32
+  pub tallies-fit : most-sent c < 2 ^ 32
   pub passes : (x : State) → Ended c x → (answer-refusal (c .graph) (answer (c .graph) x) ≡ 0) × (answer-verdict (answer (c .graph) x) ≡ verdict x)
 
 unfoldable pub Of-cases : Type 0
@@ -137,7 +152,7 @@ Says bs r o z w v = ((xs : List ℕ) × List-says bs xs r o z w v) ⊎ Rounds-sa
 
 -- demand 1: "a result or a listed refusal"; "A refused call leaves the output buffer untouched, and the work buffer
 -- too, save that refusal 10 leaves the latter all zeros"; "After a result the answer is at the front of the output, the
--- rest unchanged, and the work buffer all zeros"
+-- rest unchanged, and the work buffer all zeros"; of the tallies, that "other refusals return zeros"
 pub record Definite (r : Outcome) (o z : List ℕ) (w v : List ℤ) : Type 0 where
   pub listed : r .refusal ≤ 11
   pub output : (r .refusal ≡ 0 → ⊥) → z ≡ o
@@ -145,6 +160,7 @@ pub record Definite (r : Outcome) (o z : List ℕ) (w v : List ℤ) : Type 0 whe
   pub zeroed : r .refusal ≡ 10 → v ≡ zeros w
   pub length-zero : (r .refusal ≡ 0 → ⊥) → r .written ≡ 0
   pub acts-zero : (r .refusal ≡ 0 → ⊥) → (r .refusal ≡ 10 → ⊥) → r .acts ≡ 0
+  pub tallies-zero : (r .refusal ≡ 0 → ⊥) → (r .refusal ≡ 10 → ⊥) → tallies-of r ≡ no-tallies
   pub rest : r .refusal ≡ 0 → drop (r .written) z ≡ drop (r .written) o
   pub cleared : r .refusal ≡ 0 → v ≡ zeros w
 
@@ -174,11 +190,19 @@ pub record Shows-distances (g : Graph) (shown : List ℕ) : Type 0 where
   pub distances : (v d : ℕ) → getD depths v none ≡ some d → Distance g v (distance d)
   pub reached : (v : ℕ) (es : List ℕ) → Reaches g v es → is-some (getD depths v none) ≡ true
 
+-- the tallies of a result, with so many cells still full: none where it is "empty"
+pub record Result-tallied (c : Case) (r : Outcome) : Type 0 where
+  pub full : ℕ
+  pub balanced : Balanced (tallies-of r) full
+  pub none-full : r .verdict ≡ empty-verdict → full ≡ 0
+  pub few-sent : r .sent ≤ most-sent c
+
 pub record Result-right (bs : List ℕ) (r : Outcome) (z : List ℕ) : Type 0 where
   pub verdict : True-verdict (case-in bs .graph) (r .verdict)
   pub lasso : r .verdict ≡ lasso-verdict → Shows-lasso (case-in bs .graph) (take (r .written) z)
   pub empty : r .verdict ≡ empty-verdict → Shows-distances (case-in bs .graph) (take (r .written) z)
   pub acts : r .acts ≤ most-acts (case-in bs)
+  pub tallies : Result-tallied (case-in bs) r
   pub passes : (check-refusal bs (take (r .written) z) ≡ 0) × (answer-verdict (take (r .written) z) ≡ r .verdict)
 
 unfoldable pub Runs-right : Type 0
@@ -200,15 +224,22 @@ Rounds-as-list =
     List-says bs (whole-rounds k (case-in bs)) r o z w v
 
 -- "Refusal 10 is given exactly when the list leaves the run unended and no other refusal applies"; so it comes only
--- with fewer acts than the bound, and never by rounds; "10 returns the acts counted"
+-- with fewer acts than the bound, and never by rounds; "10 returns the acts counted", and the tallies are in balance
+-- "also when 10 is returned"
 pub record Ten (bs xs : List ℕ) (r : Outcome) (output work : ℕ) : Type 0 where
   pub only : r .refusal ≡ 10 → (list-refusal bs xs output work ≡ 0) × (has-ended (by-list (case-in bs) xs) ≡ false)
   pub always : list-refusal bs xs output work ≡ 0 → has-ended (by-list (case-in bs) xs) ≡ false → r .refusal ≡ 10
   pub below : r .refusal ≡ 10 → r .acts < most-acts (case-in bs)
   pub counted : r .refusal ≡ 10 → r .acts ≡ acts-done (case-in bs) xs (fresh (case-in bs))
+  pub balanced : r .refusal ≡ 10 → Balanced (tallies-of r) (full-cells (by-list (case-in bs) xs .cells))
+  pub few-sent : r .refusal ≡ 10 → r .sent ≤ most-sent (case-in bs)
 
 unfoldable pub Ten-exactly : Type 0
 Ten-exactly = (bs xs : List ℕ) (r : Outcome) (o z : List ℕ) (w v : List ℤ) → List-says bs xs r o z w v → Ten bs xs r (length o) (length w)
 
 unfoldable pub Rounds-never-ten : Type 0
 Rounds-never-ten = (bs : List ℕ) (r : Outcome) (o z : List ℕ) (w v : List ℤ) → Rounds-say bs r o z w v → r .refusal ≡ 10 → ⊥
+
+-- by rounds every cell is empty when a round begins and gets one offer at most in it, so no message joins
+unfoldable pub Rounds-join-none : Type 0
+Rounds-join-none = (bs : List ℕ) (r : Outcome) (o z : List ℕ) (w v : List ℤ) → Rounds-say bs r o z w v → r .joined ≡ 0

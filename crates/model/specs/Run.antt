@@ -11,8 +11,25 @@ use lib.IntN.{ℤ, pos, negℤ}
 use Rattle.model.specs.Graph.{edge, edge-depth, accepting-count}
 use Rattle.model.specs.Case.{Case, owner, most-acts}
 
--- by vertex: depth and parent edge; by worker: its queue, head first; by edge: the message in its cell;
--- the vertex that broke the floor, whether the run ended as "empty", the acts counted
+-- TALLIES. "Three tallies: sent, delivered, joined": offers put into cells, those that join included; messages
+-- delivered; offers put where a message waited
+pub record Tallies : Type 0 where
+  pub sent : ℕ
+  pub delivered : ℕ
+  pub joined : ℕ
+
+abbrev pub no-tallies : Tallies
+no-tallies = record { sent = 0; delivered = 0; joined = 0 }
+
+-- an offer is put into a cell, and joins the message there or not; a cell is emptied by a delivery
+abbrev pub put-one : (joins : Bool) → Tallies → Tallies
+put-one b t = record { sent = t .sent + 1; delivered = t .delivered; joined = cond b (t .joined + 1) (t .joined) }
+
+abbrev pub deliver-one : Tallies → Tallies
+deliver-one t = record { sent = t .sent; delivered = t .delivered + 1; joined = t .joined }
+
+-- THE STATE of a run. By vertex: depth and parent edge; by worker: its queue, head first; by edge: the message in its
+-- cell; the vertex that broke the floor, whether the run ended as "empty", the acts counted, the tallies
 pub record State : Type 0 where
   pub depths : List (Option ℕ)
   pub parents : List (Option ℕ)
@@ -21,6 +38,7 @@ pub record State : Type 0 where
   pub broken : Option ℕ
   pub ended-empty : Bool
   pub count : ℕ
+  pub tallies : Tallies
 
 -- the signed distance that a depth stands for
 unfoldable pub distance : (depth : ℕ) → ℤ
@@ -50,15 +68,16 @@ fresh c =
       broken = none;
       ended-empty = false;
       count = 0;
+      tallies = no-tallies;
     }
 
 abbrev pub with-queues : List (List ℕ) → State → State
 with-queues qs x =
-    record { depths = x .depths; parents = x .parents; queues = qs; cells = x .cells; broken = x .broken; ended-empty = x .ended-empty; count = x .count }
+    record { depths = x .depths; parents = x .parents; queues = qs; cells = x .cells; broken = x .broken; ended-empty = x .ended-empty; count = x .count; tallies = x .tallies }
 
-abbrev pub with-cells : List (Option ℕ) → State → State
-with-cells os x =
-    record { depths = x .depths; parents = x .parents; queues = x .queues; cells = os; broken = x .broken; ended-empty = x .ended-empty; count = x .count }
+abbrev pub with-cells : List (Option ℕ) → Tallies → State → State
+with-cells os t x =
+    record { depths = x .depths; parents = x .parents; queues = x .queues; cells = os; broken = x .broken; ended-empty = x .ended-empty; count = x .count; tallies = t }
 
 -- RELAXING an edge (01: trying an offer). "If the target has no distance or a greater one, it takes the offer, its
 -- parent becomes that edge, and it joins the tail of its owner's queue unless it is there"
@@ -88,19 +107,20 @@ taken c e o x =
       broken = below-floor (accepting-count (c .graph)) v o;
       ended-empty = x .ended-empty;
       count = x .count;
+      tallies = x .tallies;
     }
 
 unfoldable pub relax : Case → (e offer : ℕ) → State → State
 relax c e o x = cond (takes (getD (x .depths) (edge (c .graph) e .to) none) o) (taken c e o x) x
 
 -- SENDING. "An edge to another owner puts the offer in its cell; if a message waits there, the lower of the two
--- remains"
+-- remains". "Putting an offer in a cell must now say whether it joined a waiting message"
 unfoldable pub lower : (waiting : Option ℕ) → (offer : ℕ) → ℕ
 lower none o = o
 lower (some k) o = cond (ltb k o) o k
 
 abbrev pub send : (e offer : ℕ) → State → State
-send e o x = with-cells (set (x .cells) e (some (lower (getD (x .cells) e none) o))) x
+send e o x = let waiting = getD (x .cells) e none in with-cells (set (x .cells) e (some (lower waiting o))) (put-one (is-some waiting) (x .tallies)) x
 
 -- SCANNING. "Its edges follow in number order, each offering that distance plus the edge's length. An edge to a
 -- vertex of the same owner is tried on the spot." Nothing more is done once the floor is broken, "even in the middle
@@ -129,6 +149,18 @@ unfoldable pub no-message : (cells : List (Option ℕ)) → Bool
 no-message [] = true
 no-message (o ∷ os) = not (is-some o) && no-message os
 
+-- how many cells have a message, "cells still full"
+unfoldable pub one-if : (message : Option ℕ) → ℕ
+one-if none = 0
+one-if (some o) = 1
+
+unfoldable pub sum-of : {A : Type 0} → (A → ℕ) → List A → ℕ
+sum-of f [] = 0
+sum-of f (a ∷ l) = f a + sum-of f l
+
+abbrev pub full-cells : (cells : List (Option ℕ)) → ℕ
+full-cells os = sum-of one-if os
+
 abbrev pub counted : State → State
 counted x =
     record {
@@ -139,6 +171,7 @@ counted x =
       broken = x .broken;
       ended-empty = not (ended-lasso x) && (no-vertex (x .queues) && no-message (x .cells));
       count = suc (x .count);
+      tallies = x .tallies;
     }
 
 -- TURN. "The head of the worker's queue is taken off and scanned. Its distance is read once, at the start"; "a turn
@@ -154,11 +187,15 @@ turn-of c w (v ∷ q) x = counted (scan c v (depth-or (getD (x .depths) v none))
 unfoldable pub turn : Case → (w : ℕ) → State → State
 turn c w x = turn-of c w (getD (x .queues) w []) x
 
--- DELIVERY. "The cell is emptied and its offer tried"; "a delivery from an empty cell or one on an edge that has no
+-- DELIVERY: the cell's message is counted as delivered, whether its offer is taken or not
+abbrev pub emptied : (e : ℕ) → State → State
+emptied e x = with-cells (set (x .cells) e none) (deliver-one (x .tallies)) x
+
+-- "The cell is emptied and its offer tried"; "a delivery from an empty cell or one on an edge that has no
 -- cell is idle". Within one owner no message is ever sent, so that edge's cell stays empty
 unfoldable pub delivery-of : Case → (e : ℕ) → (message : Option ℕ) → State → State
 delivery-of c e none x = x
-delivery-of c e (some o) x = counted (relax c e o (with-cells (set (x .cells) e none) x))
+delivery-of c e (some o) x = counted (relax c e o (emptied e x))
 
 unfoldable pub delivery : Case → (e : ℕ) → State → State
 delivery c e x = delivery-of c e (getD (x .cells) e none) x

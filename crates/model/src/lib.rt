@@ -1,12 +1,16 @@
 // What the entries return. All else of this crate is definitions (specs/) and their proofs (proofs/).
 
-// Of a run: refusal 0 or its number; the verdict; the acts counted; the answer's length.
+// Of a run: refusal 0 or its number; the verdict; the acts counted; the answer's length; the offers put into message
+// cells, the messages delivered, the offers that joined a waiting message.
 #[repr(C)]
 pub struct Outcome {
     pub refusal: u32,
     pub verdict: u32,
-    pub acts: u32,
+    pub acts: u64,
     pub written: u32,
+    pub sent: u32,
+    pub delivered: u32,
+    pub joined: u32,
 }
 
 impl Outcome {
