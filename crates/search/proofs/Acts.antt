@@ -14,36 +14,50 @@ use lib.Seq.{drop-cons}
 use lib.IntN.{ℤ, pos}
 use lib.Signed.{ltZ}
 use Rattle.model.specs.Case.{Case, most-vertices, most-edges, Sound, Within}
-use Rattle.model.specs.Run.{State, is-some, ended-lasso, has-ended, with-queues, with-cells, relax, scan, no-vertex, no-message, counted, depth-or, turn-of, turn, delivery-of, delivery, act, acted, Moment}
+use Rattle.model.specs.Run.{Tallies, deliver-one, State, is-some, ended-lasso, has-ended, with-queues, emptied, one-if, sum-of, full-cells, relax, scan, no-vertex, no-message, counted, depth-or, turn-of, turn, delivery-of, delivery, act, acted, Moment}
 use Rattle.model.proofs.Shapes.{head-depth}
 use Rattle.model.proofs.Fits.{accepting-few}
 use Rattle.model.proofs.Few.{few}
 use Rattle.model.proofs.Findings.{moment-known}
 use Rattle.model.proofs.ActRules.{moment-act}
-use Rattle.model.proofs.Bounds.{most-acts-within}
+use Rattle.model.proofs.Bounds.{most-acts-within, most-sent-within}
+use Rattle.model.proofs.Tallied.{moment-tallied}
+use Rattle.model.proofs.Tools.{sum-of-set, one-none, one-some, no-message-is}
 use Rattle.search.specs.declared.run.Run.{Run}
 use Rattle.search.specs.Cells.{far, more, message-at}
-use Rattle.search.specs.Rep.{Rep, busy, one-if, tally, link}
-use Rattle.search.specs.Asks.{counted-run, over}
+use Rattle.search.specs.Rep.{Rep, tallies-in, busy, link}
+use Rattle.search.specs.Asks.{Room, counted-run, over}
 use Rattle.search.proofs.Stores.{held-cell}
-use Rattle.search.proofs.Numbers.{tally-set}
 
--- COUNTS fit 32 bits
+-- COUNTS fit 32 bits, and so do the tallies after one delivery or one scan more
 pub count-small : (c : Case) (x : State) → Sound c → Within c → Moment c x → x .count < 2 ^ 32 - 1
 count-small c x ok l m = omega (arith, few c ok x (moment-known c ok x m .paid) .0, most-acts-within c most-vertices most-edges ok (l .vertices) (l .edges))
 
+sent-small : (c : Case) (x : State) → Sound c → Within c → Moment c x → (x .tallies .sent + most-edges < 2 ^ 32) × (x .tallies .delivered + x .tallies .joined ≤ x .tallies .sent)
+sent-small c x ok l m =
+    let t = moment-tallied c ok x m in
+    (omega (arith, t .few-sent, most-sent-within c most-vertices most-edges ok (l .vertices) (l .edges)), omega (arith, t .balanced))
+
+module _ (c : Case) (x : State) (k : Run) (ok : Sound c) (l : Within c) (m : Moment c x) (t : tallies-in k ≡ x .tallies) where
+  pub scan-room : Room (length (c .graph .edges)) k
+  scan-room =
+      let s = sent-small c x ok l m in
+      let p : k .sent ≡ x .tallies .sent = ap (λ (t : Tallies). t .sent) t in
+      let q : k .joined ≡ x .tallies .joined = ap (λ (t : Tallies). t .joined) t in
+      record { sent = omega (arith, s .0, l .edges); joined = omega (arith, s .0, s .1, l .edges) }
+
+  pub delivery-room : k .delivered + 1 < 2 ^ 32
+  delivery-room =
+      let s = sent-small c x ok l m in
+      let p : k .delivered ≡ x .tallies .delivered = ap (λ (t : Tallies). t .delivered) t in
+      omega (arith, s .0, s .1)
+
 -- NOTHING WAITS where the counters are 0
-no-vertex-is : (qs : List (List ℕ)) → eqb (tally busy qs) 0 ≡ no-vertex qs
-unfolding tally busy no-vertex
+no-vertex-is : (qs : List (List ℕ)) → eqb (sum-of busy qs) 0 ≡ no-vertex qs
+unfolding sum-of busy no-vertex
 no-vertex-is [] = refl
 no-vertex-is ([] ∷ qs) = rw zero-add (no-vertex-is qs)
-no-vertex-is ((v ∷ q) ∷ qs) = rw (one-add, eqb·suc-zero (tally busy qs), eqb·suc-zero (length q))
-
-no-message-is : (os : List (Option ℕ)) → eqb (tally one-if os) 0 ≡ no-message os
-unfolding tally one-if no-message is-some
-no-message-is [] = refl
-no-message-is (none ∷ os) = rw zero-add (no-message-is os)
-no-message-is (some d ∷ os) = rw (one-add, eqb·suc-zero)
+no-vertex-is ((v ∷ q) ∷ qs) = rw (one-add, eqb·suc-zero (sum-of busy qs), eqb·suc-zero (length q))
 
 not-broken-is : (o : Option ℕ) → eqb (more o) 0 ≡ not (is-some o)
 unfolding is-some
@@ -64,6 +78,7 @@ counted-rep c x k w rep =
         queued = q .queued;
         full = q .full;
         acts = add-one (k .acts) ∙ ap suc (q .acts);
+        tallied = q .tallied;
         broke = q .broke;
         marks = q .marks;
         over = rw (q .broke, q .queued, q .full, not-broken-is, no-vertex-is, no-message-is);
@@ -81,7 +96,7 @@ over-is c x k w rep = rw (rep .counted .broke, rep .counted .over, not-broken-is
 
 -- no cell is full where the counter is 0
 pub none-full : (c : Case) (x : State) (k : Run) (w : List ℤ) → Rep c x k w → k .full ≡ 0 → no-message (x .cells) ≡ true
-none-full c x k w rep e = sym (no-message-is (x .cells)) ∙ eq-eqb (tally one-if (x .cells)) 0 (sym (rep .counted .full) ∙ e)
+none-full c x k w rep e = sym (no-message-is (x .cells)) ∙ eq-eqb (full-cells (x .cells)) 0 (sym (rep .counted .full) ∙ e)
 
 -- TURNS
 pub link-none : (q : List ℕ) → link q ≡ 1 → q ≡ []
@@ -115,28 +130,34 @@ pub delivery-none : (c : Case) (e : ℕ) (x : State) → getD (x .cells) e none 
 unfolding delivery delivery-of
 delivery-none c e x h = rw h
 
-pub delivery-some : (c : Case) (e o : ℕ) (x : State) → getD (x .cells) e none ≡ some o → delivery c e x ≡ counted (relax c e o (with-cells (set (x .cells) e none) x))
+pub delivery-some : (c : Case) (e o : ℕ) (x : State) → getD (x .cells) e none ≡ some o → delivery c e x ≡ counted (relax c e o (emptied e x))
 unfolding delivery delivery-of
 delivery-some c e o x h = rw h
 
-one-some : (o : ℕ) → one-if (some o) ≡ 1
-unfolding one-if
-one-some o = refl
-
-one-none : one-if none ≡ 0
-unfolding one-if
-one-none = refl
+-- the counters once a message is delivered
+abbrev pub emptied-run : Run → Run
+emptied-run k =
+    record {
+      queued = k .queued;
+      full = k .full - 1;
+      acts = k .acts;
+      sent = k .sent;
+      delivered = k .delivered + 1;
+      joined = k .joined;
+      broken = k .broken;
+      marks = k .marks;
+      ended = k .ended;
+    }
 
 module _ (c : Case) (x : State) (k : Run) (w : List ℤ) (e o : ℕ) (rep : Rep c x k w) (below : e < length (c .graph .edges)) (there : getD (x .cells) e none ≡ some o) where
   pub some-full : 1 ≤ k .full
   some-full =
       let f : e < length (x .cells) = omega (arith, rep .held .cells .sized) in
       let z : one-if (getD (x .cells) e none) ≡ 1 = rw there (one-some o) in
-      omega (arith, tally-set one-if (x .cells) e none none f, one-none, rep .counted .full)
+      omega (arith, sum-of-set one-if (x .cells) e none none f, one-none, rep .counted .full)
 
-  pub cell-emptied : (n : ℕ) → n + 1 ≡ k .full
-      → Rep c (with-cells (set (x .cells) e none) x) (record { queued = k .queued; full = n; acts = k .acts; broken = k .broken; marks = k .marks; ended = k .ended }) (set w (message-at + e) (pos 1))
-  cell-emptied n h =
+  pub cell-emptied : Rep c (emptied e x) (emptied-run k) (set w (message-at + e) (pos 1))
+  cell-emptied =
       let f : e < length (x .cells) = omega (arith, rep .held .cells .sized) in
       let z : one-if (getD (x .cells) e none) ≡ 1 = rw there (one-some o) in
       let q = rep .counted in
@@ -148,8 +169,9 @@ module _ (c : Case) (x : State) (k : Run) (w : List ℤ) (e o : ℕ) (rep : Rep 
         lined = rep .lined;
         counted = record {
           queued = q .queued;
-          full = omega (arith, tally-set one-if (x .cells) e none none f, one-none, q .full);
+          full = omega (arith, sum-of-set one-if (x .cells) e none none f, one-none, q .full, some-full);
           acts = q .acts;
+          tallied = ap deliver-one (q .tallied);
           broke = q .broke;
           marks = q .marks;
           over = q .over;

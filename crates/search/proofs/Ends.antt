@@ -114,14 +114,14 @@ module _ {c : Case} {x : State} {k : Run} {n s : ℕ} {w : List ℤ} {o : List �
   unfolding zeros
   zeros-kept u v e l = e ∙ ap (λ (j : ℕ). replicate j (pos 0)) l
 
-  pub cut-short : {v : List ℤ} → over k ≡ false → v ≡ zeros w → Run-says 0 (has-ended x) c x (record { refusal = 10; verdict = 0; acts = k .acts; written = 0 }) o o w v
+  pub cut-short : {v : List ℤ} → over k ≡ false → v ≡ zeros w → Run-says 0 (has-ended x) c x (record { refusal = 10; verdict = 0; acts = k .acts; written = 0; sent = k .sent; delivered = k .delivered; joined = k .joined }) o o w v
   unfolding Run-says
-  cut-short e z = rw (over-is c x k w (g .rep) ∙ e) (record { refusal = refl; verdict = refl; acts = g .rep .counted .acts; written = refl; output = refl; work = z })
+  cut-short e z = rw (over-is c x k w (g .rep) ∙ e) (record { refusal = refl; verdict = refl; acts = g .rep .counted .acts; written = refl; tallies = g .rep .counted .tallied; output = refl; work = z })
 
   pub finished : {r : ℕ} (u : List ℤ) {v : List ℤ} {z : List ℕ} → over k ≡ true → Answers (answer (c .graph) x) r o z → v ≡ zeros u → length u ≡ length w →
-      Run-says 0 (has-ended x) c x (record { refusal = 0; verdict = verdict-of k; acts = k .acts; written = r }) o z w v
+      Run-says 0 (has-ended x) c x (record { refusal = 0; verdict = verdict-of k; acts = k .acts; written = r; sent = k .sent; delivered = k .delivered; joined = k .joined }) o z w v
   unfolding Run-says
-  finished u e a z l = rw (over-is c x k w (g .rep) ∙ e) (record { refusal = refl; verdict = verdict-is; acts = g .rep .counted .acts; written = a .written; output = a .output; work = zeros-kept u _ z l })
+  finished u e a z l = rw (over-is c x k w (g .rep) ∙ e) (record { refusal = refl; verdict = verdict-is; acts = g .rep .counted .acts; written = a .written; tallies = g .rep .counted .tallied; output = a .output; work = zeros-kept u _ z l })
 
 -- THE FUNCTIONS of src/finish.rt: the lasso is shown, then written
 pub above-none : (k : ℕ) → (k ≡ 0 → ⊥) → 1 ≤ k
@@ -164,9 +164,9 @@ distances-at g = let l = g .rep .held .laid in record { few = omega (arith, g .v
 pub done-written : {c : Case} {x : State} {k : Run} {n s r : ℕ} {w : List ℤ} {o z : List ℕ} → Gone c x k n s w o → over k ≡ true → Answer-done k n s r w o z → r ≤ least-output
 done-written {c} {x} {k} {w = w} g e a = omega (arith, a .answers c x g (over-is c x k w (g .rep) ∙ e) .written, fits-least g)
 
-pub finish-cut : (k : Run) {n s : ℕ} {w v : List ℤ} {o : List ℕ} → over k ≡ false → v ≡ zeros w → Finish-says k n s (record { refusal = 10; verdict = 0; acts = k .acts; written = 0 }) w v o o
+pub finish-cut : (k : Run) {n s : ℕ} {w v : List ℤ} {o : List ℕ} → over k ≡ false → v ≡ zeros w → Finish-says k n s (record { refusal = 10; verdict = 0; acts = k .acts; written = 0; sent = k .sent; delivered = k .delivered; joined = k .joined }) w v o o
 finish-cut k e z = record { says = λ c x g. cut-short g e z }
 
 pub finish-done : {k : Run} {n s r : ℕ} {w : List ℤ} (u : List ℤ) {v : List ℤ} {o z : List ℕ} {t : ℕ} → over k ≡ true → Answer-done k n s r w o z → v ≡ zeros u → length u ≡ length w → t ≡ verdict-of k →
-    Finish-says k n s (record { refusal = 0; verdict = t; acts = k .acts; written = r }) w v o z
+    Finish-says k n s (record { refusal = 0; verdict = t; acts = k .acts; written = r; sent = k .sent; delivered = k .delivered; joined = k .joined }) w v o z
 finish-done {k} {w = w} u e a z l q = record { says = λ c x g. rw q (finished g u e (a .answers c x g (over-is c x k w (g .rep) ∙ e)) z l) }

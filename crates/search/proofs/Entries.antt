@@ -101,7 +101,7 @@ no-acts s = go (case-refusal s)
 refused-so : (k j : ℕ) (b : Bool) (c : model.Case) (x : State) (o : List ℕ) (w : List ℤ) → k ≡ j → 0 < j → Run-says k b c x (refused-by j) o o w w
 unfolding Run-says
 refused-so zero j b c x o w e n = absurd (omega arith)
-refused-so (suc k) j b c x o w e n = record { refusal = sym e; verdict = refl; acts = refl; written = refl; output = refl; work = refl }
+refused-so (suc k) j b c x o w e n = record { refusal = sym e; verdict = refl; acts = refl; written = refl; tallies = refl; output = refl; work = refl }
 
 module _ (s xs : List ℕ) (o : List ℕ) (w : List ℤ) where
   pub list-short : (ltb (length o) least-output || ltb (length w) least-work) ≡ true → List-says s xs (refused-by 11) o o w w
@@ -253,8 +253,8 @@ module _ (s xs : List ℕ) (c : Case) (marks : ℕ) (w w₁ : List ℤ) (l : Cas
       -- the cells' length alone counts in what is said of them
       as-lent : length w₃ ≡ length w → (b : Bool) (x : State) (r : Outcome) (z : List ℕ) (v : List ℤ) → Run-says 0 b (case-in s) x r o z w₃ v → Run-says 0 b (case-in s) x r o z w v
       unfolding Run-says zeros
-      as-lent long true x r z v t = record { refusal = t .refusal; verdict = t .verdict; acts = t .acts; written = t .written; output = t .output; work = t .work ∙ ap (λ (j : ℕ). replicate j (pos 0)) long }
-      as-lent long false x r z v t = record { refusal = t .refusal; verdict = t .verdict; acts = t .acts; written = t .written; output = t .output; work = t .work ∙ ap (λ (j : ℕ). replicate j (pos 0)) long }
+      as-lent long true x r z v t = record { refusal = t .refusal; verdict = t .verdict; acts = t .acts; written = t .written; tallies = t .tallies; output = t .output; work = t .work ∙ ap (λ (j : ℕ). replicate j (pos 0)) long }
+      as-lent long false x r z v t = record { refusal = t .refusal; verdict = t .verdict; acts = t .acts; written = t .written; tallies = t .tallies; output = t .output; work = t .work ∙ ap (λ (j : ℕ). replicate j (pos 0)) long }
 
       right : case-refusal s ≡ 0
       right = eqb-true (case-refusal s) 0 (unfold accepted in (l .taken))

@@ -3,17 +3,17 @@ use mathlib.Core.Path.{_≡_, refl, sym, ap, _∙_}
 use mathlib.Core.Bool.{false, true}
 use mathlib.Core.List.{List, []}
 use mathlib.Core.Option.{none, some}
-use Prim.Native.Nat.{ℕ, zero, suc, _+_, _<_}
+use Prim.Native.Nat.{ℕ, _+_, _<_}
 use native.Mathlib.Omega.{arith}
 use lib.ListN.{length, getD, set, replicate, length-replicate, getD-replicate}
 use lib.IntN.{ℤ, pos}
 use Rattle.model.specs.Graph.{accepting-count}
 use Rattle.model.specs.Case.{Case, owner, most-vertices, most-edges, most-workers}
-use Rattle.model.specs.Run.{State, member, enqueue, fresh, with-queues}
-use Rattle.model.proofs.Tools.{getD-replicate-same}
+use Rattle.model.specs.Run.{State, one-if, member, enqueue, fresh, with-queues}
+use Rattle.model.proofs.Tools.{sum-of-none, one-none, getD-replicate-same}
 use Rattle.search.specs.declared.run.Run.{Run}
 use Rattle.search.specs.Cells.{Region, Filled, far, by-more, distance-at, parent-at, link-at, message-at, head-at, tail-at}
-use Rattle.search.specs.Rep.{Laid, Table, Lined, Rep, busy, one-if, tally}
+use Rattle.search.specs.Rep.{Laid, Table, Lined, Rep, busy}
 use Rattle.search.specs.Asks.{blank, blank-run}
 use Rattle.search.proofs.Stores.{held-depth}
 
@@ -28,11 +28,6 @@ table-blank code d a base n w f =
       region = record { each = λ i h. let l : i < n = omega (arith, length-replicate n a) in f i l ∙ ap code (sym (getD-replicate n i a d l)) };
     }
 
-tally-none : {A : Type 0} (f : A → ℕ) (a : A) (n : ℕ) → f a ≡ 0 → tally f (replicate n a) ≡ 0
-unfolding tally
-tally-none f a zero h = refl
-tally-none f a (suc n) h = rw (h, tally-none f a n h)
-
 no-member : (v : ℕ) → member v [] ≡ false
 unfolding member
 no-member v = refl
@@ -40,10 +35,6 @@ no-member v = refl
 busy-none : busy [] ≡ 0
 unfolding busy
 busy-none = refl
-
-one-none : one-if none ≡ 0
-unfolding one-if
-one-none = refl
 
 lined-blank : (c : Case) → Lined c (replicate (c .workers) []) (replicate (c .graph .vertices) 0) (replicate (c .workers) 1) (replicate (c .workers) 0)
 lined-blank c =
@@ -107,9 +98,10 @@ module _ (c : Case) (w w1 w2 w3 w4 w5 w6 : List ℤ) (laid : Laid c w) (f1 : Fil
         };
         lined = lined-blank c;
         counted = record {
-          queued = sym (tally-none busy [] (c .workers) busy-none);
-          full = sym (tally-none one-if none (length (c .graph .edges)) one-none);
+          queued = sym (sum-of-none busy [] (c .workers) busy-none);
+          full = sym (sum-of-none one-if none (length (c .graph .edges)) one-none);
           acts = refl;
+          tallied = refl;
           broke = refl;
           marks = refl;
           over = refl;
@@ -120,7 +112,7 @@ module _ (c : Case) (w w1 w2 w3 w4 w5 w6 : List ℤ) (laid : Laid c w) (f1 : Fil
 abbrev pub started : Case → (s : ℕ) → State
 started c s =
     let x = blank c in
-    record { depths = set (x .depths) s (some 0); parents = x .parents; queues = x .queues; cells = x .cells; broken = x .broken; ended-empty = x .ended-empty; count = x .count }
+    record { depths = set (x .depths) s (some 0); parents = x .parents; queues = x .queues; cells = x .cells; broken = x .broken; ended-empty = x .ended-empty; count = x .count; tallies = x .tallies }
 
 pub rep-started : (c : Case) (k : Run) (w : List ℤ) (s : ℕ) → Rep c (blank c) k w → s < c .graph .vertices → Rep c (started c s) k (set w (distance-at + s) (pos 0))
 rep-started c k w s rep h =

@@ -1,22 +1,21 @@
 -- Offers compared as signed numbers; full cells and busy queues counted. Assumes nothing.
 use mathlib.Core.Path.{_≡_, refl, _∙_}
-use mathlib.Core.Bool.{Bool, true, false}
+use mathlib.Core.Bool.{Bool, true, false, not, cond}
 use mathlib.Core.List.{List, [], _∷_, _++_}
 use mathlib.Core.Option.{Option, none, some}
-use Prim.Native.Nat.{ℕ, zero, suc, _+_, _≤_, _<_}
-use native.Mathlib.Nat.{not-suc-le-zero, le-of-suc-le-suc}
+use Prim.Native.Nat.{ℕ, zero, suc, _≤_}
 use native.Mathlib.Omega.{arith}
 use lib.Dec.{ltb}
-use lib.ListN.{length, getD, set}
+use lib.ListN.{length, set}
 use lib.IntN.{ℤ, pos, negℤ}
 use lib.Signed.{ltZ}
 use mir.Syntax.{w32}
 use mir.Val.{SFits, toZ, ofZ}
 use mir.Facts.{toZ-ofZ}
-use Rattle.model.specs.Run.{takes}
+use Rattle.model.specs.Run.{is-some, takes, lower, one-if, sum-of}
 use Rattle.model.proofs.Signs.{deeper-lt}
 use Rattle.search.specs.Cells.{far}
-use Rattle.search.specs.Rep.{tally, busy, one-if}
+use Rattle.search.specs.Rep.{busy}
 
 below-none : (a : ℕ) → ltZ (negℤ (pos a)) (pos 1) ≡ true
 below-none zero = refl
@@ -28,26 +27,34 @@ unfolding takes
 takes-is none d = below-none d
 takes-is (some k) d = deeper-lt d k
 
+-- the lower of an offer and what waits, by their codes
+pub least-is : (o : Option ℕ) (d : ℕ) → cond (ltZ (negℤ (pos d)) (far o)) (negℤ (pos d)) (far o) ≡ far (some (lower o d))
+unfolding takes lower
+least-is o d = rw (takes-is o d) (go o)
+  where
+    go : (o : Option ℕ) → cond (takes o d) (negℤ (pos d)) (far o) ≡ far (some (lower o d))
+    go none = refl
+    go (some k) = either (ltb k d)
+      where
+        either : (b : Bool) → cond b (negℤ (pos d)) (negℤ (pos k)) ≡ negℤ (pos (cond b d k))
+        either true = refl
+        either false = refl
+
+pub some-is : (o : Option ℕ) → not (ltZ (pos 0) (far o)) ≡ is-some o
+unfolding is-some
+some-is none = refl
+some-is (some zero) = refl
+some-is (some (suc k)) = refl
+
 pub none-is : (o : Option ℕ) → ltZ (pos 0) (far o) ≡ true → o ≡ none
 none-is none h = refl
 none-is (some zero) h = cc
 none-is (some (suc k)) h = cc
 
-pub some-is : (o : Option ℕ) → ltZ (pos 0) (far o) ≡ false → one-if o ≡ 1
-unfolding one-if
-some-is none h = cc
-some-is (some k) h = refl
-
-pub tally-set : {A : Type 0} (f : A → ℕ) (l : List A) (i : ℕ) (a d : A) → i < length l → tally f (set l i a) + f (getD l i d) ≡ tally f l + f a
-unfolding tally
-tally-set f [] i a d h = absurd (not-suc-le-zero h)
-tally-set f (o ∷ l) zero a d h = omega arith
-tally-set f (o ∷ l) (suc i) a d h = omega (arith, tally-set f l i a d (le-of-suc-le-suc h))
-
-pub tally-le : {A : Type 0} (f : A → ℕ) → ((a : A) → f a ≤ 1) → (l : List A) → tally f l ≤ length l
-unfolding tally
-tally-le f h [] = omega arith
-tally-le f h (o ∷ l) = omega (arith, h o, tally-le f h l)
+pub sum-of-le : {A : Type 0} (f : A → ℕ) → ((a : A) → f a ≤ 1) → (l : List A) → sum-of f l ≤ length l
+unfolding sum-of
+sum-of-le f h [] = omega arith
+sum-of-le f h (o ∷ l) = omega (arith, h o, sum-of-le f h l)
 
 pub one-le : (o : Option ℕ) → one-if o ≤ 1
 unfolding one-if

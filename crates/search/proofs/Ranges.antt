@@ -1,5 +1,5 @@
 -- Ranges: a vertex's own edges are a range of numbers, and a scan of that range is the whole scan. Assumes nothing.
-use mathlib.Core.Path.{_≡_, refl, sym, _∙_}
+use mathlib.Core.Path.{_≡_, refl, sym, ap, _∙_}
 use mathlib.Core.Bool.{Bool, true, false, not, _||_, cond}
 use mathlib.Core.Logic.{_⊎_, inl, inr}
 use Prim.Native.Nat.{ℕ, zero, suc, _+_, _-_, _≤_, _<_}
@@ -7,15 +7,19 @@ use native.Mathlib.Omega.{arith}
 use native.Mathlib.Nat.{zero-add, add-zero}
 use native.Mathlib.Numerals.{add-one}
 use mathlib.Core.List.{List}
+use mathlib.Core.Option.{Option, none, some}
 use borrow.Author.Tests.{ne-eqb}
-use lib.ListN.{length, getD}
+use lib.Dec.{eqb}
+use lib.ListN.{length, getD, set}
 use lib.IntN.{ℤ, pos}
 use Rattle.model.specs.Graph.{edge, edge-depth, mark}
-use Rattle.model.specs.Case.{Case, most-edges}
-use Rattle.model.specs.Run.{State, is-some, ended-lasso, scan-edge, scan-from, scan}
+use Rattle.model.specs.Case.{Case, owner, most-edges}
+use Rattle.model.specs.Run.{Tallies, put-one, State, is-some, ended-lasso, with-cells, relax, lower, scan-edge, scan-from, scan}
 use Rattle.search.specs.declared.run.Run.{Run}
 use Rattle.search.specs.Cells.{Below, first-at}
 use Rattle.search.specs.Rep.{Laid, Firsts, Rep}
+use Rattle.search.specs.Asks.{Room}
+use Rattle.model.proofs.Few.{relax-tallies}
 use Rattle.search.proofs.Regions.{below-or}
 
 -- FIRST EDGES
@@ -125,6 +129,33 @@ module _ (c : Case) (x : State) (v o a b : ℕ) (own : Own c v a b) where
       let m = length (c .graph .edges) in
       let s = skip (m - e) e 0 c v o (h .at) (λ j p q. own .after j (omega arith) (omega (arith, own .below))) in
       rw (← h .rest, (rw (add-zero (m - e), scan-none) at s)) (h .rep)
+
+-- an edge of a scan sends one offer at most, so there is room for the offers of those that are left
+edge-few : (c : Case) (v o e : ℕ) (x : State) → (scan-edge c v o e x .tallies .sent ≤ x .tallies .sent + 1) × (scan-edge c v o e x .tallies .joined ≤ x .tallies .joined + 1)
+unfolding scan-edge
+edge-few c v o e x = go (ended-lasso x || not (eqb (edge (c .graph) e .from) v)) (eqb (owner c (edge (c .graph) e .to)) (owner c v)) (is-some (getD (x .cells) e none))
+  where
+    d : ℕ
+    d = o + edge-depth (c .graph) e
+
+    waiting : Option ℕ
+    waiting = getD (x .cells) e none
+
+    go : (a b j : Bool) → let y = cond a x (cond b (relax c e d x) (with-cells (set (x .cells) e (some (lower waiting d))) (put-one j (x .tallies)) x)) in
+        (y .tallies .sent ≤ x .tallies .sent + 1) × (y .tallies .joined ≤ x .tallies .joined + 1)
+    go true b j = (omega arith, omega arith)
+    go false true j = rw (relax-tallies c e d x) (omega arith, omega arith)
+    go false false true = (omega arith, omega arith)
+    go false false false = (omega arith, omega arith)
+
+pub room-step : {c : Case} {x : State} {k k′ : Run} {w w′ : List ℤ} (v o e n : ℕ) → Rep c x k w → Rep c (scan-edge c v o e x) k′ w′ → Room (n + 1) k → Room n k′
+room-step {c} {x} {k} {k′} v o e n p q r =
+    let f = edge-few c v o e x in
+    let s : k .sent ≡ x .tallies .sent = ap (λ (t : Tallies). t .sent) (p .counted .tallied) in
+    let j : k .joined ≡ x .tallies .joined = ap (λ (t : Tallies). t .joined) (p .counted .tallied) in
+    let s′ : k′ .sent ≡ scan-edge c v o e x .tallies .sent = ap (λ (t : Tallies). t .sent) (q .counted .tallied) in
+    let j′ : k′ .joined ≡ scan-edge c v o e x .tallies .joined = ap (λ (t : Tallies). t .joined) (q .counted .tallied) in
+    record { sent = omega (arith, f .0, r .sent); joined = omega (arith, f .1, r .joined) }
 
 -- the depth of an edge is the mark of the vertex that it leaves
 pub depth-is : (c : Case) (v e : ℕ) → edge (c .graph) e .from ≡ v → edge-depth (c .graph) e ≡ mark (c .graph) v

@@ -10,24 +10,32 @@ use native.Mathlib.Numerals.{add-one}
 use borrow.Author.Tests.{eq-eqb, ne-eqb}
 use lib.Dec.{ltb}
 use lib.ListN.{length, getD, set}
-use lib.Seq.{set-getD}
 use lib.IntN.{ℤ, pos, negℤ, _+ℤ_, negℤ-+ℤ, pos-+ℤ-pos}
 use lib.Signed.{mag}
 use Rattle.model.specs.Graph.{edge, edge-depth, edge-length, mark, accepting-count}
 use Rattle.model.specs.Case.{Case, owner, most-vertices, most-workers}
-use Rattle.model.specs.Run.{State, is-some, ended-lasso, with-queues, takes, member, enqueue, below-floor, relax, lower, send, scan-edge}
-use Rattle.model.proofs.Tools.{member-first}
+use Rattle.model.specs.Run.{State, is-some, ended-lasso, with-queues, takes, member, enqueue, below-floor, relax, lower, send, scan-edge, one-if, full-cells, put-one}
+use Rattle.model.proofs.Tools.{sum-of-set, one-none, one-some, member-first}
 use Rattle.search.specs.declared.run.Run.{Run}
-use Rattle.search.specs.Cells.{Below, more, accepting-at, owner-at, to-at, distance-at, parent-at, link-at, message-at, head-at, tail-at}
-use Rattle.search.specs.Rep.{Table, Laid, Rep, link, busy, one-if}
+use Rattle.search.specs.Cells.{Below, far, more, accepting-at, owner-at, to-at, distance-at, parent-at, link-at, message-at, head-at, tail-at}
+use Rattle.search.specs.Rep.{Table, Laid, Rep, link, busy}
 use Rattle.search.specs.Asks.{Length-is}
 use Rattle.search.proofs.Stores.{there, held-depth, held-parent, held-link, held-cell, held-head, held-tail}
 use Rattle.search.proofs.Queues.{join-first, join-next, leave, chain-marked, true-or, link-one, link-low, links-low, last-below}
-use Rattle.search.proofs.Numbers.{tally-set, busy-snoc}
+use Rattle.search.proofs.Numbers.{busy-snoc}
 
 -- a number that was loaded is the table's
 pub cell-is : {base size : ℕ} {l : List ℕ} {w : List ℤ} → Table pos 0 base size l w → (i r : ℕ) → i < size → getD w (base + i) (pos 0) ≡ pos r → getD l i 0 ≡ r
 cell-is {base} {size} {l} t i r h e = let z : pos (getD l i 0) ≡ pos r = sym (there t i h) ∙ e in cc
+
+-- one counter changed
+abbrev pub with-queued : (queued : ℕ) → Run → Run
+with-queued n k =
+    record { queued = n; full = k .full; acts = k .acts; sent = k .sent; delivered = k .delivered; joined = k .joined; broken = k .broken; marks = k .marks; ended = k .ended }
+
+abbrev pub with-broken : (broken : ℕ) → Run → Run
+with-broken n k =
+    record { queued = k .queued; full = k .full; acts = k .acts; sent = k .sent; delivered = k .delivered; joined = k .joined; broken = n; marks = k .marks; ended = k .ended }
 
 -- THE CASE
 module _ (c : Case) (w : List ℤ) (v : ℕ) (laid : Laid c w) (below : v < c .graph .vertices) where
@@ -121,7 +129,7 @@ module _ (c : Case) (x : State) (k : Run) (w : List ℤ) (v : ℕ) (rep : Rep c 
 
     -- the queue is empty
     pub push-first : getD w (head-at + p) (pos 0) ≡ pos 1
-        → Rep c (with-queues (enqueue (owner c v) v (x .queues)) x) (record { queued = k .queued + 1; full = k .full; acts = k .acts; broken = k .broken; marks = k .marks; ended = k .ended })
+        → Rep c (with-queues (enqueue (owner c v) v (x .queues)) x) (with-queued (k .queued + 1) k)
         (set (set (set w (link-at + v) (pos 1)) (head-at + p) (pos (v + 2))) (tail-at + p) (pos v))
     push-first head =
         let hp : getD (rep .heads) p 0 ≡ 1 = cell-is (rep .held .heads) p 1 worker-below head in
@@ -137,9 +145,10 @@ module _ (c : Case) (x : State) (k : Run) (w : List ℤ) (v : ℕ) (rep : Rep c 
           held = held-tail (held-head (held-link (rep .held) v 1 below) p (v + 2) worker-below) p v worker-below;
           lined = join-first c (x .queues) (rep .links) (rep .heads) (rep .tails) v p (rep .lined) owned below worker-below (rep .held .links .sized) (rep .held .heads .sized) (rep .held .tails .sized) free-is hp;
           counted = record {
-            queued = omega (arith, tally-set busy (x .queues) p (getD (x .queues) p [] ++ (v ∷ [])) [] pq, busy-snoc (getD (x .queues) p []) v, q .queued);
+            queued = omega (arith, sum-of-set busy (x .queues) p (getD (x .queues) p [] ++ (v ∷ [])) [] pq, busy-snoc (getD (x .queues) p []) v, q .queued);
             full = q .full;
             acts = q .acts;
+            tallied = q .tallied;
             broke = q .broke;
             marks = q .marks;
             over = q .over;
@@ -164,9 +173,10 @@ module _ (c : Case) (x : State) (k : Run) (w : List ℤ) (v : ℕ) (rep : Rep c 
           held = held-tail (held-link (held-link (rep .held) t (v + 2) tb) v 1 below) p v worker-below;
           lined = join-next c (x .queues) (rep .links) (rep .heads) (rep .tails) v p (rep .lined) owned below worker-below (rep .held .links .sized) (rep .held .heads .sized) (rep .held .tails .sized) free-is t (sym tp) (λ e. n (sym hp ∙ e));
           counted = record {
-            queued = omega (arith, tally-set busy (x .queues) p (getD (x .queues) p [] ++ (v ∷ [])) [] pq, busy-snoc (getD (x .queues) p []) v, q .queued);
+            queued = omega (arith, sum-of-set busy (x .queues) p (getD (x .queues) p [] ++ (v ∷ [])) [] pq, busy-snoc (getD (x .queues) p []) v, q .queued);
             full = q .full;
             acts = q .acts;
+            tallied = q .tallied;
             broke = q .broke;
             marks = q .marks;
             over = q .over;
@@ -200,10 +210,10 @@ module _ (c : Case) (x : State) (k : Run) (w : List ℤ) (p v : ℕ) (q : List �
   some-queued =
       let pq : p < length (x .queues) = omega (arith, rep .lined .sized) in
       let z : busy (getD (x .queues) p []) ≡ 1 = rw head (busy-head v q) in
-      omega (arith, tally-set busy (x .queues) p [] [] pq, none-busy, rep .counted .queued)
+      omega (arith, sum-of-set busy (x .queues) p [] [] pq, none-busy, rep .counted .queued)
 
   pub pop-step : (n r : ℕ) → getD w (link-at + v) (pos 0) ≡ pos r → n + 1 ≡ k .queued + busy q
-      → Rep c (with-queues (set (x .queues) p q) x) (record { queued = n; full = k .full; acts = k .acts; broken = k .broken; marks = k .marks; ended = k .ended })
+      → Rep c (with-queues (set (x .queues) p q) x) (with-queued n k)
       (set (set w (head-at + p) (pos r)) (link-at + v) (pos 0))
   pop-step n r e kq =
       let pq : p < length (x .queues) = omega (arith, rep .lined .sized) in
@@ -217,9 +227,10 @@ module _ (c : Case) (x : State) (k : Run) (w : List ℤ) (p v : ℕ) (q : List �
         held = held-link (held-head (rep .held) p (link q) pw) v 0 head-below;
         lined = leave c (x .queues) (rep .links) (rep .heads) (rep .tails) v p q (rep .lined) head pw (rep .held .links .sized) (rep .held .heads .sized);
         counted = record {
-          queued = omega (arith, tally-set busy (x .queues) p q [] pq, s .queued);
+          queued = omega (arith, sum-of-set busy (x .queues) p q [] pq, s .queued);
           full = s .full;
           acts = s .acts;
+          tallied = s .tallied;
           broke = s .broke;
           marks = s .marks;
           over = s .over;
@@ -227,44 +238,53 @@ module _ (c : Case) (x : State) (k : Run) (w : List ℤ) (p v : ℕ) (q : List �
       })
 
 -- SEND
-lower-taken : (o : Option ℕ) (d : ℕ) → takes o d ≡ true → lower o d ≡ d
-unfolding takes lower
-lower-taken none d h = refl
-lower-taken (some k) d h = rw h
+-- the counters once an offer is sent
+abbrev pub sent-run : (joins : Bool) → Run → Run
+sent-run b k =
+    record {
+      queued = k .queued;
+      full = cond b (k .full) (k .full + 1);
+      acts = k .acts;
+      sent = k .sent + 1;
+      delivered = k .delivered;
+      joined = cond b (k .joined + 1) (k .joined);
+      broken = k .broken;
+      marks = k .marks;
+      ended = k .ended;
+    }
 
-lower-kept : (o : Option ℕ) (d : ℕ) → takes o d ≡ false → some (lower o d) ≡ o
-unfolding takes lower
-lower-kept none d h = cc
-lower-kept (some k) d h = rw h
+pub sent-rep : (c : Case) (x : State) (k : Run) (w : List ℤ) (e o : ℕ) (b : Bool) → Rep c x k w → e < length (c .graph .edges) → is-some (getD (x .cells) e none) ≡ b
+    → Rep c (send e o x) (sent-run b k) (set w (message-at + e) (far (some (lower (getD (x .cells) e none) o))))
+sent-rep c x k w e o b rep below j =
+    let q = rep .counted in
+    record {
+      links = rep .links;
+      heads = rep .heads;
+      tails = rep .tails;
+      held = held-cell (rep .held) e (some (lower (getD (x .cells) e none) o)) below;
+      lined = rep .lined;
+      counted = record {
+        queued = q .queued;
+        full = now-full (getD (x .cells) e none) b j (sum-of-set one-if (x .cells) e (some (lower (getD (x .cells) e none) o)) none fits);
+        acts = q .acts;
+        tallied = rw j (ap (put-one b) (q .tallied));
+        broke = q .broke;
+        marks = q .marks;
+        over = q .over;
+      };
+    }
+  where
+    fits : e < length (x .cells)
+    fits = omega (arith, rep .held .cells .sized)
 
-module _ (c : Case) (x : State) (k : Run) (w : List ℤ) (e o : ℕ) (rep : Rep c x k w) (below : e < length (c .graph .edges)) where
-  -- the message is written
-  pub send-taken : (f : ℕ) → takes (getD (x .cells) e none) o ≡ true → f + one-if (getD (x .cells) e none) ≡ k .full + 1
-      → Rep c (send e o x) (record { queued = k .queued; full = f; acts = k .acts; broken = k .broken; marks = k .marks; ended = k .ended }) (set w (message-at + e) (negℤ (pos o)))
-  unfolding one-if
-  send-taken f t g =
-      let fits : e < length (x .cells) = omega (arith, rep .held .cells .sized) in
-      let q = rep .counted in
-      rw (lower-taken (getD (x .cells) e none) o t)
-      (record {
-        links = rep .links;
-        heads = rep .heads;
-        tails = rep .tails;
-        held = held-cell (rep .held) e (some o) below;
-        lined = rep .lined;
-        counted = record {
-          queued = q .queued;
-          full = omega (arith, tally-set one-if (x .cells) e (some o) none fits, q .full);
-          acts = q .acts;
-          broke = q .broke;
-          marks = q .marks;
-          over = q .over;
-        };
-      })
+    after : ℕ
+    after = full-cells (set (x .cells) e (some (lower (getD (x .cells) e none) o)))
 
-  -- the waiting one is lower
-  pub send-kept : takes (getD (x .cells) e none) o ≡ false → Rep c (send e o x) k w
-  send-kept t = rw (lower-kept (getD (x .cells) e none) o t, set-getD) rep
+    now-full : (m : Option ℕ) (b : Bool) → is-some m ≡ b → after + one-if m ≡ full-cells (x .cells) + one-if (some (lower (getD (x .cells) e none) o)) → cond b (k .full) (k .full + 1) ≡ after
+    now-full none true h s = unfold is-some in cc
+    now-full none false h s = omega (arith, one-none, one-some (lower (getD (x .cells) e none) o), rep .counted .full)
+    now-full (some d) true h s = omega (arith, one-some d, one-some (lower (getD (x .cells) e none) o), rep .counted .full)
+    now-full (some d) false h s = unfold is-some in cc
 
 -- RELAX
 abbrev pub offered : State → (v o e : ℕ) → State
@@ -277,6 +297,7 @@ offered x v o e =
       broken = x .broken;
       ended-empty = x .ended-empty;
       count = x .count;
+      tallies = x .tallies;
     }
 
 module _ (c : Case) (w : List ℤ) (e : ℕ) (laid : Laid c w) (below : e < length (c .graph .edges)) where
@@ -310,7 +331,7 @@ relax-kept c x k w e v o rep t h = rw (← t, h) rep
 
 pub relax-taken : (c : Case) (x : State) (k : Run) (w : List ℤ) (e v o : ℕ) (b : Bool) → v ≡ edge (c .graph) e .to → takes (getD (x .depths) v none) o ≡ true
     → Rep c (with-queues (enqueue (owner c v) v (x .queues)) (offered x v o e)) k w → ltb (accepting-count (c .graph)) o ≡ b → (n : ℕ) → n ≡ more (cond b (some v) none)
-    → Rep c (relax c e o x) (record { queued = k .queued; full = k .full; acts = k .acts; broken = n; marks = k .marks; ended = k .ended }) w
+    → Rep c (relax c e o x) (with-broken n k) w
 unfolding relax below-floor
 relax-taken c x k w e v o b t h rep bt n br =
     let q = rep .counted in
@@ -321,7 +342,7 @@ relax-taken c x k w e v o b t h rep bt n br =
       tails = rep .tails;
       held = rep .held;
       lined = rep .lined;
-      counted = record { queued = q .queued; full = q .full; acts = q .acts; broke = br; marks = q .marks; over = q .over };
+      counted = record { queued = q .queued; full = q .full; acts = q .acts; tallied = q .tallied; broke = br; marks = q .marks; over = q .over };
     })
 
 -- SCAN

@@ -13,14 +13,14 @@ use lib.Seq.{getD-set-same, getD-set-other, getD-take, length-take-le}
 use lib.IntN.{ℤ}
 use Rattle.model.specs.Graph.{Graph, edge, edge-depth, accepting-count}
 use Rattle.model.specs.Case.{Case, owner, most-acts, Sound}
-use Rattle.model.specs.Run.{State, has-ended, fresh, with-queues, with-cells, scan, no-message, depth-or, delivery, act, acted, range, round-acts, rounds, by-rounds, Moment}
-use Rattle.text.proofs.Tests.{clash}
-use Rattle.model.proofs.Tools.{member-first, some-not-none, getD-out, getD-replicate-same, no-cell, no-cells}
+use Rattle.model.specs.Run.{State, has-ended, fresh, with-queues, emptied, scan, no-message, depth-or, delivery, act, acted, range, round-acts, rounds, by-rounds, Moment}
+use Rattle.model.proofs.Tools.{member-first, some-not-none, getD-replicate-same, no-cell, no-cells}
 use Rattle.model.proofs.Steps.{scan-keeps}
 use Rattle.model.proofs.Few.{relax-cells}
 use Rattle.model.proofs.Findings.{moment-known}
 use Rattle.model.proofs.ActRules.{moment-act, moment-acted}
 use Rattle.model.proofs.Rounds.{act-over, acted-over}
+use Rattle.model.proofs.RoundCells.{round-keeps}
 use Rattle.search.specs.declared.run.Run.{Run}
 use Rattle.search.specs.Rep.{Firsts, Rep, link}
 use Rattle.search.specs.Asks.{Inserted, Among, Listed, Only, Turns-leave}
@@ -112,14 +112,14 @@ act-rep c e p y k w q o rep = subst (λ (z : State). Rep c z k w) (sym (act-deli
 
 -- WHAT A DELIVERY LEAVES
 module _ (c : Case) (e : ℕ) (y : State) (l : e < length (y .cells)) where
-  emptied : getD (delivery c e y .cells) e none ≡ none
-  emptied = go (getD (y .cells) e none) refl
+  none-left : getD (delivery c e y .cells) e none ≡ none
+  none-left = go (getD (y .cells) e none) refl
     where
       go : (o : Option ℕ) → getD (y .cells) e none ≡ o → getD (delivery c e y .cells) e none ≡ none
       go none h = ap (λ (z : State). getD (z .cells) e none) (delivery-none c e y h) ∙ h
       go (some o) h =
           ap (λ (z : State). getD (z .cells) e none) (delivery-some c e o y h)
-          ∙ ap (λ (os : List (Option ℕ)). getD os e none) (relax-cells c e o (with-cells (set (y .cells) e none) y)) ∙ getD-set-same (y .cells) e none none l
+          ∙ ap (λ (os : List (Option ℕ)). getD os e none) (relax-cells c e o (emptied e y)) ∙ getD-set-same (y .cells) e none none l
 
   others-kept : (f : ℕ) → (f ≡ e → ⊥) → getD (delivery c e y .cells) f none ≡ getD (y .cells) f none
   others-kept f n = go (getD (y .cells) e none) refl
@@ -128,7 +128,7 @@ module _ (c : Case) (e : ℕ) (y : State) (l : e < length (y .cells)) where
       go none h = ap (λ (z : State). getD (z .cells) f none) (delivery-none c e y h)
       go (some o) h =
           ap (λ (z : State). getD (z .cells) f none) (delivery-some c e o y h)
-          ∙ ap (λ (os : List (Option ℕ)). getD os f none) (relax-cells c e o (with-cells (set (y .cells) e none) y)) ∙ getD-set-other (y .cells) e f none none n
+          ∙ ap (λ (os : List (Option ℕ)). getD os f none) (relax-cells c e o (emptied e y)) ∙ getD-set-other (y .cells) e f none none n
 
   delivered : has-ended y ≡ false → act c (c .workers + e) y ≡ delivery c e y
   delivered o = act-delivery c (c .workers + e) (c .workers) y o refl (omega arith) ∙ rw (minus (c .workers) e)
@@ -140,7 +140,7 @@ module _ (c : Case) (e : ℕ) (y : State) (l : e < length (y .cells)) where
       go : (b : Bool) → has-ended y ≡ b → (f ≡ e) ⊎ (f ≡ e → ⊥) → getD (y .cells) f none ≡ some d
       go true o s = subst (λ (z : State). getD (z .cells) f none ≡ some d) (act-over c (c .workers + e) y o) h
       go false o (inl q) =
-          some-not-none (getD (delivery c e y .cells) e none) d (rw q at (subst (λ (z : State). getD (z .cells) f none ≡ some d) (delivered o) h)) emptied
+          some-not-none (getD (delivery c e y .cells) e none) d (rw q at (subst (λ (z : State). getD (z .cells) f none ≡ some d) (delivered o) h)) none-left
       go false o (inr n) = sym (others-kept f n) ∙ subst (λ (z : State). getD (z .cells) f none ≡ some d) (delivered o) h
 
 module _ (c : Case) (ok : Sound c) where
@@ -156,40 +156,9 @@ module _ (c : Case) (ok : Sound c) where
       (acts-left k (suc e) (act c (c .workers + e) y) (moment-act c (c .workers + e) y p) (omega arith) f d
       (subst (λ (z : State). getD (z .cells) f none ≡ some d) (next-delivery c k e y) g))
 
-  -- all deliveries empty all cells, unless the run ends
-  clears : (k e : ℕ) (y : State) → Moment c y → e + k ≡ length (c .graph .edges) → ((f : ℕ) → f < e → getD (y .cells) f none ≡ none)
-      → has-ended (acted c (range k (c .workers + e)) y) ≡ false → (f : ℕ) → getD (acted c (range k (c .workers + e)) y .cells) f none ≡ none
-  clears zero e y p h g o f = ap (λ (z : State). getD (z .cells) f none) (none-range c (c .workers + e) y) ∙ go (below-or f e)
-    where
-      go : (f < e) ⊎ (e ≤ f) → getD (y .cells) f none ≡ none
-      go (inl l) = g f l
-      go (inr l) = getD-out (y .cells) f none (omega (arith, cells-many y p))
-  clears (suc k) e y p h g o f =
-      go (has-ended y) refl
-      (λ b. clears k (suc e) (act c (c .workers + e) y) (moment-act c (c .workers + e) y p) (omega arith) (λ i l. below b i (same-or i e) l (omega (arith, cells-many y p))) (ap has-ended (sym (next-delivery c k e y)) ∙ o) f)
-    where
-      below : has-ended y ≡ false → (i : ℕ) → (i ≡ e) ⊎ (i ≡ e → ⊥) → i < suc e → e < length (y .cells) → getD (act c (c .workers + e) y .cells) i none ≡ none
-      below b i (inl q) l m = ap (λ (z : State). getD (z .cells) i none) (delivered c e y m b) ∙ rw q (emptied c e y m)
-      below b i (inr n) l m = ap (λ (z : State). getD (z .cells) i none) (delivered c e y m b) ∙ others-kept c e y m i n ∙ g i (omega (arith, n))
-
-      go : (b : Bool) → has-ended y ≡ b → (has-ended y ≡ false → getD (acted c (range k (c .workers + suc e)) (act c (c .workers + e) y) .cells) f none ≡ none)
-          → getD (acted c (range (suc k) (c .workers + e)) y .cells) f none ≡ none
-      go true b r = clash _ (ap has-ended (acted-over c (range (suc k) (c .workers + e)) y b) ∙ b) o
-      go false b r = ap (λ (z : State). getD (z .cells) f none) (next-delivery c k e y) ∙ r b
-
   round-is : (x : State) → acted c (round-acts c) x ≡ acted c (range (length (c .graph .edges)) (c .workers)) (acted c (range (c .workers) 0) x)
   unfolding round-acts
   round-is x = split-range c (c .workers) (length (c .graph .edges)) 0 x ∙ rw (zero-add (c .workers))
-
-  pub round-clears : (x : State) → Moment c x → has-ended (acted c (round-acts c) x) ≡ false → no-message (acted c (round-acts c) x .cells) ≡ true
-  round-clears x p o =
-      let m = length (c .graph .edges) in
-      let y = acted c (range (c .workers) 0) x in
-      let e : acted c (round-acts c) x ≡ acted c (range m (c .workers + 0)) y = round-is x ∙ rw (add-zero (c .workers)) in
-      no-cells (acted c (round-acts c) x .cells)
-      (λ f.
-      ap (λ (z : State). getD (z .cells) f none) e
-      ∙ clears m 0 y (moment-acted c (range (c .workers) 0) x p) (zero-add m) (λ i l. absurd (omega arith)) (ap has-ended (sym e) ∙ o) f)
 
 -- TURNS
 scan-leaves : (c : Case) (v d : ℕ) (z : State) (f : ℕ) → (edge (c .graph) f .from ≡ v → ⊥) → getD (scan c v d z .cells) f none ≡ getD (z .cells) f none
@@ -502,7 +471,7 @@ module _ (c : Case) (x : State) (many : ℕ) where
         at = acted c (round-acts c) (u .at);
         rep = rep;
         moment = moment-acted c (round-acts c) (u .at) (u .moment);
-        empty = round-clears c ok (u .at) (u .moment);
+        empty = round-keeps c ok (u .at .tallies .joined) (u .at) (record { shape = moment-known c ok (u .at) (u .moment) .paid .shape; joins = refl; empty = u .empty }) .empty;
         rest = sym (rounds-step (left - 1) c (u .at) o) ∙ ap (λ (j : ℕ). rounds j c (u .at)) (sym i) ∙ u .rest;
       }
 

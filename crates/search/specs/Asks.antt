@@ -3,16 +3,17 @@
 use mathlib.Core.Path.{_≡_}
 use mathlib.Core.Bool.{Bool, true, false, not, _&&_, _||_}
 use mathlib.Core.List.{List, [], _∷_}
-use mathlib.Core.Option.{none, some}
-use Prim.Native.Nat.{ℕ, _+_, _-_, _≤_, _<_}
+use mathlib.Core.Option.{Option, none, some}
+use Prim.Native.Nat.{ℕ, _+_, _-_, _≤_, _<_, _^_}
 use lib.Dec.{eqb}
 use lib.ListN.{length, getD, set, replicate}
 use lib.IntN.{ℤ, pos, negℤ}
 use Rattle.model.specs.Graph.{Graph, edge, mark, edge-depth, edge-length, accepting-count}
 use Rattle.model.specs.Case.{Case, owner, most-vertices}
-use Rattle.model.specs.Run.{State, fresh, with-queues, enqueue, send, relax, scan-edge, scan, no-message, turn, delivery, act, acted, range, round-acts, rounds, by-rounds, Moment}
+use Rattle.model.specs.Run.{no-tallies, State, is-some, fresh, with-queues, enqueue, lower, send, relax, scan-edge, scan, no-message, turn, delivery, act, acted, range, round-acts, rounds, by-rounds, Moment}
 use Rattle.search.specs.declared.run.Run.{Run}
 use Rattle.search.specs.declared.rounds.Turned.{Turned}
+use Rattle.search.specs.Cells.{far, message-at}
 use Rattle.search.specs.Rep.{Firsts, Laid, coded, Rep}
 
 -- PUSH: a vertex joins the tail of its owner's queue unless it is there
@@ -39,6 +40,11 @@ unfoldable pub Pop-says : (p v : ℕ) → (k k′ : Run) → (w w′ : List ℤ)
 Pop-says p v k k′ w w′ =
     (c : Case) (x : State) (q : List ℕ) → Rep c x k w → p < c .workers → getD (x .queues) p [] ≡ v ∷ q → Rep c (with-queues (set (x .queues) p q) x) k′ w′
 
+-- PUT: the offer d goes into the cell of edge e, where o waits; r says whether it joined a message
+unfoldable pub Put-says : (e : ℕ) → (d : ℤ) → (r : Bool) → (w w′ : List ℤ) → Type 0
+Put-says e d r w w′ =
+    (o : Option ℕ) (n : ℕ) → getD w (message-at + e) (pos 0) ≡ far o → d ≡ negℤ (pos n) → (r ≡ is-some o) × (w′ ≡ set w (message-at + e) (far (some (lower o n))))
+
 -- SEND and RELAX: an offer d on the edge e
 pub record Offer-asks (e : ℕ) (d : ℤ) (k : Run) (w : List ℤ) : Type 0 where
   pub case : Case
@@ -47,6 +53,15 @@ pub record Offer-asks (e : ℕ) (d : ℤ) (k : Run) (w : List ℤ) : Type 0 wher
   pub rep : Rep case state k w
   pub below : e < length (case .graph .edges)
   pub is : d ≡ negℤ (pos offer)
+
+-- so many offers more can be counted
+pub record Room (offers : ℕ) (k : Run) : Type 0 where
+  pub sent : k .sent + offers < 2 ^ 32
+  pub joined : k .joined + offers < 2 ^ 32
+
+pub record Send-asks (e : ℕ) (d : ℤ) (k : Run) (w : List ℤ) : Type 0 where
+  pub offer : Offer-asks e d k w
+  pub room : Room 1 k
 
 unfoldable pub Send-says : (e : ℕ) → (d : ℤ) → (k k′ : Run) → (w w′ : List ℤ) → Type 0
 Send-says e d k k′ w w′ = (c : Case) (x : State) (o : ℕ) → Rep c x k w → e < length (c .graph .edges) → d ≡ negℤ (pos o) → Rep c (send e o x) k′ w′
@@ -70,6 +85,7 @@ pub record Scan-asks (v : ℕ) (d : ℤ) (k : Run) (w : List ℤ) : Type 0 where
   pub below : v < case .graph .vertices
   pub is : d ≡ negℤ (pos depth)
   pub low : depth ≤ most-vertices
+  pub room : Room (length (case .graph .edges)) k
 
 unfoldable pub Scan-says : (v : ℕ) → (d : ℤ) → (k k′ : Run) → (w w′ : List ℤ) → Type 0
 Scan-says v d k k′ w w′ = (c : Case) (x : State) (o : ℕ) → Rep c x k w → v < c .graph .vertices → d ≡ negℤ (pos o) → Rep c (scan c v o x) k′ w′
@@ -81,6 +97,9 @@ counted-run k =
       queued = k .queued;
       full = k .full;
       acts = k .acts + 1;
+      sent = k .sent;
+      delivered = k .delivered;
+      joined = k .joined;
       broken = k .broken;
       marks = k .marks;
       ended = eqb (k .broken) 0 && (eqb (k .queued) 0 && eqb (k .full) 0);
@@ -151,10 +170,11 @@ blank c =
       broken = none;
       ended-empty = false;
       count = 0;
+      tallies = no-tallies;
     }
 
 abbrev pub blank-run : (marks : ℕ) → Run
-blank-run a = record { queued = 0; full = 0; acts = 0; broken = 0; marks = a; ended = false }
+blank-run a = record { queued = 0; full = 0; acts = 0; sent = 0; delivered = 0; joined = 0; broken = 0; marks = a; ended = false }
 
 unfoldable pub Blank-says : (w w′ : List ℤ) → Type 0
 Blank-says w w′ = (c : Case) → Laid c w → Rep c (blank c) (blank-run (accepting-count (c .graph))) w′

@@ -16,9 +16,9 @@ use Rattle.search.specs.declared.Loaded.{Loaded}
 use Rattle.search.specs.declared.Loaded.the-variants.{Refused, Laid}
 use Rattle.search.specs.Rep as rep
 
--- "A refusal returns its number, answer length 0 and 0 acts"
+-- "A refusal returns its number, answer length 0 and 0 acts"; "other refusals return zeros" as tallies
 abbrev pub refused-by : (number : ℕ) → Outcome
-refused-by k = record { refusal = k; verdict = no-verdict; acts = 0; written = 0 }
+refused-by k = record { refusal = k; verdict = no-verdict; acts = 0; written = 0; sent = 0; delivered = 0; joined = 0 }
 
 -- LOADING: refusals 1 to 8, then 9, which change no cell
 unfoldable pub load-refusal : (case acts : List ℕ) → ℕ

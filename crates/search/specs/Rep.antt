@@ -3,13 +3,13 @@
 use mathlib.Core.Path.{_≡_}
 use mathlib.Core.Bool.{Bool, true, false}
 use mathlib.Core.List.{List, [], _∷_}
-use mathlib.Core.Option.{Option, none, some}
+use mathlib.Core.Option.{Option, none}
 use Prim.Native.Nat.{ℕ, _+_, _≤_, _<_}
 use lib.ListN.{length, getD}
 use lib.IntN.{ℤ, pos}
 use Rattle.model.specs.Graph.{Edge, Graph, edge, accepting-count}
 use Rattle.model.specs.Case.{Case, owner, least-work, Sound, Within}
-use Rattle.model.specs.Run.{State, member}
+use Rattle.model.specs.Run.{Tallies, State, member, sum-of, full-cells}
 use Rattle.search.specs.declared.run.Run.{Run}
 use Rattle.search.specs.Cells.{Region, far, more, by-more, by-from, by-to, accepting-at, owner-at, from-at, to-at, first-at, distance-at, parent-at, link-at, message-at, head-at, tail-at}
 
@@ -91,23 +91,19 @@ pub record Lined (c : Case) (qs : List (List ℕ)) (N H T : List ℕ) : Type 0 w
   pub mine : (p v : ℕ) → member v (getD qs p []) ≡ true → (v < c .graph .vertices) × (owner c v ≡ p)
   pub clear : (v : ℕ) → v < c .graph .vertices → member v (getD qs (owner c v) []) ≡ false → getD N v 0 ≡ 0
 
--- COUNTERS: how many queues have a vertex, how many cells a message
+-- COUNTERS: how many queues have a vertex, how many cells a message; acts and tallies
 unfoldable pub busy : (queue : List ℕ) → ℕ
 busy [] = 0
 busy (v ∷ q) = 1
 
-unfoldable pub one-if : (message : Option ℕ) → ℕ
-one-if none = 0
-one-if (some d) = 1
+abbrev pub tallies-in : Run → Tallies
+tallies-in k = record { sent = k .sent; delivered = k .delivered; joined = k .joined }
 
-unfoldable pub tally : {A : Type 0} → (A → ℕ) → List A → ℕ
-tally f [] = 0
-tally f (a ∷ l) = f a + tally f l
-
-pub record Counted (A : ℕ) (queues : List (List ℕ)) (cells : List (Option ℕ)) (broken : Option ℕ) (ended : Bool) (count : ℕ) (k : Run) : Type 0 where
-  pub queued : k .queued ≡ tally busy queues
-  pub full : k .full ≡ tally one-if cells
+pub record Counted (A : ℕ) (queues : List (List ℕ)) (cells : List (Option ℕ)) (broken : Option ℕ) (ended : Bool) (count : ℕ) (tallies : Tallies) (k : Run) : Type 0 where
+  pub queued : k .queued ≡ sum-of busy queues
+  pub full : k .full ≡ full-cells cells
   pub acts : k .acts ≡ count
+  pub tallied : tallies-in k ≡ tallies
   pub broke : k .broken ≡ more broken
   pub marks : k .marks ≡ A
   pub over : k .ended ≡ ended
@@ -122,4 +118,4 @@ pub record Rep (c : Case) (x : State) (k : Run) (w : List ℤ) : Type 0 where
   pub tails : List ℕ
   pub held : Held c (tables x links heads tails) w
   pub lined : Lined c (x .queues) links heads tails
-  pub counted : Counted (accepting-count (c .graph)) (x .queues) (x .cells) (x .broken) (x .ended-empty) (x .count) k
+  pub counted : Counted (accepting-count (c .graph)) (x .queues) (x .cells) (x .broken) (x .ended-empty) (x .count) (x .tallies) k

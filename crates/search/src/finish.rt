@@ -64,6 +64,9 @@ pub(crate) fn finish(
             verdict: Outcome::NONE,
             acts: run.acts,
             written: 0,
+            sent: run.sent,
+            delivered: run.delivered,
+            joined: run.joined,
         };
     }
     let written = write_answer(output, work, run, n, source);
@@ -73,5 +76,8 @@ pub(crate) fn finish(
         verdict: verdict(run),
         acts: run.acts,
         written: written as u32,
+        sent: run.sent,
+        delivered: run.delivered,
+        joined: run.joined,
     }
 }

@@ -36,6 +36,9 @@ fn refused(k: u32) -> Outcome
         verdict: Outcome::NONE,
         acts: 0,
         written: 0,
+        sent: 0,
+        delivered: 0,
+        joined: 0,
     }
 }
 

@@ -1,12 +1,14 @@
 // A run of the search in the lent cells: offers, scans, turns, deliveries and acts. A distance is its signed number; each
 // function keeps the cells and the counters equal to a run of the model (specs/Rep.antt).
 ghost use mathlib.Core.Path.{_≡_};
-ghost use Prim.Native.Nat.{_<_, _≤_, _^_, _-_};
+ghost use mathlib.Core.Bool.{cond};
+ghost use Prim.Native.Nat.{_+_, _<_, _≤_, _^_, _-_};
 ghost use lib.IntN.{pos, negℤ};
 ghost use lib.Signed.{ltZ};
 ghost use lib.ListN.{length};
 ghost use Rattle.model.specs.Case.{most-vertices, least-work};
-ghost use Rattle.search.specs.Asks.{Offer-asks, Send-says, Relax-says, Edge-says, Scan-asks, Scan-says, counted-run, over, Turn-asks, Turn-says, Deliver-asks, Deliver-says, Act-asks, Act-says, Length-is, Offered-asks, Offered-is, Blank-says, Fresh-asks, Fresh-says, List-asks, List-done};
+ghost use Rattle.search.specs.Cells.{message-at};
+ghost use Rattle.search.specs.Asks.{Put-says, Offer-asks, Send-asks, Send-says, Relax-says, Edge-says, Scan-asks, Scan-says, counted-run, over, Turn-asks, Turn-says, Deliver-asks, Deliver-says, Act-asks, Act-says, Length-is, Offered-asks, Offered-is, Blank-says, Fresh-asks, Fresh-says, List-asks, List-done};
 use super::cells::Cells;
 use super::cells::NO_DISTANCE;
 use super::cells::NONE;
@@ -24,12 +26,16 @@ use super::queue::pop;
 use super::queue::push;
 use casefile::Case;
 
-// What a run counts: queues that have a vertex, cells that have a message, acts, the vertex that broke the floor (NONE, or
-// its number and SOME), accepting vertices; and whether it ended as "empty".
+// What a run counts: queues that have a vertex, cells that have a message, acts; offers put into cells, messages
+// delivered, offers that joined a waiting message; the vertex that broke the floor (NONE, or its number and SOME),
+// accepting vertices; and whether it ended as "empty".
 pub(crate) struct Run {
     pub queued: usize,
     pub full: usize,
-    pub acts: u32,
+    pub acts: u64,
+    pub sent: u32,
+    pub delivered: u32,
+    pub joined: u32,
     pub broken: usize,
     pub marks: usize,
     pub ended: bool,
@@ -48,6 +54,9 @@ impl Run {
             queued: 0,
             full: 0,
             acts: 0,
+            sent: 0,
+            delivered: 0,
+            joined: 0,
             broken: NONE,
             marks: marks,
             ended: false,
@@ -74,6 +83,16 @@ pub(crate) fn lower(a: i32, b: i32) -> bool
     ensures { λ r. ⌜ r ≡ ltZ a b ⌝ }
 {
     a < b
+}
+
+// The lower of two distances.
+pub(crate) fn least(a: i32, b: i32) -> i32
+    ensures { λ r. ⌜ r ≡ cond (ltZ a b) a b ⌝ }
+{
+    if lower(a, b) {
+        return a;
+    }
+    b
 }
 
 // So far below 0.
@@ -107,19 +126,29 @@ pub(crate) fn missing(d: i32) -> bool
     0 < d
 }
 
-// Puts an offer into the cell of an edge: the lower of two remains.
-pub(crate) fn send(work: &mut [i32], run: Run, e: usize, d: i32) -> Run
-    requires { ⌜ Offer-asks e d run (now work) ⌝ }
-    ensures { λ r. ⌜ Send-says e d run r (now (work .entry)) (now (work .exit)) ⌝ }
+// Puts an offer into the cell of an edge: the lower of two remains. Whether it joined a message that waited there.
+pub(crate) fn put_offer(work: &mut [i32], e: usize, d: i32) -> bool
+    requires { ⌜ message-at + e < length (now work) ⌝ }
+    ensures { λ r. ⌜ Put-says e d r (now (work .entry)) (now (work .exit)) ⌝ }
 {
     let waiting = load(work, Cells::MESSAGE + e);
+    store(work, Cells::MESSAGE + e, least(d, waiting));
+    !missing(waiting)
+}
+
+// Sends an offer along an edge: it is counted, and joins the message in the cell or fills the cell.
+pub(crate) fn send(work: &mut [i32], run: Run, e: usize, d: i32) -> Run
+    requires { ⌜ Send-asks e d run (now work) ⌝ }
+    ensures { λ r. ⌜ Send-says e d run r (now (work .entry)) (now (work .exit)) ⌝ }
+{
+    let joined = put_offer(work, e, d);
     let mut r = run;
-    if lower(d, waiting) {
-        store(work, Cells::MESSAGE + e, d);
-        if missing(waiting) {
-            r.full = run.full + 1;
-        }
+    r.sent = run.sent + 1;
+    if joined {
+        r.joined = run.joined + 1;
+        return r;
     }
+    r.full = run.full + 1;
     r
 }
 
@@ -144,7 +173,7 @@ pub(crate) fn relax(work: &mut [i32], run: Run, e: usize, d: i32) -> Run
 
 // One edge of a scan: an edge to the same owner is relaxed on the spot, any other gets a message.
 pub(crate) fn scan_edge(work: &mut [i32], run: Run, e: usize, own: usize, d: i32) -> Run
-    requires { ⌜ Offer-asks e d run (now work) ⌝ }
+    requires { ⌜ Send-asks e d run (now work) ⌝ }
     ensures { λ r. ⌜ Edge-says e own d run r (now (work .entry)) (now (work .exit)) ⌝ }
 {
     let to = load_below(work, Cells::TO + e, Case::MOST_VERTICES);
@@ -186,7 +215,7 @@ pub(crate) fn scan(work: &mut [i32], run: Run, v: usize, d: i32) -> Run
 
 // An act that did something is counted, and the run has ended as "empty" if nothing waits.
 pub(crate) fn counted(run: Run) -> Run
-    requires { ⌜ run .acts < 2 ^ 32 - 1 ⌝ }
+    requires { ⌜ run .acts < 2 ^ 64 - 1 ⌝ }
     ensures { λ r. ⌜ r ≡ counted-run run ⌝ }
 {
     let none_broken = run.broken == NONE;
@@ -196,6 +225,9 @@ pub(crate) fn counted(run: Run) -> Run
         queued: run.queued,
         full: run.full,
         acts: run.acts + 1,
+        sent: run.sent,
+        delivered: run.delivered,
+        joined: run.joined,
         broken: run.broken,
         marks: run.marks,
         ended: none_broken && (none_queued && none_full),
@@ -238,6 +270,7 @@ pub(crate) fn deliver(work: &mut [i32], run: Run, e: usize) -> Run
     store(work, Cells::MESSAGE + e, NO_DISTANCE);
     let mut r = run;
     r.full = run.full - 1;
+    r.delivered = run.delivered + 1;
     let done = relax(work, r, e, d);
     counted(done)
 }

@@ -6,7 +6,7 @@ use lib.IntN.{pos}
 use Rattle.search.specs.Asks.{Push-says}
 use Rattle.search.specs.Cells.{link-at}
 use Rattle.search.specs.Rep.{busy}
-use Rattle.search.proofs.Numbers.{tally-le, busy-le}
+use Rattle.search.proofs.Numbers.{sum-of-le, busy-le}
 use Rattle.search.proofs.Steps.{owner-there, head-there, link-there, push-kept, worker-below, push-first, push-next, tail-there}
 use borrow.Author.Needs.{needs}
 use Rattle.search.proofs.queue.push.Statement.{statement}
@@ -79,7 +79,7 @@ store-number-requires-3 c κs = search needs
 
 add-r : tie.Need-add-r
 add-r c = let s = c .before .before .before .before .before .before .before .before .before .before .before .before .before .before .before .before .before .before .pre in
-    omega (arith, tally-le busy busy-le (s .state .queues), s .rep .counted .queued, s .rep .lined .sized, s .rep .held .laid .within .workers)
+    omega (arith, sum-of-le busy busy-le (s .state .queues), s .rep .counted .queued, s .rep .lined .sized, s .rep .held .laid .within .workers)
 
 same-length-2 : tie.Need-same-length-2
 same-length-2 c = search needs

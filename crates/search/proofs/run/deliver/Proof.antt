@@ -1,21 +1,21 @@
 use Rattle.model.proofs.Few.{relax-count}
 use mathlib.Core.Path.{_≡_, sym, ap, _∙_}
 use mathlib.Core.Option.{none, some}
-use Prim.Native.Nat.{ℕ, _-_, _<_}
+use Prim.Native.Nat.{ℕ, _<_}
 use native.Mathlib.Omega.{arith}
-use lib.ListN.{length, getD, set}
+use lib.ListN.{length, getD}
 use lib.IntN.{pos, negℤ}
 use lib.Signed.{ltZ}
 use mir.Syntax.{w32}
 use mir.Val.{SFits, toZ, ofZ}
 use mir.Facts.{toZ-ofZ}
 use Rattle.model.specs.Case.{Case}
-use Rattle.model.specs.Run.{State, with-cells, relax}
+use Rattle.model.specs.Run.{State, emptied, relax}
 use Rattle.search.specs.Asks.{Relax-says, Deliver-says}
 use Rattle.search.specs.Cells.{far}
 use Rattle.search.specs.Rep.{Rep}
 use Rattle.search.proofs.Stores.{there}
-use Rattle.search.proofs.Acts.{count-small, counted-rep, some-there, delivery-none, delivery-some, some-full, cell-emptied}
+use Rattle.search.proofs.Acts.{count-small, delivery-room, counted-rep, emptied-run, some-there, delivery-none, delivery-some, some-full, cell-emptied}
 use Rattle.search.proofs.Numbers.{none-is, none-test}
 use borrow.Author.Needs.{needs}
 use Rattle.search.proofs.run.deliver.Statement.{statement}
@@ -52,26 +52,25 @@ offer-is c q x rep h =
     toZ-ofZ f ∙ loaded (c .before .before) q x rep h ∙ ap far (waits c q x rep h .1)
 
 -- the cells once it is emptied
-emptied : (c : tie.After-store) (q : Case) (x : State) → let a = c .before .before .before .before .before .before .args in
+left : (c : tie.After-store) (q : Case) (x : State) → let a = c .before .before .before .before .before .before .args in
     (rep : Rep q x (a .run) (a .work .now)) → (h : a .e < length (q .graph .edges))
-    → let k = a .run in
-    Rep q (with-cells (set (x .cells) (a .e) none) x) (record { queued = k .queued; full = k .full - 1; acts = k .acts; broken = k .broken; marks = k .marks; ended = k .ended }) (c .store .last .0)
-emptied c q x rep h =
+    → Rep q (emptied (a .e) x) (emptied-run (a .run)) (c .store .last .0)
+left c q x rep h =
     let waiting = c .before .before in
     let m = waits waiting q x rep h in
     let e = waiting .before .before .before .before .args .e in
-    rw (c .store .ensures) (cell-emptied q x _ _ e (m .0) rep h (m .1) _ (omega (arith, some-full q x _ _ e (m .0) rep h (m .1))))
+    rw (c .store .ensures) (cell-emptied q x _ _ e (m .0) rep h (m .1))
 
 -- and the offer relaxed
-relaxed : (c : tie.After-relax) (q : Case) (x : State) → let waiting = c .before .before .before .before .before .before in let a = waiting .before .before .before .before .args in
+relaxed : (c : tie.After-relax) (q : Case) (x : State) → let waiting = c .before .before .before .before .before .before .before in let a = waiting .before .before .before .before .args in
     (rep : Rep q x (a .run) (a .work .now)) → x .broken ≡ none → (h : a .e < length (q .graph .edges))
-    → let e = a .e in Rep q (relax q e (waits waiting q x rep h .0) (with-cells (set (x .cells) e none) x)) (c .relax .result) (c .relax .last .0)
+    → let e = a .e in Rep q (relax q e (waits waiting q x rep h .0) (emptied e x)) (c .relax .result) (c .relax .last .0)
 unfolding Relax-says
 relaxed c q x rep whole h =
-    let stored = c .before .before .before .before in
+    let stored = c .before .before .before .before .before in
     let waiting = stored .before .before in
     let a = waiting .before .before .before .before .args in
-    c .relax .ensures q (with-cells (set (x .cells) (a .e) none) x) (waits waiting q x rep h .0) (emptied stored q x rep h) whole h (offer-is waiting q x rep h)
+    c .relax .ensures q (emptied (a .e) x) (waits waiting q x rep h .0) (left stored q x rep h) whole h (offer-is waiting q x rep h)
 
 add-load : tie.Need-add-load
 add-load c = search needs
@@ -106,31 +105,37 @@ sub-r c =
     let m = waits waiting (s .case) (s .state) (s .rep) (s .below) in
     some-full (s .case) (s .state) _ _ (start .args .e) (m .0) (s .rep) (s .below) (m .1)
 
+add-r : tie.Need-add-r
+add-r c =
+    let start = c .before .before .before .before .before .before .before .before .before in
+    let s = start .pre in
+    omega (arith, delivery-room (s .case) (s .state) (start .args .run) (s .rep .held .laid .sound) (s .rep .held .laid .within) (s .moment) (s .rep .counted .tallied))
+
 relax-requires : tie.Need-relax-requires
 relax-requires c κs =
-    let stored = c .before .before .before in
+    let stored = c .before .before .before .before in
     let waiting = stored .before .before in
     let start = waiting .before .before .before .before in
     let s = start .pre in
     record {
       case = s .case;
-      state = with-cells (set (s .state .cells) (start .args .e) none) (s .state);
+      state = emptied (start .args .e) (s .state);
       offer = waits waiting (s .case) (s .state) (s .rep) (s .below) .0;
-      rep = emptied stored (s .case) (s .state) (s .rep) (s .below);
+      rep = left stored (s .case) (s .state) (s .rep) (s .below);
       below = s .below;
       is = offer-is waiting (s .case) (s .state) (s .rep) (s .below);
     }
 
 counted-requires : tie.Need-counted-requires
 counted-requires c κs =
-    let waiting = c .before .before .before .before .before .before .before in
+    let waiting = c .before .before .before .before .before .before .before .before in
     let start = waiting .before .before .before .before in
     let s = start .pre in
     let e = start .args .e in
     omega (
       arith,
       relaxed (c .before) (s .case) (s .state) (s .rep) (s .whole) (s .below) .counted .acts,
-      relax-count (s .case) e (waits waiting (s .case) (s .state) (s .rep) (s .below) .0) (with-cells (set (s .state .cells) e none) (s .state)),
+      relax-count (s .case) e (waits waiting (s .case) (s .state) (s .rep) (s .below) .0) (emptied e (s .state)),
       count-small (s .case) (s .state) (s .rep .held .laid .sound) (s .rep .held .laid .within) (s .moment),
     )
 
@@ -141,7 +146,7 @@ returns-2 : tie.Need-returns-2
 unfolding Deliver-says
 returns-2 c = λ q x rep whole h.
     let taken = c .before .before in
-    let waiting = taken .before .before .before .before .before .before in
+    let waiting = taken .before .before .before .before .before .before .before in
     let a = waiting .before .before .before .before .args in
     let m = waits waiting q x rep h in
     rw (c .counted .ensures, delivery-some q (a .e) (m .0) x (m .1)) (counted-rep q _ _ _ (relaxed taken q x rep whole h))
@@ -158,6 +163,7 @@ deliver-spec =
     add-store
     store-requires
     sub-r
+    add-r
     relax-requires
     counted-requires
     same-length-2

@@ -4,14 +4,14 @@ use native.Mathlib.Omega.{arith}
 use lib.ListN.{length}
 use lib.IntN.{pos, negℤ}
 use mir.Syntax.{w32}
-use mir.Val.{SFits, toZ}
+use mir.Val.{SFits, toZ, ofZ}
 use mir.Facts.{toZ-ofZ}
 use Rattle.model.specs.Graph.{mark}
 use Rattle.model.specs.Case.{Case, owner}
-use Rattle.model.specs.Run.{State}
-use Rattle.search.specs.Asks.{Offered-is, Edge-says, Scan-says}
+use Rattle.model.specs.Run.{State, scan-edge}
+use Rattle.search.specs.Asks.{Room, Offered-is, Edge-says, Scan-says}
 use Rattle.search.specs.Rep.{Laid, Rep}
-use Rattle.search.proofs.Ranges.{first-there, first-is, Own, own-edges, Halfway, half-start, half-step, half-broken, half-done, depth-is}
+use Rattle.search.proofs.Ranges.{first-there, first-is, Own, own-edges, Halfway, half-start, half-step, half-broken, half-done, depth-is, room-step}
 use Rattle.search.proofs.Steps.{owner-there, owner-is, is-broken, not-broken}
 use borrow.Author.Needs.{needs}
 use Rattle.search.proofs.run.scan.Statement.{statement}
@@ -20,7 +20,7 @@ use Rattle.search.proofs.run.scan.Tie as tie
 abbrev Inv-loop : tie.InvT-loop
 Inv-loop work₀ v d own offer end e₀ r₀ work e r = (e ≤ end) × (length work ≡ length work₀)
     × ((c : Case) (x : State) (o : ℕ) → Rep c x r₀ work₀ → Own c v e₀ end → owner c v ≡ own → toZ w32 offer ≡ negℤ (pos (o + mark (c .graph) v)) → Halfway c x v o e r work)
-    × (e₀ ≤ e)
+    × (e₀ ≤ e) × Room (end - e) r
 
 abbrev μ-loop : tie.MeasureT-loop
 μ-loop work₀ v d own offer end e₀ r₀ work e r = end - e
@@ -47,6 +47,38 @@ so-far : (c : tie.At-loop Inv-loop μ-loop) (q : Case) (x : State) (o : ℕ) →
 so-far c q x o rep h d =
     let read = c .before .before .before .before .before in
     c .loop .inv .2 q x o rep (ranged (c .before) q (rep .held .laid) h) (owner-is q _ _ (rep .held .laid) h _ (read .before .before .load-below .ensures .0)) (toZ-ofZ (fits read) ∙ offer-is read q o (rep .held .laid) h d)
+
+-- one edge more
+stepped : (c : tie.After-scan-edge Inv-loop μ-loop) → let loop = c .before .before .before .before .before in let end = loop .before .before .before in let read = end .before .before in let start = read .before .before .before .before in
+    let v = start .args .v in (q : Case) (x : State) (o : ℕ) → (u : Halfway q x v o (loop .loop .e) (loop .loop .r) (loop .loop .work)) → Own q v (loop .before .load-below3 .result) (end .load-below2 .result)
+    → owner q v ≡ read .before .before .load-below .result → toZ w32 (ofZ w32 (read .offered .result)) ≡ negℤ (pos (o + mark (q .graph) v)) → Rep q (scan-edge q v o (loop .loop .e) (u .at)) (c .scan-edge .result) (c .scan-edge .last .0)
+unfolding Edge-says
+stepped c q x o u own p i =
+    let loop = c .before .before .before .before .before in
+    let e = loop .loop .e in
+    let test = c .before .before .before .before .loop-test .taken in
+    let from = own .inside e (loop .loop .inv .3) test in
+    c .scan-edge .ensures q (u .at) _ o (u .rep) (not-broken (u .at .broken) (sym (u .rep .counted .broke) ∙ c .before .before .if1 .left)) (omega (arith, own .below, test)) from p
+    (i ∙ ap (λ (n : ℕ). negℤ (pos (o + n))) (sym (depth-is q _ e from)))
+
+-- and room for the offers of those that are left
+room-left : (c : tie.After-scan-edge Inv-loop μ-loop) → let loop = c .before .before .before .before .before in Room (loop .before .before .before .load-below2 .result - (loop .loop .e + 1)) (c .scan-edge .result)
+room-left c =
+    let loop = c .before .before .before .before .before in
+    let end = loop .before .before .before in
+    let read = end .before .before in
+    let start = read .before .before .before .before in
+    let s = start .pre in
+    let v = start .args .v in
+    let laid = s .rep .held .laid in
+    let test = c .before .before .before .before .loop-test .taken in
+    let u = so-far loop (s .case) (s .state) (s .depth) (s .rep) (s .below) (s .is) in
+    let n = end .load-below2 .result - (loop .loop .e + 1) in
+    let z : end .load-below2 .result - loop .loop .e ≡ n + 1 = omega (arith, test) in
+    room-step v (s .depth) (loop .loop .e) n (u .rep)
+    (stepped c (s .case) (s .state) (s .depth) u (ranged (loop .before) (s .case) laid (s .below)) (owner-is (s .case) _ _ laid (s .below) _ (read .before .before .load-below .ensures .0))
+    (toZ-ofZ (fits read) ∙ offer-is read (s .case) (s .depth) laid (s .below) (s .is)))
+    (rw z at (loop .loop .inv .4))
 
 add-load-below : tie.Need-add-load-below Inv-loop μ-loop
 add-load-below c = search needs
@@ -83,7 +115,8 @@ load-below-requires-3 c κs = let s = c .before .before .before .before .before 
 
 loop-holds : tie.Need-loop-holds Inv-loop μ-loop
 loop-holds c = let s = c .before .before .before .before .before .before .before .before .pre in
-    (ranged c (s .case) (s .rep .held .laid) (s .below) .order, refl, λ q x o rep own p i. half-start q x _ o _ _ own _ _ rep, omega arith)
+    let own = ranged c (s .case) (s .rep .held .laid) (s .below) in
+    (own .order, refl, λ q x o rep own p i. half-start q x _ o _ _ own _ _ rep, omega arith, record { sent = omega (arith, own .below, s .room .sent); joined = omega (arith, own .below, s .room .joined) })
 
 same-length : tie.Need-same-length Inv-loop μ-loop
 same-length c = c .before .before .before .loop .inv .1
@@ -101,13 +134,17 @@ scan-edge-requires c κs =
     let start = read .before .before .before .before in
     let s = start .pre in
     let u = so-far loop (s .case) (s .state) (s .depth) (s .rep) (s .below) (s .is) in
+    let test = c .before .before .before .loop-test .taken in
     record {
-      case = s .case;
-      state = u .at;
-      offer = s .depth + mark (s .case .graph) (start .args .v);
-      rep = u .rep;
-      below = omega (arith, ranged (loop .before) (s .case) (s .rep .held .laid) (s .below) .below, c .before .before .before .loop-test .taken);
-      is = toZ-ofZ (fits read) ∙ offer-is read (s .case) (s .depth) (s .rep .held .laid) (s .below) (s .is);
+      offer = record {
+        case = s .case;
+        state = u .at;
+        offer = s .depth + mark (s .case .graph) (start .args .v);
+        rep = u .rep;
+        below = omega (arith, ranged (loop .before) (s .case) (s .rep .held .laid) (s .below) .below, test);
+        is = toZ-ofZ (fits read) ∙ offer-is read (s .case) (s .depth) (s .rep .held .laid) (s .below) (s .is);
+      };
+      room = record { sent = omega (arith, loop .loop .inv .4 .sent, test); joined = omega (arith, loop .loop .inv .4 .joined, test) };
     }
 
 add-e : tie.Need-add-e Inv-loop μ-loop
@@ -117,19 +154,14 @@ loop-less : tie.Need-loop-less Inv-loop μ-loop
 loop-less c = omega (arith, c .before .before .before .before .before .loop-test .taken)
 
 loop-again : tie.Need-loop-again Inv-loop μ-loop
-unfolding Edge-says
 loop-again c =
     let test = c .before .before .before .before .before .loop-test .taken in
     let loop = c .before .before .before .before .before .before .loop in (
       omega (arith, test),
       omega (arith, c .before .scan-edge .kept .0, loop .inv .1),
-      λ q x o rep own p i.
-          let u = loop .inv .2 q x o rep own p i in
-          let from = own .inside (loop .e) (loop .inv .3) test in
-          half-step q x _ o _ _ own (loop .e) _ _ _ _ u test
-          (c .before .scan-edge .ensures q (u .at) _ o (u .rep) (not-broken (u .at .broken) (sym (u .rep .counted .broke) ∙ c .before .before .before .if1 .left)) (omega (arith, own .below, test)) from p
-          (i ∙ ap (λ (n : ℕ). negℤ (pos (o + n))) (sym (depth-is q _ (loop .e) from)))),
+      λ q x o rep own p i. half-step q x _ o _ _ own (loop .e) _ _ _ _ (loop .inv .2 q x o rep own p i) test (stepped (c .before) q x o (loop .inv .2 q x o rep own p i) own p i),
       omega (arith, loop .inv .3),
+      room-left (c .before),
     )
 
 same-length-2 : tie.Need-same-length-2 Inv-loop μ-loop

@@ -33,20 +33,20 @@ add-load-below : tie.Need-add-load-below
 add-load-below c = search needs
 
 load-below-requires : tie.Need-load-below-requires
-load-below-requires c κs = let s = c .before .pre in
+load-below-requires c κs = let s = c .before .pre .offer in
     (omega arith, target-there (s .case) _ _ (s .rep .held .laid) (s .below))
 
 add-load-below-2 : tie.Need-add-load-below-2
 add-load-below-2 c = search needs
 
 load-below-requires-2 : tie.Need-load-below-requires-2
-load-below-requires-2 c κs = let s = c .before .before .before .pre in
+load-below-requires-2 c κs = let s = c .before .before .before .pre .offer in
     (omega arith, owner-there (s .case) _ _ (s .rep .held .laid) (target-below (s .case) _ _ (s .rep .held .laid) (s .below) _ (c .before .load-below .ensures .0)))
 
 relax-requires : tie.Need-relax-requires
 relax-requires c κs =
     let start = c .before .before .before .before .before .before in
-    let s = start .pre in
+    let s = start .pre .offer in
     record { case = s .case; state = s .state; offer = s .offer; rep = s .rep; below = s .below; is = toZ-ofZ (start .fits .d) ∙ s .is }
 
 same-length : tie.Need-same-length
@@ -65,8 +65,8 @@ returns c = λ q x v o rep whole h from own d.
 send-requires : tie.Need-send-requires
 send-requires c κs =
     let start = c .before .before .before .before .before .before in
-    let s = start .pre in
-    record { case = s .case; state = s .state; offer = s .offer; rep = s .rep; below = s .below; is = toZ-ofZ (start .fits .d) ∙ s .is }
+    let s = start .pre .offer in
+    record { offer = record { case = s .case; state = s .state; offer = s .offer; rep = s .rep; below = s .below; is = toZ-ofZ (start .fits .d) ∙ s .is }; room = start .pre .room }
 
 same-length-2 : tie.Need-same-length-2
 same-length-2 c = search needs

@@ -16,7 +16,7 @@ use Rattle.model.proofs.Rounds.{scan-count}
 use Rattle.search.specs.Asks.{Pop-says, Scan-says, Turn-says}
 use Rattle.search.specs.Cells.{far}
 use Rattle.search.specs.Rep.{Rep}
-use Rattle.search.proofs.Acts.{depth-low, count-small, counted-rep, link-split, link-two, turn-idle, turn-is}
+use Rattle.search.proofs.Acts.{depth-low, count-small, scan-room, counted-rep, link-split, link-two, turn-idle, turn-is}
 use Rattle.search.proofs.Stores.{there}
 use Rattle.search.proofs.Steps.{head-there, head-is, head-below}
 use borrow.Author.Needs.{needs}
@@ -123,6 +123,7 @@ scan-requires c κs =
       below = head-below (s .case) (s .state) _ _ _ v (t .0) (s .rep) (s .worker) (t .1);
       is = toZ-ofZ f ∙ read-is read (s .case) (s .state) (s .rep) (s .worker) (s .moment);
       low = depth-low (s .case) (s .state) _ v (t .0) (s .rep .held .laid .sound) (s .rep .held .laid .within) (s .moment) (s .whole) (t .1);
+      room = scan-room (s .case) (s .state) _ (s .rep .held .laid .sound) (s .rep .held .laid .within) (s .moment) (popped gone (s .case) (s .state) (s .rep) (s .worker) .counted .tallied);
     }
 
 counted-requires : tie.Need-counted-requires
