@@ -3,12 +3,12 @@ use Rattle.text.proofs.Tests.{and-both}
 use mathlib.Core.Path.{_≡_, refl, sym, ap, _∙_}
 use mathlib.Core.Bool.{Bool, true, false, _&&_, cond}
 use mathlib.Core.List.{List, [], _∷_, _++_, append-assoc, append-nil}
-use Prim.Native.Nat.{ℕ, suc, _+_, _-_, _≤_, _<_}
+use Prim.Native.Nat.{ℕ, suc, _+_, _-_, _^_, _≤_, _<_}
 use native.Mathlib.Numerals.{add-one}
 use native.Mathlib.Omega.{arith}
 use lib.Dec.{eqb, lit<}
 use lib.ListN.{length, set, take, drop, length-set}
-use lib.Seq.{take-suc-set}
+use lib.Seq.{take-suc-set, length-take-le}
 use Rattle.text.specs.Lines.{Line, lines, line-at, fields}
 use Rattle.text.specs.Numbers.{numbers-line, all-numbers, number-at}
 use Rattle.text.specs.Reading.{line-here, past-line, row1-here}
@@ -120,3 +120,7 @@ module _ {s : List ℕ} {at k : ℕ} {xs ys : List ℕ} (l : Lists-on s at k xs 
 
 pub row-past : (s : List ℕ) (at : ℕ) {a z : ℕ} {r : Row1} → r ≡ row1-here s at → r ≡ Read a z → at < z
 row-past s at p q = row-rises (row1-read p q)
+
+-- the acts that were read are few: no more than the buffer has room for
+pub few-taken : (n : ℕ) (l : List ℕ) → n ≤ length l → length l ≡ 400000 → length (take n l) < 2 ^ 32
+few-taken n l h e = omega (arith, length-take-le n l h)

@@ -17,14 +17,15 @@ use Rattle.text.proofs.Chains.{puts, puts-then, puts-as}
 use Rattle.text.proofs.Decimals.{decimal-most}
 use Rattle.model.specs.Case.{Case, least-output, least-work}
 use Rattle.model.specs.CaseFile.{first-of, case-refusal, case-in}
-use Rattle.model.specs.Run.{State, has-ended, by-list}
+use Rattle.model.specs.Run.{Tallies, no-tallies, State, has-ended, by-list}
 use Rattle.model.specs.Answer.{lasso-word, empty-word, answer}
-use Rattle.model.specs.Entry.{acts-refusal, list-refusal, in-front, Run-says, List-says}
+use Rattle.model.specs.Entry.{acts-refusal, list-refusal, in-front, tallies-of, Run-says, List-says}
 use Rattle.model.specs.declared.Outcome.{Outcome}
+use Rattle.model.proofs.ActRules.{count-few}
 use Rattle.desk.specs.Lines.{Shows}
 use Rattle.desk.proofs.Buffers.{long-buffers}
 use Rattle.desk.proofs.Writing.{puts-shows}
-use Rattle.looplist.specs.Printing.{verdict-word, verdict-line, head, head-room, page, printed}
+use Rattle.looplist.specs.Printing.{verdict-word, verdict-line, count-line, tally-lines, head, head-room, page, printed}
 
 -- THE LINE OF THE VERDICT
 lasso-line : (v : ℕ) → v ≡ 1 → ascii "verdict lasso" ++ (10 ∷ []) ≡ verdict-line v
@@ -59,63 +60,81 @@ verdict-short v = go (eqb v 1) (eqb v 2)
     go false false = omega arith
 
 -- THE HEAD, as it is written
-pub head-parts : (k v n : ℕ) → ((ascii "refusal " ++ decimal k ++ (10 ∷ [])) ++ verdict-line v) ++ (ascii "acts " ++ decimal n ++ (10 ∷ [])) ≡ head k v n
-unfolding head text joined
-head-parts k v n = refl
+abbrev counted : (name : List ℕ) → (count : ℕ) → List ℕ
+counted s n = s ++ decimal n ++ (10 ∷ [])
 
-head-short : (k v n : ℕ) → length (head k v n) ≤ head-room
-head-short k v n =
-    let a = ascii "refusal " ++ decimal k ++ (10 ∷ []) in
-    let b = ascii "acts " ++ decimal n ++ (10 ∷ []) in
+pub tally-parts : (t : Tallies) → (counted (ascii "sent ") (t .sent) ++ counted (ascii "delivered ") (t .delivered)) ++ counted (ascii "joined ") (t .joined) ≡ tally-lines t
+unfolding tally-lines count-line text joined
+tally-parts t = refl
+
+pub head-parts : (k v n : ℕ) (t : Tallies) → ((counted (ascii "refusal ") k ++ verdict-line v) ++ counted (ascii "acts ") n) ++ tally-lines t ≡ head k v n t
+unfolding head count-line text joined
+head-parts k v n t = refl
+
+counted-short : (s : List ℕ) (n : ℕ) → length (counted s n) ≤ length s + 11
+counted-short s n = omega (arith, length-append (s ++ decimal n) (10 ∷ []), length-append s (decimal n), decimal-most n)
+
+tally-short : (t : Tallies) → length (tally-lines t) ≤ 55
+tally-short t =
+    let a = counted (ascii "sent ") (t .sent) in
+    let b = counted (ascii "delivered ") (t .delivered) in
+    let c = counted (ascii "joined ") (t .joined) in
+    omega (arith, ap length (sym (tally-parts t)), length-append (a ++ b) c, length-append a b, counted-short (ascii "sent ") (t .sent), counted-short (ascii "delivered ") (t .delivered), counted-short (ascii "joined ") (t .joined))
+
+head-short : (k v n : ℕ) (t : Tallies) → length (head k v n t) ≤ head-room
+head-short k v n t =
+    let a = counted (ascii "refusal ") k in
+    let b = counted (ascii "acts ") n in
     omega (
       arith,
-      ap length (sym (head-parts k v n)),
+      ap length (sym (head-parts k v n t)),
+      length-append ((a ++ verdict-line v) ++ b) (tally-lines t),
       length-append (a ++ verdict-line v) b,
       length-append a (verdict-line v),
       verdict-short v,
-      length-append (ascii "refusal " ++ decimal k) (10 ∷ []),
-      length-append (ascii "refusal ") (decimal k),
-      decimal-most k,
-      length-append (ascii "acts " ++ decimal n) (10 ∷ []),
-      length-append (ascii "acts ") (decimal n),
-      decimal-most n,
+      counted-short (ascii "refusal ") k,
+      counted-short (ascii "acts ") n,
+      tally-short t,
     )
 
 -- THE RUN: its answer is within the output, and behind the head it is the page
-pub record Leaves (all : List ℕ) (r : Outcome) (z : List ℕ) : Type 0 where
+pub record Leaves (most : ℕ) (all : List ℕ) (r : Outcome) (z : List ℕ) : Type 0 where
+  pub few : r .acts ≤ most
   pub within : r .written ≤ length z
-  pub whole : head (r .refusal) (r .verdict) (r .acts) ++ take (r .written) z ≡ all
+  pub whole : head (r .refusal) (r .verdict) (r .acts) (tallies-of r) ++ take (r .written) z ≡ all
 
-alone : (k v n : ℕ) (r : Outcome) (z : List ℕ) → r .refusal ≡ k → r .verdict ≡ v → r .acts ≡ n → r .written ≡ 0 → Leaves (head k v n) r z
-alone k v n r z a b c d = record { within = omega arith; whole = rw (a, b, c, d) (append-nil (head k v n)) }
+module _ (most k v n : ℕ) (t : Tallies) (r : Outcome) (z : List ℕ) (a : r .refusal ≡ k) (b : r .verdict ≡ v) (c : r .acts ≡ n) (f : n ≤ most) (d : tallies-of r ≡ t) where
+  alone : r .written ≡ 0 → Leaves most (head k v n t) r z
+  alone e = record { few = omega arith; within = omega arith; whole = rw (a, b, c, d, e) (append-nil (head k v n t)) }
 
-with-answer : (k v n : ℕ) (bs o : List ℕ) (r : Outcome) (z : List ℕ) → r .refusal ≡ k → r .verdict ≡ v → r .acts ≡ n → r .written ≡ length bs → z ≡ in-front bs o → Leaves (head k v n ++ bs) r z
-unfolding in-front
-with-answer k v n bs o r z a b c d e = record {
-  within = omega (arith, d, ap length e, length-append bs (drop (length bs) o));
-  whole = rw (a, b, c, d, e, take-append-seam bs (drop (length bs) o)) refl;
-}
+  with-answer : (bs o : List ℕ) → r .written ≡ length bs → z ≡ in-front bs o → Leaves most (head k v n t ++ bs) r z
+  unfolding in-front
+  with-answer bs o e g = record {
+    few = omega arith;
+    within = omega (arith, e, ap length g, length-append bs (drop (length bs) o));
+    whole = rw (a, b, c, d, e, g, take-append-seam bs (drop (length bs) o)) refl;
+  }
 
-leaves : (k : ℕ) (b : Bool) (c : Case) (x : State) (r : Outcome) (o z : List ℕ) (w v : List ℤ) → Run-says k b c x r o z w v → Leaves (page k b c x) r z
+leaves : (most k : ℕ) (b : Bool) (c : Case) (x : State) (r : Outcome) (o z : List ℕ) (w v : List ℤ) → x .count ≤ most → Run-says k b c x r o z w v → Leaves most (page k b c x) r z
 unfolding Run-says page
-leaves (suc k) b c x r o z w v t = alone (suc k) 0 0 r z (t .refusal) (t .verdict) (t .acts) (t .written)
-leaves zero true c x r o z w v t = with-answer 0 _ (x .count) (answer (c .graph) x) o r z (t .refusal) (t .verdict) (t .acts) (t .written) (t .output)
-leaves zero false c x r o z w v t = alone 10 0 (x .count) r z (t .refusal) (t .verdict) (t .acts) (t .written)
+leaves n (suc k) b c x r o z w v l t = alone n (suc k) 0 0 no-tallies r z (t .refusal) (t .verdict) (t .acts) (omega arith) (t .tallies) (t .written)
+leaves n zero true c x r o z w v l t = with-answer n 0 _ (x .count) (x .tallies) r z (t .refusal) (t .verdict) (t .acts) l (t .tallies) (answer (c .graph) x) o (t .written) (t .output)
+leaves n zero false c x r o z w v l t = alone n 10 0 (x .count) (x .tallies) r z (t .refusal) (t .verdict) (t .acts) l (t .tallies) (t .written)
 
 first-skip : (ks : List ℕ) → first-of (0 ∷ ks) ≡ first-of ks
 unfolding first-of
 first-skip ks = refl
 
-pub list-leaves : (bs xs : List ℕ) {r : Outcome} (o : List ℕ) {z : List ℕ} (w v : List ℤ) → least-output ≤ length o → least-work ≤ length w → List-says bs xs r o z w v → Leaves (printed bs xs) r z
+pub list-leaves : (bs xs : List ℕ) {r : Outcome} (o : List ℕ) {z : List ℕ} (w v : List ℤ) → least-output ≤ length o → least-work ≤ length w → List-says bs xs r o z w v → Leaves (length xs) (printed bs xs) r z
 unfolding List-says list-refusal printed
 list-leaves bs xs {r} o {z} w v a b s =
     let x = by-list (case-in bs) xs in
-    leaves (first-of (case-refusal bs ∷ acts-refusal (case-in bs) xs ∷ [])) (has-ended x) (case-in bs) x r o z w v
+    leaves (length xs) (first-of (case-refusal bs ∷ acts-refusal (case-in bs) xs ∷ [])) (has-ended x) (case-in bs) x r o z w v (count-few (case-in bs) xs)
     (rw (long-buffers (length o) (length w) a b, first-skip (case-refusal bs ∷ acts-refusal (case-in bs) xs ∷ [])) at s)
 
 -- THE PAGE: the head and then the answer
-pub page-shows : {all : List ℕ} {r : Outcome} {z : List ℕ} {at n : ℕ} {p q y : List ℕ} → Leaves all r z → head-room + length z ≤ length p
-    → Puts 0 (head (r .refusal) (r .verdict) (r .acts)) at p q → Writes at (take (r .written) z) n q y → Shows all n y
-page-shows {all} {r} {z} l room h w =
+pub page-shows : {most : ℕ} {all : List ℕ} {r : Outcome} {z : List ℕ} {at n : ℕ} {p q y : List ℕ} → Leaves most all r z → head-room + length z ≤ length p
+    → Puts 0 (head (r .refusal) (r .verdict) (r .acts) (tallies-of r)) at p q → Writes at (take (r .written) z) n q y → Shows all n y
+page-shows {most} {all} {r} {z} l room h w =
     rw (← l .whole) (puts-shows (puts-then h (puts w))
-    (omega (arith, length-append (head (r .refusal) (r .verdict) (r .acts)) (take (r .written) z), head-short (r .refusal) (r .verdict) (r .acts), length-take-le (r .written) z (l .within), l .within)))
+    (omega (arith, length-append (head (r .refusal) (r .verdict) (r .acts) (tallies-of r)) (take (r .written) z), head-short (r .refusal) (r .verdict) (r .acts) (tallies-of r), length-take-le (r .written) z (l .within), l .within)))

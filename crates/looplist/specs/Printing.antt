@@ -8,29 +8,35 @@ use Rattle.text.specs.Lines.{text}
 use Rattle.text.specs.Numbers.{decimal}
 use Rattle.model.specs.Case.{Case}
 use Rattle.model.specs.CaseFile.{first-of, case-refusal, case-in}
-use Rattle.model.specs.Run.{State, has-ended, by-list}
+use Rattle.model.specs.Run.{Tallies, no-tallies, State, has-ended, by-list}
 use Rattle.model.specs.Answer.{lasso-word, empty-word, lasso-verdict, empty-verdict, no-verdict, answer}
 use Rattle.model.specs.Entry.{acts-refusal, verdict}
 
--- THE LINES IN FRONT
+-- THE LINES IN FRONT: a name and a count
+unfoldable pub count-line : (name : List ℕ) → (count : ℕ) → List ℕ
+count-line s n = text ((s ∷ decimal n ∷ []) ∷ [])
+
 unfoldable pub verdict-word : (verdict : ℕ) → List ℕ
 verdict-word v = cond (eqb v lasso-verdict) lasso-word (cond (eqb v empty-verdict) empty-word (ascii "none"))
 
 unfoldable pub verdict-line : (verdict : ℕ) → List ℕ
 verdict-line v = text ((ascii "verdict" ∷ verdict-word v ∷ []) ∷ [])
 
-unfoldable pub head : (refusal verdict acts : ℕ) → List ℕ
-head k v n = text ((ascii "refusal" ∷ decimal k ∷ []) ∷ []) ++ verdict-line v ++ text ((ascii "acts" ∷ decimal n ∷ []) ∷ [])
+unfoldable pub tally-lines : Tallies → List ℕ
+tally-lines t = count-line (ascii "sent") (t .sent) ++ count-line (ascii "delivered") (t .delivered) ++ count-line (ascii "joined") (t .joined)
+
+unfoldable pub head : (refusal verdict acts : ℕ) → Tallies → List ℕ
+head k v n t = count-line (ascii "refusal") k ++ verdict-line v ++ count-line (ascii "acts") n ++ tally-lines t
 
 -- they have room here
 abbrev pub head-room : ℕ
-head-room = 64
+head-room = 128
 
 -- THE PAGE: refused; ended, with the answer; or cut short, refusal 10
 unfoldable pub page : (refusal : ℕ) → (ended : Bool) → Case → State → List ℕ
-page (suc k) b c x = head (suc k) no-verdict 0
-page zero true c x = head 0 (verdict x) (x .count) ++ answer (c .graph) x
-page zero false c x = head 10 no-verdict (x .count)
+page (suc k) b c x = head (suc k) no-verdict 0 no-tallies
+page zero true c x = head 0 (verdict x) (x .count) (x .tallies) ++ answer (c .graph) x
+page zero false c x = head 10 no-verdict (x .count) (x .tallies)
 
 unfoldable pub printed : (case acts : List ℕ) → List ℕ
 printed bs xs =

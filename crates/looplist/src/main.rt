@@ -1,10 +1,10 @@
 // Replays a recorded order of acts on a case, both files named on the command line, and prints what came of it: refusal,
-// verdict and acts, a line each, then the answer where there is one. No act is guessed: a bad list is not run.
+// verdict, acts and tallies, a line each, then the answer where there is one. No act is guessed: a bad list is not run.
 mod acts;
 mod complaint;
 mod page;
 
-ghost use Prim.Native.Nat.{_+_, _≤_};
+ghost use Prim.Native.Nat.{_+_, _≤_, _<_, _^_};
 ghost use lib.ListN.{length};
 ghost use Rattle.model.specs.Case.{least-output, least-work};
 ghost use Rattle.desk.specs.Lines.{Shows};
@@ -30,7 +30,7 @@ const MOST_ACTS: usize = 400000;
 const TEXT: usize = 4000001;
 
 // Room for an answer behind the lines in front.
-const PAGE: usize = Case::LEAST_OUTPUT + 64;
+const PAGE: usize = Case::LEAST_OUTPUT + 128;
 
 // Which argument names which file.
 const CASE: usize = 1;
@@ -39,7 +39,7 @@ pub(crate) const ACTS: usize = 2;
 
 // What is to be printed of a case and a list, at the page's front; its length.
 fn replay(case: &[u8], acts: &[u32], output: &mut [u8], work: &mut [i32], page: &mut [u8]) -> usize
-    requires { ⌜ (least-output ≤ length (now output)) × (least-work ≤ length (now work)) × (head-room + length (now output) ≤ length (now page)) ⌝ }
+    requires { ⌜ (least-output ≤ length (now output)) × (least-work ≤ length (now work)) × (head-room + length (now output) ≤ length (now page)) × (length (now acts) < 2 ^ 32) ⌝ }
     ensures { λ r. ⌜ Shows (printed (now (case .entry)) (now (acts .entry))) r (now (page .exit)) ⌝ }
 {
     let outcome = run_list(case, acts, output, work);
@@ -48,7 +48,9 @@ fn replay(case: &[u8], acts: &[u32], output: &mut [u8], work: &mut [i32], page: 
     write_bytes(page, at, &output[..size])
 }
 
-fn print_replay(case: &[u8], acts: &[u32]) {
+fn print_replay(case: &[u8], acts: &[u32])
+    requires { ⌜ length (now acts) < 2 ^ 32 ⌝ }
+{
     let mut output = [0u8; Case::LEAST_OUTPUT];
     let mut work = [0i32; Case::LEAST_WORK];
     let mut page = [0u8; PAGE];

@@ -1,8 +1,10 @@
-// The lines in front of the answer: refusal, verdict and acts.
+// The lines in front of the answer: refusal, verdict, acts and tallies.
 ghost use mathlib.Core.List.{[], _∷_, _++_};
 ghost use Rattle.text.specs.Numbers.{decimal};
 ghost use Rattle.text.specs.Writing.{Puts};
-ghost use Rattle.looplist.specs.Printing.{verdict-line, head};
+ghost use Prim.Native.Nat.{_<_, _^_};
+ghost use Rattle.model.specs.Entry.{tallies-of};
+ghost use Rattle.looplist.specs.Printing.{verdict-line, tally-lines, head};
 use model::Outcome;
 use text::write::write_byte;
 use text::write::write_bytes;
@@ -29,11 +31,21 @@ fn write_verdict(page: &mut [u8], at: usize, verdict: u32) -> usize
     write_bytes(page, at, b"verdict none\n")
 }
 
-// All three at the page's front; the place past them.
+fn write_tallies(page: &mut [u8], at: usize, outcome: Outcome) -> usize
+    ensures { λ r. ⌜ Puts at (tally-lines (tallies-of outcome)) r (now (page .entry)) (now (page .exit)) ⌝ }
+{
+    let a = write_count(page, at, b"sent ", outcome.sent);
+    let b = write_count(page, a, b"delivered ", outcome.delivered);
+    write_count(page, b, b"joined ", outcome.joined)
+}
+
+// All of them at the page's front; the place past them.
 pub(crate) fn write_head(page: &mut [u8], outcome: Outcome) -> usize
-    ensures { λ r. ⌜ Puts 0 (head (outcome .refusal) (outcome .verdict) (outcome .acts)) r (now (page .entry)) (now (page .exit)) ⌝ }
+    requires { ⌜ outcome .acts < 2 ^ 32 ⌝ }
+    ensures { λ r. ⌜ Puts 0 (head (outcome .refusal) (outcome .verdict) (outcome .acts) (tallies-of outcome)) r (now (page .entry)) (now (page .exit)) ⌝ }
 {
     let a = write_count(page, 0, b"refusal ", outcome.refusal);
     let b = write_verdict(page, a, outcome.verdict);
-    write_count(page, b, b"acts ", outcome.acts)
+    let c = write_count(page, b, b"acts ", outcome.acts as u32);
+    write_tallies(page, c, outcome)
 }

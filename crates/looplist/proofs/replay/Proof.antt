@@ -11,7 +11,10 @@ run-list-requires : tie.Need-run-list-requires
 run-list-requires c κs = search needs
 
 write-head-requires : tie.Need-write-head-requires
-write-head-requires c κs = search needs
+write-head-requires c κs =
+    let ran = c .before .before .before .before in
+    let s = ran .before .before .before .before .before .before .before .pre in
+    omega (arith, list-leaves _ _ _ _ _ (s .0) (s .1) (ran .run-list .ensures) .few, s .3)
 
 cast-size : tie.Need-cast-size
 cast-size c = search needs

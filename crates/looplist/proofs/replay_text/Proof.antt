@@ -1,6 +1,7 @@
 -- `replay_text`: the acts read are within the buffer.
 use mathlib.Core.Path.{sym}
 use lib.Seq.{length-take-le}
+use Rattle.looplist.proofs.Listing.{few-taken}
 use borrow.Author.Needs.{needs}
 use Rattle.looplist.proofs.replay_text.Statement.{statement}
 use Rattle.looplist.proofs.replay_text.Tie as tie
@@ -21,7 +22,9 @@ slice-aggregate-print-replay : tie.Need-slice-aggregate-print-replay
 slice-aggregate-print-replay c = sym (length-take-le _ _ (c .before .before .before .before .before .list-acts .ensures .within _ (c .before .before .n .given .1)))
 
 print-replay-requires : tie.Need-print-replay-requires
-print-replay-requires c κs = search needs
+print-replay-requires c κs =
+    let read = c .before .before .before .before .before in
+    few-taken _ _ (read .list-acts .ensures .within _ (c .before .before .n .given .1)) (read .list-acts .kept .1 .0)
 
 enum-known-line : tie.Need-enum-known-line
 enum-known-line c = search needs
