@@ -1,4 +1,4 @@
-// The table of kept runs, K1 to K11. Cases and answers stand here from line 2 on.
+// The table of kept runs, K1 to K11, and one in which a message joins. Cases and answers stand here from line 2 on.
 use crate::line::Wanted;
 use crate::line::by_list;
 use crate::line::by_rounds;
@@ -26,7 +26,7 @@ fn k1(wrong: u32) -> u32 {
         wrong,
         b"K1",
         b"1 3 3 0 2\nvertex accepting owner\n0 0 0\n1 1 1\n2 0 0\nfrom to\n0 1\n1 2\n2 1\n",
-        Wanted::lasso(8),
+        Wanted::lasso(8).tallied(4, 4, 0),
         b"1 lasso 1 2 0\nedge\n0\n1\n2\n",
     )
 }
@@ -36,7 +36,7 @@ fn k2(wrong: u32) -> u32 {
         wrong,
         b"K2",
         b"1 3 3 0 2\nvertex accepting owner\n0 1 0\n1 0 1\n2 0 0\nfrom to\n0 1\n1 2\n2 1\n",
-        Wanted::empty(6),
+        Wanted::empty(6).tallied(3, 3, 0),
         b"1 empty 0 0 3\nvertex distance\n0 0\n1 -1\n2 -1\n",
     )
 }
@@ -121,9 +121,22 @@ fn k11(wrong: u32) -> u32 {
     )
 }
 
+// Vertex 0 is scanned again before its message to 2 is delivered.
+fn one_joins(wrong: u32) -> u32 {
+    let again = [0u32, 3, 1, 5, 0];
+    by_list(
+        wrong,
+        b"a message joins and three wait",
+        b"1 3 4 0 3\nvertex accepting owner\n0 0 0\n1 1 1\n2 0 2\nfrom to\n0 1\n0 2\n1 0\n1 2\n",
+        &again,
+        Wanted::cut_short(5).tallied(6, 2, 1),
+        b"",
+    )
+}
+
 // The whole table.
 pub(crate) fn table(wrong: u32) -> u32 {
     let a = k5(k4(k3(k2(k1(wrong)))));
     let b = k9(k8(k7(k6(a))));
-    k11(k10(b))
+    one_joins(k11(k10(b)))
 }

@@ -135,7 +135,7 @@ fn ring_16(wrong: u32) -> u32 {
         wrong,
         b"16 workers, 500 vertices",
         front(&buffer, size),
-        Wanted::lasso(2000),
+        Wanted::lasso(2000).tallied(1000, 1000, 0),
         answer,
     )
 }
@@ -163,27 +163,22 @@ fn ring_lists(wrong: u32) -> u32 {
     let a = ring_list(
         wrong,
         b"the same, 2,000 acts",
-        Wanted::lasso(2000),
+        Wanted::lasso(2000).tallied(1000, 1000, 0),
         front(&expected, n),
     );
-    ring_list(a, b"the same, 1,999 acts", Wanted::cut_short(1999), b"")
+    let one_waits = Wanted::cut_short(1999).tallied(1000, 999, 0);
+    ring_list(a, b"the same, 1,999 acts", one_waits, b"")
 }
 
 // The first 2,000 edges of the complete graph on 500, none accepting: every vertex takes a turn. With 16 workers the owner
 // of each of the vertices 0 to 3 owns 32, so that each sends to 468, and each message takes a delivery.
-fn full(wrong: u32, name: &[u8], workers: u32, acts: u32) -> u32 {
+fn full(wrong: u32, name: &[u8], workers: u32, wanted: Wanted) -> u32 {
     let mut buffer = [0u8; 65536];
     let mut expected = [0u8; 8192];
     let n = sizes::write_full_answer(&mut expected);
     let answer = front(&expected, n);
     let size = sizes::write_full(&mut buffer, 500, 2000, workers, 500);
-    rounds_of(
-        wrong,
-        name,
-        front(&buffer, size),
-        Wanted::empty(acts),
-        answer,
-    )
+    rounds_of(wrong, name, front(&buffer, size), wanted, answer)
 }
 
 // The same with an accepting source, which the first edge leads back to: a turn, 468 deliveries, and the next turn.
@@ -194,7 +189,7 @@ fn full_lasso(wrong: u32) -> u32 {
         wrong,
         b"2,000 edges, accepting source",
         front(&buffer, size),
-        Wanted::lasso(470),
+        Wanted::lasso(470).tallied(468, 468, 0),
         b"version verdict stem cycle reached\n1 lasso 0 1 0\nedge\n0\n",
     )
 }
@@ -208,8 +203,9 @@ fn too_many(wrong: u32, name: &[u8], n: u32, m: u32, workers: u32) -> u32 {
 
 pub(crate) fn counts(wrong: u32) -> u32 {
     let a = ring_lists(ring_16(ring_500(wrong)));
-    let b = full(a, b"2,000 edges", 1, 500);
-    let c = full(b, b"16 workers, 2,000 edges", 16, 2372);
+    let b = full(a, b"2,000 edges", 1, Wanted::empty(500));
+    let busy = Wanted::empty(2372).tallied(1872, 1872, 0);
+    let c = full(b, b"16 workers, 2,000 edges", 16, busy);
     let d = too_many(full_lasso(c), b"501 vertices", 501, 0, 1);
     let e = too_many(d, b"2,001 edges", 500, 2001, 1);
     too_many(e, b"17 workers", 500, 2000, 17)

@@ -19,40 +19,51 @@ const SHORT: usize = 100;
 pub(crate) struct Wanted {
     pub refusal: u32,
     pub verdict: u32,
-    pub acts: u32,
+    pub acts: u64,
+    pub sent: u32,
+    pub delivered: u32,
+    pub joined: u32,
 }
 
 impl Wanted {
-    pub(crate) fn lasso(acts: u32) -> Wanted {
-        Wanted {
-            refusal: 0,
-            verdict: Outcome::LASSO,
-            acts: acts,
-        }
+    pub(crate) fn lasso(acts: u64) -> Wanted {
+        silent(0, Outcome::LASSO, acts)
     }
 
-    pub(crate) fn empty(acts: u32) -> Wanted {
-        Wanted {
-            refusal: 0,
-            verdict: Outcome::EMPTY,
-            acts: acts,
-        }
+    pub(crate) fn empty(acts: u64) -> Wanted {
+        silent(0, Outcome::EMPTY, acts)
     }
 
-    pub(crate) fn cut_short(acts: u32) -> Wanted {
-        Wanted {
-            refusal: 10,
-            verdict: Outcome::NONE,
-            acts: acts,
-        }
+    pub(crate) fn cut_short(acts: u64) -> Wanted {
+        silent(10, Outcome::NONE, acts)
     }
 
     pub(crate) fn refused(refusal: u32) -> Wanted {
+        silent(refusal, Outcome::NONE, 0)
+    }
+
+    // The same with messages.
+    pub(crate) fn tallied(self, sent: u32, delivered: u32, joined: u32) -> Wanted {
         Wanted {
-            refusal: refusal,
-            verdict: Outcome::NONE,
-            acts: 0,
+            refusal: self.refusal,
+            verdict: self.verdict,
+            acts: self.acts,
+            sent: sent,
+            delivered: delivered,
+            joined: joined,
         }
+    }
+}
+
+// A run without a message.
+fn silent(refusal: u32, verdict: u32, acts: u64) -> Wanted {
+    Wanted {
+        refusal: refusal,
+        verdict: verdict,
+        acts: acts,
+        sent: 0,
+        delivered: 0,
+        joined: 0,
     }
 }
 
@@ -135,14 +146,31 @@ fn print_outcome(o: Outcome) {
     print(b", ");
     print_verdict(o.verdict);
     print(b", acts ");
-    print_number(o.acts);
+    io::print_decimal(STDOUT_FILENO, o.acts);
+    print_tallies(o);
     print(b", written ");
     print_number(o.written);
 }
 
+fn print_tallies(o: Outcome) {
+    print(b", sent ");
+    print_number(o.sent);
+    print(b", delivered ");
+    print_number(o.delivered);
+    print(b", joined ");
+    print_number(o.joined);
+}
+
 // Whether the counts are the wanted ones.
 fn same_outcome(o: Outcome, wanted: Wanted) -> bool {
-    o.refusal == wanted.refusal && o.verdict == wanted.verdict && o.acts == wanted.acts
+    let outcome = o.refusal == wanted.refusal
+        && o.verdict == wanted.verdict
+        && o.acts == wanted.acts;
+    outcome && same_tallies(o, wanted)
+}
+
+fn same_tallies(o: Outcome, wanted: Wanted) -> bool {
+    o.sent == wanted.sent && o.delivered == wanted.delivered && o.joined == wanted.joined
 }
 
 // What the checker says of the answer in front of the output: its verdict, none where nothing was written.

@@ -40,15 +40,17 @@ fn whole_rounds(wrong: u32, name: &[u8], size: usize) -> u32 {
         wrong,
         name,
         size,
-        Wanted::lasso(8),
+        Wanted::lasso(8).tallied(4, 4, 0),
         b"1 lasso 1 2 0\nedge\n0\n1\n2\n",
     )
 }
 
 fn by_whole_rounds(wrong: u32) -> u32 {
     let a = whole_rounds(wrong, b"K1, six whole rounds", 30);
-    let b = rounds_of_k1(a, b"K1, three whole rounds", 15, Wanted::cut_short(6), b"");
-    let c = rounds_of_k1(b, b"K1, 18 acts of rounds", 18, Wanted::cut_short(7), b"");
+    let three = Wanted::cut_short(6).tallied(3, 3, 0);
+    let b = rounds_of_k1(a, b"K1, three whole rounds", 15, three, b"");
+    let one_waits = Wanted::cut_short(7).tallied(4, 3, 0);
+    let c = rounds_of_k1(b, b"K1, 18 acts of rounds", 18, one_waits, b"");
     whole_rounds(c, b"K1, 19 acts of rounds", 19)
 }
 
@@ -76,7 +78,8 @@ fn late_act(wrong: u32) -> u32 {
 fn by_one_act(wrong: u32) -> u32 {
     let a = one_act(wrong, b"K1, the one act 4", 4, Wanted::cut_short(0));
     let b = one_act(a, b"K1, the one act 5", 5, Wanted::refused(9));
-    one_act(late_act(b), b"K1, the one act 0", 0, Wanted::cut_short(1))
+    let one_waits = Wanted::cut_short(1).tallied(1, 0, 0);
+    one_act(late_act(b), b"K1, the one act 0", 0, one_waits)
 }
 
 // Delivered after a lower one has been taken.
@@ -87,7 +90,7 @@ fn late_offer(wrong: u32) -> u32 {
         b"late higher offer",
         b"1 3 3 0 2\nvertex accepting owner\n0 0 0\n1 1 0\n2 0 1\nfrom to\n0 1\n0 2\n1 2\n",
         &late,
-        Wanted::empty(5),
+        Wanted::empty(5).tallied(2, 2, 0),
         b"1 empty 0 0 3\nvertex distance\n0 0\n1 0\n2 -1\n",
     )
 }
@@ -100,7 +103,7 @@ fn meeting_offers(wrong: u32) -> u32 {
         b"offer that meets a waiting one",
         b"1 4 4 0 2\nvertex accepting owner\n0 0 0\n1 0 0\n2 1 0\n3 0 1\nfrom to\n0 1\n0 2\n1 3\n2 1\n",
         &met,
-        Wanted::empty(6),
+        Wanted::empty(6).tallied(2, 1, 1),
         b"1 empty 0 0 4\nvertex distance\n0 0\n1 -1\n2 0\n3 -1\n",
     )
 }
@@ -111,7 +114,7 @@ fn parted_offers(wrong: u32) -> u32 {
         wrong,
         b"the same by rounds",
         b"1 4 4 0 2\nvertex accepting owner\n0 0 0\n1 0 0\n2 1 0\n3 0 1\nfrom to\n0 1\n0 2\n1 3\n2 1\n",
-        Wanted::empty(8),
+        Wanted::empty(8).tallied(2, 2, 0),
         b"1 empty 0 0 4\nvertex distance\n0 0\n1 -1\n2 0\n3 -1\n",
     )
 }

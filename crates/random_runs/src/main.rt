@@ -1,5 +1,5 @@
 // Random graphs against a plain nested search: each by rounds and by random lists of acts, with several numbers of
-// workers, every answer put to the checker. It prints totals; the file stdout has what must come.
+// workers, every answer put to the checker, the tallies summed up. It prints totals; the file stdout has what must come.
 mod graph;
 mod nested;
 mod runs;
@@ -28,7 +28,9 @@ const DAMAGED: usize = 8;
 
 const FOUND: usize = 11;
 
-const TOTALS: usize = 14;
+const JOINED: usize = 14;
+
+const TOTALS: usize = 15;
 
 fn verdict(lasso: bool) -> u32 {
     if lasso {
@@ -62,15 +64,24 @@ fn share(x: u32) -> usize {
     }
 }
 
-// The long list, where the short one ran out.
-fn try_again(case: &[u8], acts: &[u32], short: usize, want: u32, one: &[u8]) -> usize {
-    if short != runs::CUT_SHORT {
-        return runs::NOT_RUN;
+// A run by a list: its kind, and whether a message joined in it.
+fn try_list(totals: &mut [u32], case: &[u8], acts: &[u32], want: u32, one: &[u8]) -> usize {
+    let came = runs::by_list(case, acts, want, one);
+    count(totals, BY_LISTS, came.kind);
+    if came.joined != 0 {
+        count(totals, JOINED, 0);
     }
-    runs::by_list(case, acts, want, one)
+    came.kind
 }
 
-// A short list, and one of 20,000 acts that begins with it.
+// The long list, where the short one ran out.
+fn try_again(totals: &mut [u32], case: &[u8], acts: &[u32], short: usize, want: u32, one: &[u8]) {
+    if short == runs::CUT_SHORT {
+        try_list(totals, case, acts, want, one);
+    }
+}
+
+// A short list and, where it runs out, one of 20,000 acts that begins with it.
 fn try_lists(
     totals: &mut [u32],
     case: &[u8],
@@ -81,10 +92,9 @@ fn try_lists(
 ) -> u32 {
     let mut acts = [0u32; 20000];
     let x = graph::draw_acts(&mut acts, limit, seed);
-    let short = runs::by_list(case, front_acts(&acts, below(x, 2000)), want, one);
-    let long = try_again(case, &acts, short, want, one);
-    count(totals, BY_LISTS, short);
-    count(totals, BY_LISTS, long);
+    let short = front_acts(&acts, below(x, 2000));
+    let kind = try_list(totals, case, short, want, one);
+    try_again(totals, case, &acts, kind, want, one);
     next(x)
 }
 
@@ -237,5 +247,6 @@ fn main() {
     print_runs(&totals, BY_ROUNDS);
     io::write_all(STDOUT, b"runs by a list\n");
     print_runs(&totals, BY_LISTS);
+    print_total(&totals, JOINED, 0, b"  with a message that joined: ");
     print_damaged(&totals);
 }

@@ -26,6 +26,12 @@ pub const CUT_SHORT: usize = 3;
 // No kind at all: it is not counted.
 pub const NOT_RUN: usize = 64;
 
+// What came of a run by a list: its kind, and how many messages joined.
+pub(crate) struct Came {
+    pub kind: usize,
+    pub joined: u32,
+}
+
 pub const DAMAGED_REFUSED: usize = 1;
 
 pub const DAMAGED_PASSED: usize = 2;
@@ -62,10 +68,20 @@ fn answer_right(case: &[u8], answer: &[u8], want: u32, one: &[u8]) -> bool {
     want == Outcome::LASSO || check::same(answer, one)
 }
 
+// Whether no more messages are delivered and joined than sent, and all that were sent where none waits any more.
+fn tallies_right(o: Outcome) -> bool {
+    let gone = o.delivered as u64 + o.joined as u64;
+    let sent = o.sent as u64;
+    if o.verdict == Outcome::EMPTY {
+        return gone == sent;
+    }
+    gone <= sent
+}
+
 // What came of a run.
 fn judged(case: &[u8], o: Outcome, want: u32, one: &[u8], output: &[u8], work: &[i32]) -> usize {
     let written = o.written as usize;
-    if !all_are(work, 0) || !untouched(output, written) {
+    if !all_are(work, 0) || !untouched(output, written) || !tallies_right(o) {
         return MISMATCH;
     }
     if o.refusal == 10 && o.verdict == Outcome::NONE && written == 0 {
@@ -95,14 +111,20 @@ pub(crate) fn by_rounds(case: &[u8], want: u32, one: &[u8]) -> usize {
     let mut output = [MARK; 8192];
     let mut work = [CELL; 16384];
     let o = run_rounds(case, &mut output, &mut work);
+    if o.joined != 0 {
+        return MISMATCH;
+    }
     judged(case, o, want, one, &output, &work)
 }
 
-pub(crate) fn by_list(case: &[u8], acts: &[u32], want: u32, one: &[u8]) -> usize {
+pub(crate) fn by_list(case: &[u8], acts: &[u32], want: u32, one: &[u8]) -> Came {
     let mut output = [MARK; 8192];
     let mut work = [CELL; 16384];
     let o = run_list(case, acts, &mut output, &mut work);
-    judged(case, o, want, one, &output, &work)
+    Came {
+        kind: judged(case, o, want, one, &output, &work),
+        joined: o.joined,
+    }
 }
 
 // A digit, or any byte.
