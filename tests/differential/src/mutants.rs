@@ -82,6 +82,7 @@ impl Mutant {
         }
         Report {
             acts: run.acts_counted,
+            tallies: run.tallies,
             answer: self.fault.answer(&run),
         }
     }

@@ -1,7 +1,9 @@
 //! The bench runs K1 to K11 that the paper keeps, with their outcomes as the
-//! paper prints them.
+//! paper prints them, and two lists that leave messages in cells. The tallies
+//! were counted by hand.
 
 use reference::entries::Outcome;
+use reference::run::Tallies;
 
 pub const K1: &str = "version vertices edges source workers
 1 3 3 0 2
@@ -38,6 +40,21 @@ from to
 1 1
 ";
 
+/// A case by whose lists an offer joins a waiting message: each vertex has its
+/// own owner, and 0 can be scanned a second time before the delivery on edge 1.
+pub const J: &str = "version vertices edges source workers
+1 3 4 0 3
+vertex accepting owner
+0 0 0
+1 1 1
+2 0 2
+from to
+0 1
+0 2
+1 0
+1 2
+";
+
 /// One run of the table.
 pub struct KeptRun {
     pub name: &'static str,
@@ -61,33 +78,48 @@ pub fn kept_runs() -> Vec<KeptRun> {
         .replace("1 3 3 0 2", "1 3 4 0 2")
         .replace("1 2\n2 1", "1 2\n1 2\n2 1");
     let k1 = K1.to_owned();
+    let j = J.to_owned();
     vec![
-        ended("K1", k1.clone(), 1, 8, K1_LASSO),
-        ended("K2", k2, 2, 6, K2_EMPTY),
+        ended("K1", k1.clone(), 1, 8, K1_LASSO).tallied(4, 4, 0),
+        ended("K2", k2, 2, 6, K2_EMPTY).tallied(3, 3, 0),
         ended("K3", k3, 1, 2, SELF_LASSO),
         ended("K4", K4.to_owned(), 2, 1, SOURCE_ONLY),
         ended("K5", k5, 2, 1, SOURCE_ONLY),
         ended("K6", K6.to_owned(), 2, 1, SOURCE_ONLY),
-        refused("K7", k1.clone(), Some(vec![]), 10),
+        unended("K7", k1.clone(), &[], 0),
         ended("K8", k8, 1, 4, K1_LASSO),
-        refused("K9", k1, Some(vec![2]), 10),
-        refused("K10", k10, None, 3),
-        refused("K11", k11, None, 8),
+        unended("K9", k1.clone(), &[2], 0),
+        refused("K10", k10, 3),
+        refused("K11", k11, 8),
+        unended("K1, act 0", k1, &[0], 1).tallied(1, 0, 0),
+        unended("J", j, &[0, 3, 1, 5, 0], 5).tallied(6, 2, 1),
     ]
+}
+
+impl KeptRun {
+    /// The same run with these tallies; without them all are 0.
+    fn tallied(mut self, sent: u32, delivered: u32, joined: u32) -> Self {
+        self.outcome.tallies = Tallies {
+            sent,
+            delivered,
+            joined,
+        };
+        self
+    }
 }
 
 fn ended(
     name: &'static str,
     text: String,
     verdict: u32,
-    acts: u32,
+    acts: u64,
     answer: &'static str,
 ) -> KeptRun {
     let outcome = Outcome {
-        refusal: 0,
         verdict,
         acts,
         written: answer.len() as u32,
+        ..Outcome::default()
     };
     KeptRun {
         name,
@@ -98,15 +130,23 @@ fn ended(
     }
 }
 
-fn refused(name: &'static str, text: String, acts: Option<Vec<u32>>, refusal: u32) -> KeptRun {
+fn refused(name: &'static str, text: String, refusal: u32) -> KeptRun {
     KeptRun {
         name,
         text,
-        acts,
+        acts: None,
         outcome: Outcome {
             refusal,
             ..Outcome::default()
         },
         answer: "",
     }
+}
+
+/// A list that runs out after so many acts that did something.
+fn unended(name: &'static str, text: String, list: &[u32], acts: u64) -> KeptRun {
+    let mut run = refused(name, text, 10);
+    run.acts = Some(list.to_vec());
+    run.outcome.acts = acts;
+    run
 }

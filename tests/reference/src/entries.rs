@@ -4,20 +4,22 @@ use crate::answer::Answer;
 use crate::case::{self, Case};
 use crate::checker;
 use crate::refusal::Refusal;
-use crate::run::{Run, by_list, by_rounds};
+use crate::run::{Run, Tallies, by_list, by_rounds};
 
 /// The least output, in bytes.
 pub const OUTPUT_BYTES: usize = 8_192;
 /// The least work buffer, in cells.
 pub const WORK_CELLS: usize = 16_384;
 
-/// What a run returns. A refusal has verdict 0.
+/// What a run returns. A refusal has verdict 0; of refusals only 10 has acts
+/// and tallies.
 #[derive(Clone, Copy, Debug, Default, PartialEq, Eq)]
 pub struct Outcome {
     pub refusal: u32,
     pub verdict: u32,
-    pub acts: u32,
+    pub acts: u64,
     pub written: u32,
+    pub tallies: Tallies,
 }
 
 impl Outcome {
@@ -47,7 +49,8 @@ pub trait Tool {
 
 /// What a begun run leaves to report.
 pub struct Report {
-    pub acts: u32,
+    pub acts: u64,
+    pub tallies: Tallies,
     /// Nothing if the acts ran out before the end.
     pub answer: Option<Answer>,
 }
@@ -56,6 +59,7 @@ impl Report {
     pub fn of(run: &Run) -> Self {
         Report {
             acts: run.acts_counted,
+            tallies: run.tallies,
             answer: Answer::of(run),
         }
     }
@@ -80,6 +84,7 @@ pub fn run_with(
     let Some(answer) = report.answer else {
         return Outcome {
             acts: report.acts,
+            tallies: report.tallies,
             ..Outcome::refused(Refusal::ActsRanOut)
         };
     };
@@ -90,6 +95,7 @@ pub fn run_with(
         verdict: answer.verdict(),
         acts: report.acts,
         written: written.len() as u32,
+        tallies: report.tallies,
     }
 }
 

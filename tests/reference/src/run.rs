@@ -15,6 +15,18 @@ pub enum Finding {
     Empty,
 }
 
+/// What a bus monitor counts. An offer that is put into a cell and a delivery
+/// that empties one change it, and nothing else does.
+#[derive(Clone, Copy, Debug, Default, PartialEq, Eq)]
+pub struct Tallies {
+    /// Offers put into a cell, those that joined a waiting message included.
+    pub sent: u32,
+    /// Messages taken out of a cell, whether the offer was then taken or not.
+    pub delivered: u32,
+    /// Offers put into a cell where a message waited.
+    pub joined: u32,
+}
+
 /// The state between two acts.
 #[derive(Clone, Debug)]
 pub struct Run<'a> {
@@ -29,7 +41,8 @@ pub struct Run<'a> {
     /// By edge, the offer that waits. An edge without a cell never has one.
     pub cells: Vec<Option<i32>>,
     /// Acts that did something.
-    pub acts_counted: u32,
+    pub acts_counted: u64,
+    pub tallies: Tallies,
     pub finding: Option<Finding>,
 }
 
@@ -44,6 +57,7 @@ impl<'a> Run<'a> {
             queues: vec![VecDeque::new(); case.workers],
             cells: vec![None; case.edges.len()],
             acts_counted: 0,
+            tallies: Tallies::default(),
             finding: None,
         };
         run.distances[case.source] = Some(0);
@@ -53,27 +67,35 @@ impl<'a> Run<'a> {
 
     /// Does one act, unless the run has ended.
     pub fn act(&mut self, act: usize) {
+        self.act_watched(act, |_| ());
+    }
+
+    /// The same; the watch is shown the state after every edge of a scan, and
+    /// after the act unless it was idle.
+    pub fn act_watched(&mut self, act: usize, watch: impl Fn(&Self)) {
         if self.finding.is_some() {
             return;
         }
         let did_something = match act.checked_sub(self.case.workers) {
-            None => self.turn(act),
+            None => self.turn(act, &watch),
             Some(edge) => self.deliver(edge),
         };
         if did_something {
             self.acts_counted += 1;
             self.end_if_nothing_waits();
+            watch(self);
         }
     }
 
     /// A worker's turn; false if it was idle.
-    fn turn(&mut self, worker: usize) -> bool {
+    fn turn(&mut self, worker: usize, watch: impl Fn(&Self)) -> bool {
         let Some(vertex) = self.queues[worker].pop_front() else {
             return false;
         };
         let distance = self.distances[vertex].expect("a queued vertex has a distance");
         for edge in self.case.edges_from(vertex) {
             self.offer(edge, distance + self.case.length(edge));
+            watch(self);
             // The floor may break in the middle of a scan, which ends it.
             if self.finding.is_some() {
                 break;
@@ -85,12 +107,19 @@ impl<'a> Run<'a> {
     /// Offers a distance along an edge: on the spot within one owner, through
     /// the edge's cell otherwise.
     pub fn offer(&mut self, edge: usize, offer: i32) {
-        if !self.case.has_cell(edge) {
+        if self.case.has_cell(edge) {
+            self.put(edge, offer);
+        } else {
             self.try_offer(edge, offer);
-            return;
         }
-        let lower = self.cells[edge].map_or(offer, |waiting| waiting.min(offer));
-        self.cells[edge] = Some(lower);
+    }
+
+    /// Puts an offer into a cell; where one waits there, the lower remains.
+    fn put(&mut self, edge: usize, offer: i32) {
+        let waiting = self.cells[edge];
+        self.cells[edge] = Some(waiting.map_or(offer, |waiting| waiting.min(offer)));
+        self.tallies.sent += 1;
+        self.tallies.joined += u32::from(waiting.is_some());
     }
 
     /// A delivery; false if it was idle.
@@ -98,6 +127,7 @@ impl<'a> Run<'a> {
         let Some(offer) = self.cells[edge].take() else {
             return false;
         };
+        self.tallies.delivered += 1;
         self.try_offer(edge, offer);
         true
     }
@@ -127,6 +157,20 @@ impl<'a> Run<'a> {
     pub fn queues_empty(&self) -> bool {
         self.queues.iter().all(VecDeque::is_empty)
     }
+
+    /// What holds of the tallies at any moment: each offer that was put into a
+    /// cell was delivered, joined another or still waits, and each vertex is
+    /// scanned at most A + 1 times.
+    fn assert_tallied(&self) {
+        let Tallies {
+            sent,
+            delivered,
+            joined,
+        } = self.tallies;
+        let full = self.cells.iter().filter(|cell| cell.is_some()).count();
+        assert_eq!(sent as usize, delivered as usize + joined as usize + full);
+        assert!(sent as usize <= self.case.edges.len() * (self.case.accepting_count() + 1));
+    }
 }
 
 /// Refuses a list with an act out of range, wherever it stands.
@@ -142,7 +186,7 @@ pub fn by_list<'a>(case: &'a Case, acts: &[u32]) -> Result<Run<'a>, Refusal> {
     judge_acts(case, acts)?;
     let mut run = Run::fresh(case);
     for &act in acts {
-        run.act(act as usize);
+        run.act_watched(act as usize, Run::assert_tallied);
     }
     Ok(run)
 }
@@ -152,7 +196,10 @@ pub fn by_rounds(case: &Case) -> Run<'_> {
     let mut run = Run::fresh(case);
     while run.finding.is_none() {
         for act in 0..case.act_count() {
-            run.act(act);
+            run.act_watched(act, |run| {
+                run.assert_tallied();
+                assert_eq!(run.tallies.joined, 0, "a round delivers what it sends");
+            });
         }
     }
     run

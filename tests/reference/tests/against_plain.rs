@@ -69,6 +69,7 @@ fn runs_by_busy_lists_are_right() {
         let run = by_list(&case, &acts).expect("the acts are in range");
         assert_right(&case, &run);
         assert_eq!(run.acts_counted as usize, acts.len());
+        assert_eq!(run.tallies.joined > 0, acts::has_meeting(&case, &acts));
     }
 }
 
@@ -80,6 +81,7 @@ fn rounds_are_a_list_of_whole_rounds() {
         let enough = acts::rounds(&case, by_rounds.acts_counted as usize);
         let by_list = by_list(&case, &enough).expect("the acts are in range");
         assert_eq!(by_list.acts_counted, by_rounds.acts_counted);
+        assert_eq!(by_list.tallies, by_rounds.tallies);
         assert_eq!(by_list.finding, by_rounds.finding);
         assert_eq!(Answer::of(&by_list), Answer::of(&by_rounds));
     }

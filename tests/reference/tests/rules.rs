@@ -3,8 +3,14 @@
 
 use inputs::kept::{K1, kept_runs};
 use reference::entries::{Checked, OUTPUT_BYTES, Outcome, Reference, Tool, WORK_CELLS};
+use reference::run::Tallies;
 
 const LASSO: &str = "version verdict stem cycle reached\n1 lasso 1 2 0\nedge\n0\n1\n2\n";
+
+fn outcome_of_list(text: &str, acts: &[u32]) -> Outcome {
+    let (mut output, mut work) = (vec![0; OUTPUT_BYTES], vec![0; WORK_CELLS]);
+    Reference.run_list(text.as_bytes(), acts, &mut output, &mut work)
+}
 
 fn refusal_of_case(text: &str) -> u32 {
     let (mut output, mut work) = (vec![0; OUTPUT_BYTES], vec![0; WORK_CELLS]);
@@ -125,11 +131,48 @@ fn a_list_that_runs_out_zeroes_the_whole_work_buffer() {
         Outcome {
             refusal: 10,
             acts: 2,
+            tallies: Tallies {
+                sent: 1,
+                delivered: 1,
+                joined: 0
+            },
             ..Outcome::default()
         }
     );
     assert!(work.iter().all(|&cell| cell == 0));
     assert!(output.iter().all(|&byte| byte == 7));
+}
+
+/// Vertex 1 is accepting and has an edge to itself between two to vertices of
+/// another owner, so its second scan breaks the floor at its second edge.
+#[test]
+fn a_scan_that_the_floor_cuts_counts_the_offers_before_the_break() {
+    let text = "version vertices edges source workers
+1 3 3 1 2
+vertex accepting owner
+0 0 0
+1 1 1
+2 0 0
+from to
+1 0
+1 1
+1 2
+";
+    let outcome = outcome_of_list(text, &[1, 1]);
+    assert_eq!((outcome.refusal, outcome.verdict, outcome.acts), (0, 1, 2));
+    let tallies = Tallies {
+        sent: 3,
+        delivered: 0,
+        joined: 1,
+    };
+    assert_eq!(outcome.tallies, tallies);
+}
+
+#[test]
+fn a_list_with_an_act_out_of_range_has_no_tallies() {
+    let sent = |acts: &[u32]| outcome_of_list(K1, acts).tallies.sent;
+    assert_eq!(sent(&[0, 2, 1]), 2);
+    assert_eq!(sent(&[0, 2, 1, 5]), 0);
 }
 
 #[test]
