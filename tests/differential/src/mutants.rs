@@ -318,9 +318,14 @@ impl Faulty for ScanGoesOn {
         let head = run.queues.get(act).and_then(|queue| queue.front().copied());
         let distance = head.and_then(|head| run.distances[head]);
         run.act(act);
-        if let (Some(head), Some(distance), Some(_)) = (head, distance, run.finding) {
-            // Offers that were made before the break change nothing now.
-            for edge in run.case.edges_from(head) {
+        let (Some(head), Some(distance)) = (head, distance) else {
+            return;
+        };
+        if let Some(Finding::Lasso { breaker }) = run.finding {
+            // The parent of the vertex that broke the floor is the last edge
+            // that the scan came to.
+            let last = run.parents[breaker];
+            for edge in run.case.edges_from(head).filter(|&edge| Some(edge) > last) {
                 run.offer(edge, distance + run.case.length(edge));
             }
         }
