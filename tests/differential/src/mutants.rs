@@ -10,7 +10,7 @@ use reference::case::{self, Case};
 use reference::checker::{self, is_lasso_shaped, leaves_accepting};
 use reference::entries::{Checked, Outcome, Report, Tool, WORK_CELLS, check_with, run_with};
 use reference::refusal::Refusal;
-use reference::run::{Finding, Run, by_list, judge_acts};
+use reference::run::{Finding, Run, Tallies, by_list, judge_acts};
 
 /// A faulty tool: each hook is right unless a mutant takes it over.
 trait Faulty {
@@ -39,6 +39,11 @@ trait Faulty {
 
     /// Changes what a run leaves in its buffers; `before` is what was there.
     fn leave(&self, _outcome: Outcome, _before: &Buffers, _output: &mut [u8], _work: &mut [i32]) {}
+
+    /// The tallies that come back from a list in place of those of the outcome.
+    fn tallies(&self, _text: &[u8], _acts: &[u32], outcome: Outcome) -> Tallies {
+        outcome.tallies
+    }
 
     /// Reads and judges an answer.
     fn check(&self, case: &Case, answer: &[u8]) -> Result<Answer, Refusal> {
@@ -106,11 +111,13 @@ impl Mutant {
 
 impl Tool for Mutant {
     fn run_list(&self, text: &[u8], acts: &[u32], output: &mut [u8], work: &mut [i32]) -> Outcome {
-        self.run(text, output, work, |case| {
+        let outcome = self.run(text, output, work, |case| {
             let acts = self.fault.list(case, acts);
             judge_acts(case, acts)?;
             Ok(self.search(case, acts.iter().map(|&act| act as usize)))
-        })
+        });
+        let tallies = self.fault.tallies(text, acts, outcome);
+        Outcome { tallies, ..outcome }
     }
 
     fn run_rounds(&self, text: &[u8], output: &mut [u8], work: &mut [i32]) -> Outcome {
@@ -177,6 +184,13 @@ pub fn mutants() -> Vec<Mutant> {
             "passing rule judged before bytes too many",
             Box::new(RuleBeforeEnd),
         ),
+        mutant("joins not counted as sent", Box::new(JoinsNotSent)),
+        mutant(
+            "idle deliveries counted as delivered",
+            Box::new(IdleDelivered),
+        ),
+        mutant("tallies returned with 9", Box::new(TalliesWithNine)),
+        mutant("no tallies with 10", Box::new(NoTalliesWithTen)),
     ]
 }
 
@@ -267,13 +281,18 @@ impl Faulty for OutputChanged {
 struct NineUpToEnd;
 impl Faulty for NineUpToEnd {
     fn list<'a>(&self, case: &Case, acts: &'a [u32]) -> &'a [u32] {
-        let in_range = acts
-            .iter()
-            .take_while(|&&act| (act as usize) < case.act_count())
-            .count();
-        let ended = by_list(case, &acts[..in_range]).is_ok_and(|run| run.finding.is_some());
-        if ended { &acts[..in_range] } else { acts }
+        let front = in_range(case, acts);
+        let ended = by_list(case, front).is_ok_and(|run| run.finding.is_some());
+        if ended { front } else { acts }
     }
+}
+
+/// The acts before the first that is out of range.
+fn in_range<'a>(case: &Case, acts: &'a [u32]) -> &'a [u32] {
+    let out = acts
+        .iter()
+        .position(|&act| act as usize >= case.act_count());
+    &acts[..out.unwrap_or(acts.len())]
 }
 
 struct MinusZero;
@@ -455,5 +474,48 @@ impl Faulty for RuleBeforeEnd {
             .find(|part| checker::read(case, part).is_ok());
         checker::check(case, whole.unwrap_or(answer))?;
         checker::check(case, answer)
+    }
+}
+
+struct JoinsNotSent;
+impl Faulty for JoinsNotSent {
+    fn act(&self, run: &mut Run, act: usize) {
+        let before = run.tallies.joined;
+        run.act(act);
+        run.tallies.sent -= run.tallies.joined - before;
+    }
+}
+
+struct IdleDelivered;
+impl Faulty for IdleDelivered {
+    fn act(&self, run: &mut Run, act: usize) {
+        let edge = act.checked_sub(run.case.workers);
+        let idle = edge.is_some_and(|edge| run.cells[edge].is_none());
+        run.act(act);
+        run.tallies.delivered += u32::from(idle);
+    }
+}
+
+/// Does the acts before the one out of range, and forgets to hide that.
+struct TalliesWithNine;
+impl Faulty for TalliesWithNine {
+    fn tallies(&self, text: &[u8], acts: &[u32], outcome: Outcome) -> Tallies {
+        if outcome.refusal != Refusal::ActOutOfRange.number() {
+            return outcome.tallies;
+        }
+        case::read(text)
+            .and_then(|case| Ok(by_list(&case, in_range(&case, acts))?.tallies))
+            .expect("9 comes only of acts, and those out of range are left out")
+    }
+}
+
+struct NoTalliesWithTen;
+impl Faulty for NoTalliesWithTen {
+    fn tallies(&self, _text: &[u8], _acts: &[u32], outcome: Outcome) -> Tallies {
+        if outcome.refusal == Refusal::ActsRanOut.number() {
+            Tallies::default()
+        } else {
+            outcome.tallies
+        }
     }
 }
