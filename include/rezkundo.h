@@ -58,9 +58,22 @@ enum {
     REZKUNDO_REFUSED_ANSWER_FALSE = 13
 };
 
-/* Of a run: refusal or 0; verdict; the acts counted; the answer's length in bytes. A later library may have refusals and
- * verdicts that this header does not name: take an unknown one for an error, never for "empty". */
-typedef struct { uint32_t refusal, verdict, acts, written; } rezkundo_outcome;
+/* Of a run: refusal or 0; verdict; the acts counted; the answer's length in bytes; and three tallies of its messages:
+ *
+ *   sent       how often an offer was put into a message cell, also where one waited there already
+ *   delivered  how often a delivery emptied a cell, also where the offer was not taken, and where it ended the run
+ *   joined     how often an offer was put into a cell where one waited
+ *
+ * At any moment of a run, sent = delivered + joined + cells still full. An edge whose two ends have one owner has no cell
+ * and is in no tally. Refusal 10 returns acts and tallies; every other refusal returns zeros for all but its number.
+ *
+ * A later library may have refusals and verdicts that this header does not name: take an unknown one for an error, never
+ * for "empty". */
+typedef struct {
+    uint32_t refusal, verdict;
+    uint64_t acts;
+    uint32_t written, sent, delivered, joined;
+} rezkundo_outcome;
 
 /* Of a check: refusal or 0; the answer's verdict where it passes. */
 typedef struct { uint32_t refusal, verdict; } rezkundo_checked;
@@ -72,7 +85,7 @@ typedef struct { uint32_t refusal, verdict; } rezkundo_checked;
 rezkundo_outcome rezkundo_run_list(const uint8_t *text, size_t text_len, const uint32_t *acts, size_t acts_len,
                                    uint8_t *output, size_t output_len, int32_t *work, size_t work_len);
 
-/* The same by rounds, to the run's end: never 9 or 10. */
+/* The same by rounds, to the run's end: never 9 or 10, and joined is 0. */
 rezkundo_outcome rezkundo_run_rounds(const uint8_t *text, size_t text_len, uint8_t *output, size_t output_len,
                                      int32_t *work, size_t work_len);
 
