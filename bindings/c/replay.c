@@ -1,9 +1,10 @@
 /* replay CASE ACTS: runs a case file by a list of acts of any length, one act number to a line, has the library check
- * its own answer, and prints refusal, verdict and acts, a line each, then the answer. Exit status: 0 the answer passed,
- * 1 refused, 2 trouble. A list with a line that is no act is not run.
+ * its own answer, and prints refusal, verdict, acts and the three tallies, a line each, then the answer. Exit status: 0
+ * the answer passed, 1 refused, 2 trouble. A list with a line that is no act is not run.
  *
  *   cc -I include bindings/c/replay.c target/staticlib/librezkundo.a -o replay
  */
+#include <inttypes.h>
 #include <stdio.h>
 #include <stdlib.h>
 
@@ -111,7 +112,8 @@ static int replay(size_t size, const struct acts *acts)
         if (checked.refusal != 0 || checked.verdict != run.verdict)
             return trouble("the answer does not pass its check");
     }
-    printf("refusal %u\nverdict %s\nacts %u\n", (unsigned)run.refusal, word(run.verdict), (unsigned)run.acts);
+    printf("refusal %" PRIu32 "\nverdict %s\nacts %" PRIu64 "\n", run.refusal, word(run.verdict), run.acts);
+    printf("sent %" PRIu32 "\ndelivered %" PRIu32 "\njoined %" PRIu32 "\n", run.sent, run.delivered, run.joined);
     fwrite(output, 1, run.written, stdout);
     return run.refusal == 0 ? PASSED : REFUSED;
 }

@@ -39,12 +39,21 @@ class Refusal(enum.IntEnum):
     ANSWER_FALSE = 13
 
 
-class Refused(Exception):
-    """The call was refused. 'acts' are the acts counted where the list ran out (UNENDED), else 0."""
+class Tallies(NamedTuple):
+    """The messages of a run. 'sent' is how often an offer was put into a message cell, also where one waited there already;
+    'delivered' how often a delivery emptied a cell, also where the offer was not taken; 'joined' how often an offer was put
+    into a cell where one waited. At any moment sent is delivered plus joined plus the cells still full."""
+    sent: int
+    delivered: int
+    joined: int
 
-    def __init__(self, refusal, acts):
+
+class Refused(Exception):
+    """The call was refused. 'acts' and 'tallies' are those of the run where the list ran out (UNENDED), else zeros."""
+
+    def __init__(self, refusal, acts, tallies):
         super().__init__(f'refused {refusal.value}')
-        self.refusal, self.acts = refusal, acts
+        self.refusal, self.acts, self.tallies = refusal, acts, tallies
 
 
 class Unknown(Exception):
@@ -52,14 +61,19 @@ class Unknown(Exception):
 
 
 class Finding(NamedTuple):
-    """A run that ended: its verdict, the acts counted, and the answer file."""
+    """A run that ended: its verdict, the acts counted, the answer file, and its messages."""
     verdict: Verdict
     acts: int
     answer: bytes
+    tallies: Tallies
 
 
 class _Outcome(ctypes.Structure):
-    _fields_ = [(name, ctypes.c_uint32) for name in ('refusal', 'verdict', 'acts', 'written')]
+    _fields_ = [
+        *((name, ctypes.c_uint32) for name in ('refusal', 'verdict')),
+        ('acts', ctypes.c_uint64),
+        *((name, ctypes.c_uint32) for name in ('written', 'sent', 'delivered', 'joined')),
+    ]
 
 
 class _Checked(ctypes.Structure):
@@ -100,7 +114,7 @@ class Library:
         """Checks an answer to a case: the Verdict that it shows."""
         text, answer = _bytes(text), _bytes(answer)
         checked = self._library.rezkundo_check_answer(text, len(text), answer, len(answer))
-        return _verdict(checked.refusal, checked.verdict, 0, 0)
+        return _verdict(_Outcome(checked.refusal, checked.verdict))
 
 
 def _bytes(lent):
@@ -113,16 +127,22 @@ def _run(entry, text, *acts):
     output = (ctypes.c_uint8 * LEAST_OUTPUT)()
     work = (ctypes.c_int32 * LEAST_WORK)()
     ran = entry(text, len(text), *acts, output, LEAST_OUTPUT, work, LEAST_WORK)
-    verdict = _verdict(ran.refusal, ran.verdict, ran.acts, ran.written)
-    return Finding(verdict, ran.acts, bytes(output[:ran.written]))
+    verdict = _verdict(ran)
+    return Finding(verdict, ran.acts, bytes(output[:ran.written]), _tallies(ran))
 
 
-def _verdict(refusal, verdict, acts, written):
-    """The verdict, or the error that the numbers mean. A refusal has no verdict and no answer, and only UNENDED counts
-    acts; whatever differs from that is unknown."""
-    if refusal == 0 and verdict in set(Verdict):
-        return Verdict(verdict)
-    counts = refusal == Refusal.UNENDED or acts == 0
-    if refusal in set(Refusal) and verdict == 0 and written == 0 and counts:
-        raise Refused(Refusal(refusal), acts)
-    raise Unknown(f'the library returned refusal {refusal}, verdict {verdict}, acts {acts}, written {written}')
+def _tallies(ran):
+    return Tallies(ran.sent, ran.delivered, ran.joined)
+
+
+def _verdict(ran):
+    """The verdict, or the error that the numbers mean. A refusal has no verdict and no answer, and only UNENDED counts acts
+    and messages; whatever differs from that is unknown."""
+    if ran.refusal == 0 and ran.verdict in set(Verdict):
+        return Verdict(ran.verdict)
+    counts = ran.acts > 0 or any(_tallies(ran))
+    known = ran.refusal == Refusal.UNENDED or (ran.refusal in set(Refusal) and not counts)
+    if known and ran.verdict == 0 and ran.written == 0:
+        raise Refused(Refusal(ran.refusal), ran.acts, _tallies(ran))
+    numbers = ', '.join(f'{name} {getattr(ran, name)}' for name, _ in _Outcome._fields_)
+    raise Unknown(f'the library returned {numbers}')

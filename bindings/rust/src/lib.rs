@@ -85,12 +85,24 @@ impl Refusal {
     }
 }
 
+/// The messages of a run. At any moment `sent` is `delivered` plus `joined` plus the cells still full.
+#[derive(Clone, Copy, Debug, Default, PartialEq, Eq)]
+pub struct Tallies {
+    /// How often an offer was put into a message cell, also where one waited there already.
+    pub sent: u32,
+    /// How often a delivery emptied a cell, also where the offer was not taken.
+    pub delivered: u32,
+    /// How often an offer was put into a cell where one waited.
+    pub joined: u32,
+}
+
 /// A run that ended.
 #[derive(Clone, Copy, Debug, PartialEq, Eq)]
 pub struct Finding {
     pub verdict: Verdict,
     /// The acts counted.
-    pub acts: u32,
+    pub acts: u64,
+    pub tallies: Tallies,
     /// The length of the answer, which stands at the output's front.
     pub written: usize,
 }
@@ -98,8 +110,13 @@ pub struct Finding {
 /// No verdict.
 #[derive(Clone, Copy, Debug, PartialEq, Eq)]
 pub enum Error {
-    /// The call was refused. `acts` are the acts counted where the list ran out ([`Refusal::Unended`]), else 0.
-    Refused { refusal: Refusal, acts: u32 },
+    /// The call was refused. `acts` and `tallies` are those of the run where the list ran out ([`Refusal::Unended`]), else
+    /// zeros.
+    Refused {
+        refusal: Refusal,
+        acts: u64,
+        tallies: Tallies,
+    },
     /// The library returned these numbers, and this binding does not know what they mean together: it is not the one
     /// that the library goes with.
     Unknown(Outcome),
@@ -119,13 +136,27 @@ impl fmt::Display for Error {
 impl std::error::Error for Error {}
 
 /// The numbers that the library returns of a run: `rezkundo_outcome` in C.
-#[derive(Clone, Copy, Debug, PartialEq, Eq)]
+#[derive(Clone, Copy, Debug, Default, PartialEq, Eq)]
 #[repr(C)]
 pub struct Outcome {
     pub refusal: u32,
     pub verdict: u32,
-    pub acts: u32,
+    pub acts: u64,
     pub written: u32,
+    pub sent: u32,
+    pub delivered: u32,
+    pub joined: u32,
+}
+
+impl Outcome {
+    /// Its three tallies.
+    pub fn tallies(self) -> Tallies {
+        Tallies {
+            sent: self.sent,
+            delivered: self.delivered,
+            joined: self.joined,
+        }
+    }
 }
 
 /// The numbers that the library returns of a check: `rezkundo_checked` in C.
@@ -220,21 +251,23 @@ pub fn check_answer(text: &[u8], answer: &[u8]) -> Result<Verdict, Error> {
     let numbers = Outcome {
         refusal: checked.refusal,
         verdict: checked.verdict,
-        acts: 0,
-        written: 0,
+        ..Outcome::default()
     };
     finding(numbers).map(|found| found.verdict)
 }
 
-/// What the numbers mean. A refusal has no verdict and no answer, and only `Unended` counts acts; whatever differs from
-/// that is unknown.
+/// What the numbers mean. A refusal has no verdict and no answer, and only `Unended` counts acts and messages; whatever
+/// differs from that is unknown.
 fn finding(numbers: Outcome) -> Result<Finding, Error> {
     let Outcome {
         refusal,
         verdict,
         acts,
         written,
+        ..
     } = numbers;
+    let tallies = numbers.tallies();
+    let counts = acts != 0 || tallies != Tallies::default();
     let known_refusal = Refusal::ALL
         .into_iter()
         .find(|known| known.number() == refusal);
@@ -245,12 +278,17 @@ fn finding(numbers: Outcome) -> Result<Finding, Error> {
         (None, Some(verdict)) if refusal == 0 => Ok(Finding {
             verdict,
             acts,
+            tallies,
             written: written as usize,
         }),
         (Some(refusal), None)
-            if verdict == 0 && written == 0 && (acts == 0 || refusal == Refusal::Unended) =>
+            if verdict == 0 && written == 0 && (!counts || refusal == Refusal::Unended) =>
         {
-            Err(Error::Refused { refusal, acts })
+            Err(Error::Refused {
+                refusal,
+                acts,
+                tallies,
+            })
         }
         _ => Err(Error::Unknown(numbers)),
     }
@@ -260,13 +298,37 @@ fn finding(numbers: Outcome) -> Result<Finding, Error> {
 mod tests {
     use super::*;
 
-    fn outcome(refusal: u32, verdict: u32, acts: u32, written: u32) -> Outcome {
+    const TALLIES: Tallies = Tallies {
+        sent: 6,
+        delivered: 2,
+        joined: 1,
+    };
+
+    fn outcome(refusal: u32, verdict: u32, acts: u64, written: u32) -> Outcome {
         Outcome {
             refusal,
             verdict,
             acts,
             written,
+            ..Outcome::default()
         }
+    }
+
+    fn tallied(numbers: Outcome) -> Outcome {
+        Outcome {
+            sent: TALLIES.sent,
+            delivered: TALLIES.delivered,
+            joined: TALLIES.joined,
+            ..numbers
+        }
+    }
+
+    fn refused(refusal: Refusal, acts: u64, tallies: Tallies) -> Result<Finding, Error> {
+        Err(Error::Refused {
+            refusal,
+            acts,
+            tallies,
+        })
     }
 
     #[test]
@@ -274,38 +336,40 @@ mod tests {
         let found = |verdict| {
             Ok(Finding {
                 verdict,
-                acts: 8,
+                acts: 1 << 32,
+                tallies: TALLIES,
                 written: 60,
             })
         };
-        assert_eq!(finding(outcome(0, 1, 8, 60)), found(Verdict::Lasso));
-        assert_eq!(finding(outcome(0, 2, 8, 60)), found(Verdict::Empty));
+        let ended = |verdict| finding(tallied(outcome(0, verdict, 1 << 32, 60)));
+        assert_eq!(ended(1), found(Verdict::Lasso));
+        assert_eq!(ended(2), found(Verdict::Empty));
         for (place, refusal) in Refusal::ALL.into_iter().enumerate() {
             assert_eq!(refusal.number(), place as u32 + 1);
             assert_eq!(
                 finding(outcome(refusal.number(), 0, 0, 0)),
-                Err(Error::Refused { refusal, acts: 0 })
+                refused(refusal, 0, Tallies::default())
             );
         }
-        let unended = Error::Refused {
-            refusal: Refusal::Unended,
-            acts: 8,
-        };
-        assert_eq!(finding(outcome(10, 0, 8, 0)), Err(unended));
+        assert_eq!(
+            finding(tallied(outcome(10, 0, 8, 0))),
+            refused(Refusal::Unended, 8, TALLIES)
+        );
     }
 
     #[test]
     fn unknown_numbers() {
-        for (refusal, verdict, acts, written) in [
-            (0, 0, 0, 0),
-            (0, 3, 8, 60),
-            (14, 0, 0, 0),
-            (9, 0, 1, 0),
-            (2, 0, 0, 1),
-            (2, 2, 0, 0),
-            (14, 2, 8, 60),
+        for numbers in [
+            outcome(0, 0, 0, 0),
+            outcome(0, 3, 8, 60),
+            outcome(14, 0, 0, 0),
+            outcome(9, 0, 1, 0),
+            outcome(9, 0, 1 << 32, 0),
+            tallied(outcome(9, 0, 0, 0)),
+            outcome(2, 0, 0, 1),
+            outcome(2, 2, 0, 0),
+            outcome(14, 2, 8, 60),
         ] {
-            let numbers = outcome(refusal, verdict, acts, written);
             assert_eq!(finding(numbers), Err(Error::Unknown(numbers)));
         }
     }
