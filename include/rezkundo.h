@@ -21,8 +21,8 @@
 extern "C" {
 #endif
 
-/* The version that this header goes with, 1.0.0: major x 10,000 + minor x 100 + patch. */
-#define REZKUNDO_VERSION 10000
+/* The version that this header goes with, 1.1.0: major x 10,000 + minor x 100 + patch. */
+#define REZKUNDO_VERSION 10100
 
 /* The version of the linked library. If it is not REZKUNDO_VERSION, header and library do not belong together. */
 uint32_t rezkundo_version(void);
