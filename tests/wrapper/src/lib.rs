@@ -3,6 +3,7 @@
 //! nothing that the comparison looks at is lost on the way.
 
 use reference::entries::{Checked, Outcome, Tool};
+use reference::run::Tallies;
 use rezkundo::{Error, Finding, check_answer, run_list, run_rounds};
 
 /// The proved library.
@@ -40,25 +41,40 @@ fn outcome(result: Result<Finding, Error>) -> Outcome {
             verdict: found.verdict.number(),
             acts: found.acts,
             written: found.written as u32,
+            tallies: tallies(found.tallies),
         },
         Err(error) => numbers(error),
+    }
+}
+
+fn tallies(counted: rezkundo::Tallies) -> Tallies {
+    Tallies {
+        sent: counted.sent,
+        delivered: counted.delivered,
+        joined: counted.joined,
     }
 }
 
 /// The numbers behind an error: a refusal has verdict 0 and no answer.
 fn numbers(error: Error) -> Outcome {
     match error {
-        Error::Refused { refusal, acts } => Outcome {
+        Error::Refused {
+            refusal,
+            acts,
+            tallies: counted,
+        } => Outcome {
             refusal: refusal.number(),
             verdict: 0,
             acts,
             written: 0,
+            tallies: tallies(counted),
         },
         Error::Unknown(raw) => Outcome {
             refusal: raw.refusal,
             verdict: raw.verdict,
             acts: raw.acts,
             written: raw.written,
+            tallies: tallies(raw.tallies()),
         },
     }
 }
