@@ -1,6 +1,10 @@
-//! Prints what the Rust binding names, as the other bindings' trials do.
+//! Prints what the Rust binding names, and where a run's outcome has its fields, as the other bindings' trials do.
 
-use rezkundo::{LEAST_OUTPUT, LEAST_WORK, LONGEST_FILE, Refusal, VERSION, Verdict, version};
+use std::mem::{offset_of, size_of, size_of_val};
+
+use rezkundo::{
+    LEAST_OUTPUT, LEAST_WORK, LONGEST_FILE, Outcome, Refusal, VERSION, Verdict, version,
+};
 
 fn main() {
     println!("library {}", version());
@@ -12,6 +16,19 @@ fn main() {
     for refusal in Refusal::ALL {
         println!("refusal {} {}", refusal.number(), in_capitals(&refusal));
     }
+    print_layout();
+}
+
+macro_rules! print_fields {
+    ($($name:ident)*) => {$(
+        let size = size_of_val(&Outcome::default().$name);
+        println!("field {} at {}, {size} bytes", stringify!($name), offset_of!(Outcome, $name));
+    )*};
+}
+
+fn print_layout() {
+    println!("outcome of {} bytes", size_of::<Outcome>());
+    print_fields! { refusal verdict acts written sent delivered joined }
 }
 
 /// `TooLong` as `TOO_LONG`.

@@ -39,13 +39,15 @@ static void judge(const char *name, uint32_t refusal, uint32_t expected, int as_
     }
 }
 
-/* A refused run: nothing is changed, save that 10 leaves work all zeros. */
+/* A refused run that did no act: all numbers but the refusal are 0, and nothing is changed, save that 10 leaves work all
+ * zeros. */
 static void refused(const char *name, rezkundo_outcome run, uint32_t expected)
 {
     int work_left = expected == REZKUNDO_REFUSED_UNENDED ? 0 : FILLED;
+    int no_tallies = run.sent == 0 && run.delivered == 0 && run.joined == 0;
     judge(name, run.refusal, expected,
-          run.verdict == REZKUNDO_NONE && run.acts == 0 && run.written == 0 && all(output, sizeof output, FILLED) &&
-              all(work, sizeof work, work_left));
+          run.verdict == REZKUNDO_NONE && run.acts == 0 && run.written == 0 && no_tallies &&
+              all(output, sizeof output, FILLED) && all(work, sizeof work, work_left));
     fill();
 }
 

@@ -10,7 +10,7 @@ uint32_t rezkundo_version(void) { return REZKUNDO_VERSION + 1; }
 
 static rezkundo_outcome run(uint8_t *output)
 {
-    rezkundo_outcome outcome = {0, RUN_VERDICT, 1, sizeof answer - 1};
+    rezkundo_outcome outcome = {0, RUN_VERDICT, 1, sizeof answer - 1, 0, 0, 0};
     memcpy(output, answer, sizeof answer - 1);
     return outcome;
 }

@@ -1,14 +1,14 @@
-"""python_binding.py CASE ANSWER ACTS OTHER: tries the Python binding on a case, its answer and a list that ends it, and
-on another library, whose runs give a verdict that nobody knows."""
+"""python_binding.py CASE ANSWER ACTS JOINING OTHER: tries the Python binding on a case, its answer and a list that ends
+it, on a case by which an offer joins a waiting one, and on another library, whose runs give a verdict that nobody knows."""
 import pathlib
 import sys
 
 import rezkundo
-from rezkundo import Finding, Library, Refusal, Refused, Unknown, Verdict
+from rezkundo import Finding, Library, Refusal, Refused, Tallies, Unknown, Verdict
 
-case, answer, listed = (pathlib.Path(name).read_bytes() for name in sys.argv[1:4])
+case, answer, listed, joining = (pathlib.Path(name).read_bytes() for name in sys.argv[1:5])
 acts = [int(line) for line in listed.split()]
-library, other = Library(), Library(sys.argv[4])
+library, other = Library(), Library(sys.argv[5])
 
 
 def raised(error, call, *arguments):
@@ -21,24 +21,26 @@ def raised(error, call, *arguments):
 
 
 def refused(call, *arguments):
-    """The refusal and the acts counted."""
+    """The refusal, the acts counted and the tallies."""
     error = raised(Refused, call, *arguments)
-    return error.refusal, error.acts
+    return error.refusal, error.acts, error.tallies
 
 
-lasso = Finding(Verdict.LASSO, 8, answer)
+none = Tallies(sent=0, delivered=0, joined=0)
+lasso = Finding(Verdict.LASSO, 8, answer, Tallies(sent=4, delivered=4, joined=0))
 assert library.run_rounds(case) == lasso
 assert library.run_list(case, acts) == lasso
 assert library.run_list(memoryview(case), iter(acts)) == lasso
 assert library.check_answer(case, bytearray(answer)) is Verdict.LASSO
-assert refused(library.run_list, case, acts[:1]) == (Refusal.UNENDED, 0)
-assert refused(library.run_list, case, acts[1:4]) == (Refusal.UNENDED, 3)
-assert refused(library.run_list, case, []) == (Refusal.UNENDED, 0)
-assert refused(library.run_list, case, [5]) == (Refusal.NO_SUCH_ACT, 0)
-assert refused(library.run_list, case, [2 ** 32 - 1]) == (Refusal.NO_SUCH_ACT, 0)
-assert refused(library.run_rounds, b'') == (Refusal.NOT_A_CASE, 0)
-assert refused(library.run_rounds, bytes(rezkundo.LONGEST_FILE + 1)) == (Refusal.TOO_LONG, 0)
-assert refused(library.check_answer, case, b'') == (Refusal.ANSWER_LAYOUT, 0)
+assert refused(library.run_list, case, acts[:1]) == (Refusal.UNENDED, 0, none)
+assert refused(library.run_list, case, acts[1:4]) == (Refusal.UNENDED, 3, Tallies(sent=2, delivered=1, joined=0))
+assert refused(library.run_list, joining, [0, 3, 1, 5, 0]) == (Refusal.UNENDED, 5, Tallies(sent=6, delivered=2, joined=1))
+assert refused(library.run_list, case, []) == (Refusal.UNENDED, 0, none)
+assert refused(library.run_list, case, [0, 5]) == (Refusal.NO_SUCH_ACT, 0, none)
+assert refused(library.run_list, case, [2 ** 32 - 1]) == (Refusal.NO_SUCH_ACT, 0, none)
+assert refused(library.run_rounds, b'') == (Refusal.NOT_A_CASE, 0, none)
+assert refused(library.run_rounds, bytes(rezkundo.LONGEST_FILE + 1)) == (Refusal.TOO_LONG, 0, none)
+assert refused(library.check_answer, case, b'') == (Refusal.ANSWER_LAYOUT, 0, none)
 # Numbers that would be cut to other acts, and what has no bytes.
 raised(OverflowError, library.run_list, case, [2 ** 32])
 raised(OverflowError, library.run_list, case, [-1])
