@@ -17,8 +17,12 @@ const NOBODY: u16 = u16::MAX;
 pub struct Ended {
     /// 1 for a lasso, 2 for empty.
     pub verdict: u32,
-    pub acts: u32,
+    pub acts: u64,
     pub written: u32,
+    /// Messages put into cells, and messages delivered; by rounds none joins
+    /// another.
+    pub sent: u32,
+    pub delivered: u32,
 }
 
 /// Reads a case, runs it by rounds and writes the answer to the front of the
@@ -42,6 +46,8 @@ pub fn run(text: &[u8], output: &mut [u8]) -> Result<Ended, u32> {
         verdict,
         acts: run.acts,
         written: writer.length as u32,
+        sent: run.sent,
+        delivered: run.delivered,
     })
 }
 
@@ -64,8 +70,9 @@ struct Run<'a> {
     queued: Vec<bool>,
     queued_count: usize,
     cells: Vec<i32>,
-    message_count: usize,
-    acts: u32,
+    sent: u32,
+    delivered: u32,
+    acts: u64,
 }
 
 impl<'a> Run<'a> {
@@ -87,7 +94,8 @@ impl<'a> Run<'a> {
             queued: vec![false; vertices],
             queued_count: 0,
             cells: vec![NONE; case.targets.len()],
-            message_count: 0,
+            sent: 0,
+            delivered: 0,
             acts: 0,
         };
         run.distances[case.source] = 0;
@@ -122,7 +130,7 @@ impl<'a> Run<'a> {
     /// Whether the run goes on. Once a round is enough: when nothing waits any
     /// more, what is left of the round is idle.
     fn waits(&self) -> bool {
-        self.queued_count + self.message_count > 0
+        self.queued_count > 0 || self.sent > self.delivered
     }
 
     /// Offers along every edge of a vertex; the vertex that broke the floor,
@@ -135,7 +143,7 @@ impl<'a> Run<'a> {
             if self.case.owners[target] != owner {
                 // No message waits here: a round scans a vertex at most once.
                 self.cells[edge] = offer;
-                self.message_count += 1;
+                self.sent += 1;
             } else if self.breaks_floor(vertex, edge, target, offer) {
                 return Some(target);
             }
@@ -145,7 +153,7 @@ impl<'a> Run<'a> {
 
     fn deliver_from(&mut self, scanned: &[usize]) -> Option<usize> {
         for &vertex in scanned {
-            if self.message_count == 0 {
+            if self.sent == self.delivered {
                 return None;
             }
             for edge in self.case.edges_from(vertex) {
@@ -154,7 +162,7 @@ impl<'a> Run<'a> {
                     continue;
                 }
                 self.acts += 1;
-                self.message_count -= 1;
+                self.delivered += 1;
                 let target = usize::from(self.case.targets[edge]);
                 if self.breaks_floor(vertex, edge, target, offer) {
                     return Some(target);

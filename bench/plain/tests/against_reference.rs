@@ -22,6 +22,8 @@ fn assert_same(text: &[u8]) {
             verdict: want.verdict,
             acts: want.acts,
             written: want.written,
+            sent: want.tallies.sent,
+            delivered: want.tallies.delivered,
         })
     } else {
         Err(want.refusal)

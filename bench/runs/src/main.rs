@@ -11,6 +11,8 @@ use reference::entries::OUTPUT_BYTES;
 
 #[cfg(library)]
 use reference::entries::{Tool, WORK_CELLS};
+#[cfg(library)]
+use reference::run::Tallies;
 
 fn main() {
     println!("{}", heading());
@@ -89,6 +91,12 @@ fn measure(text: &[u8], output: &[u8], ended: rounds::Ended) -> Times {
     let mut work = vec![0; WORK_CELLS];
     let outcome = wrapper::Library.run_rounds(text, &mut library_output, &mut work);
     assert_eq!((outcome.verdict, outcome.acts), (ended.verdict, ended.acts));
+    let tallies = Tallies {
+        sent: ended.sent,
+        delivered: ended.delivered,
+        joined: 0,
+    };
+    assert_eq!(outcome.tallies, tallies);
     assert_eq!(library_output, output);
     let mut library = || {
         black_box(wrapper::Library.run_rounds(black_box(text), &mut library_output, &mut work));
