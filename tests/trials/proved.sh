@@ -156,20 +156,26 @@ acts 2 >k9
 acts 0 2 1 3 0 4 1 3 5 >out
 acts 999999999 >far
 acts 0 1 2 3 4 0 1 2 3 4 0 1 2 3 4 >rounds
+acts 0 >first
+acts 0 3 1 5 0 >joining
 
-done_1=$'refusal 0\nverdict lasso\nacts 8\n'$lasso_1
+done_1=$'refusal 0\nverdict lasso\nacts 8\nsent 4\ndelivered 4\njoined 0\n'$lasso_1
+# What follows the refusal where no act was done.
+undone=$'verdict none\nacts 0\nsent 0\ndelivered 0\njoined 0\n'
 list_of 'K1, acts that each do something' "$done_1" k1 whole
 list_of 'K1, idle acts between' "$done_1" k1 idle
 list_of 'K1, acts after the end' "$done_1" k1 beyond
-list_of 'K2, three rounds' $'refusal 0\nverdict empty\nacts 6\n'"$empty_2" k2 rounds
-list_of 'K1, one act too few' $'refusal 10\nverdict none\nacts 7\n' k1 short
-list_of 'K7, no acts' $'refusal 10\nverdict none\nacts 0\n' k1 torn.0
-list_of 'K9, one idle act' $'refusal 10\nverdict none\nacts 0\n' k1 k9
-list_of 'K1, an act out of range after the end' $'refusal 9\nverdict none\nacts 0\n' k1 out
-list_of 'K1, an act far out of range' $'refusal 9\nverdict none\nacts 0\n' k1 far
-list_of 'a case of a newer version' $'refusal 3\nverdict none\nacts 0\n' k10 whole
-list_of 'a case too long' $'refusal 1\nverdict none\nacts 0\n' long.65537 whole
-list_of 'an empty case before an act out of range' $'refusal 2\nverdict none\nacts 0\n' torn.0 far
+list_of 'K2, three rounds' $'refusal 0\nverdict empty\nacts 6\nsent 3\ndelivered 3\njoined 0\n'"$empty_2" k2 rounds
+list_of 'K1, one act too few' $'refusal 10\nverdict none\nacts 7\nsent 4\ndelivered 3\njoined 0\n' k1 short
+list_of 'K1, a message that waits' $'refusal 10\nverdict none\nacts 1\nsent 1\ndelivered 0\njoined 0\n' k1 first
+list_of 'J, an offer that joins' $'refusal 10\nverdict none\nacts 5\nsent 6\ndelivered 2\njoined 1\n' j joining
+list_of 'K7, no acts' $'refusal 10\n'"$undone" k1 torn.0
+list_of 'K9, one idle act' $'refusal 10\n'"$undone" k1 k9
+list_of 'K1, an act out of range after the end' $'refusal 9\n'"$undone" k1 out
+list_of 'K1, an act far out of range' $'refusal 9\n'"$undone" k1 far
+list_of 'a case of a newer version' $'refusal 3\n'"$undone" k10 whole
+list_of 'a case too long' $'refusal 1\n'"$undone" long.65537 whole
+list_of 'an empty case before an act out of range' $'refusal 2\n'"$undone" torn.0 far
 
 # ---- looplist: lists that are none
 
@@ -198,8 +204,8 @@ same 400000 999999999 >most.wide
 same 400001 999999999 >too.many.wide
 { same 399999 0; echo x; } >last.bad
 head -c 4100000 /dev/zero | tr '\0' 7 >one.line
-list_of '400,000 acts' $'refusal 10\nverdict none\nacts 1\n' k1 most
-list_of '400,000 acts of nine digits' $'refusal 9\nverdict none\nacts 0\n' k1 most.wide
+list_of '400,000 acts' $'refusal 10\nverdict none\nacts 1\nsent 1\ndelivered 0\njoined 0\n' k1 most
+list_of '400,000 acts of nine digits' $'refusal 9\n'"$undone" k1 most.wide
 list_fails '400,001 acts' $'too.many: more than 400000 acts\n' k1 too.many
 list_fails '400,001 acts of nine digits' $'too.many.wide: more than 400000 acts\n' k1 too.many.wide
 list_fails 'line 400,000 is bad' $'last.bad: line 400000: expected an act, a number of 1 to 9 digits without leading zeros, and a line feed\n' k1 last.bad

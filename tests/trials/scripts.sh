@@ -34,7 +34,7 @@ for refused in long.65537 torn.0 k10 torn.2 vertices.501 k6v k7e k11; do
 done
 twice=$'the edges do not rise strictly by "from", then by "to"\n'
 ends 1 'bin/loopcheck, the case' $'refused 8\n' "loopcheck: case: $twice" "$check" k11 a1
-ends 1 'bin/looplist, the case' $'refusal 8\nverdict none\nacts 0\n' "looplist: case: $twice" "$list" k11 whole
+ends 1 'bin/looplist, the case' $'refusal 8\n'"$undone" "looplist: case: $twice" "$list" k11 whole
 version=$'the file is of another version than 1, the only one that this tool knows\n'
 sed 's/^1 lasso/2 lasso/' a1 >newer
 ends 1 'bin/loopcheck, a newer case' $'refused 3\n' "loopcheck: case: $version" "$check" k10 a1
@@ -46,8 +46,8 @@ ends 1 'bin/loopcheck, a long case' $'refused 1\n' "loopcheck: case: $length" "$
 ends 1 'bin/loopcheck, a long answer' $'refused 1\n' "loopcheck: answer: $length" "$check" k1 long.answer
 ends 1 'bin/loopcheck, an answer torn' $'refused 12\n' "loopcheck: answer: $(rule 12)"$'\n' "$check" k1 torn.0
 ends 1 'bin/loopcheck, a false answer' $'refused 13\n' "loopcheck: answer: $(rule 13)"$'\n' "$check" k2 a1
-ends 1 'bin/looplist, an act too many' $'refusal 9\nverdict none\nacts 0\n' "looplist: acts: $(rule 9)"$'\n' "$list" k1 out
-ends 1 'bin/looplist, unended' $'refusal 10\nverdict none\nacts 7\n' "looplist: acts: $(rule 10)"$'\n' "$list" k1 short
+ends 1 'bin/looplist, an act too many' $'refusal 9\n'"$undone" "looplist: acts: $(rule 9)"$'\n' "$list" k1 out
+ends 1 'bin/looplist, unended' $'refusal 10\nverdict none\nacts 7\nsent 4\ndelivered 3\njoined 0\n' "looplist: acts: $(rule 10)"$'\n' "$list" k1 short
 
 # The table has each refusal once, in order, and docs/REFUSALS.md has a row for each.
 in_table() { cut -f 1 "$root/share/rezkundo/refusals"; }
@@ -88,7 +88,7 @@ input=k1
 ends 0 'bin/loopcheck, - for the case' $'pass lasso\n' '' "$check" - a1
 input=k10
 ends 1 'bin/loopcheck, a newer case by -' $'refused 3\n' "loopcheck: case: $version" "$check" - a1
-ends 1 'bin/looplist, a newer case by -' $'refusal 3\nverdict none\nacts 0\n' "looplist: case: $version" "$list" - whole
+ends 1 'bin/looplist, a newer case by -' $'refusal 3\n'"$undone" "looplist: case: $version" "$list" - whole
 input=newer
 ends 1 'bin/loopcheck, a newer answer by -' $'refused 3\n' "loopcheck: answer: $version" "$check" k1 -
 input=whole
@@ -96,7 +96,7 @@ ends 0 'bin/looplist, - for the acts' "$done_1" '' "$list" k1 -
 input=bad
 ends 2 'bin/looplist, a bad list by -' '' "/dev/stdin: $no_act" "$list" k1 -
 input=most.wide
-ends 1 'bin/looplist, 400,000 acts by -' $'refusal 9\nverdict none\nacts 0\n' "looplist: acts: $(rule 9)"$'\n' "$list" k1 -
+ends 1 'bin/looplist, 400,000 acts by -' $'refusal 9\n'"$undone" "looplist: acts: $(rule 9)"$'\n' "$list" k1 -
 input=too.many.wide
 ends 2 'bin/looplist, 400,001 acts by -' '' $'/dev/stdin: more than 400000 acts\n' "$list" k1 -
 cp k1 ./-:k1
@@ -178,5 +178,5 @@ ends 1 'examples, refused' $'refused 8\n' "loopfind: case: $twice" "$find" "$roo
 ends 0 'examples, large' $'pass lasso\n' '' "$check" field.case field.answer
 "$root/examples/rounds" k1 3 >three.acts
 "$root/examples/rounds" k1 4 >four.acts
-ends 1 'examples, three rounds' $'refusal 10\nverdict none\nacts 6\n' "looplist: acts: $(rule 10)"$'\n' "$list" k1 three.acts
+ends 1 'examples, three rounds' $'refusal 10\nverdict none\nacts 6\nsent 3\ndelivered 3\njoined 0\n' "looplist: acts: $(rule 10)"$'\n' "$list" k1 three.acts
 ends 0 'examples, four rounds' "$done_1" '' "$list" k1 four.acts
