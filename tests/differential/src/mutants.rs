@@ -133,64 +133,47 @@ impl Tool for Mutant {
     }
 }
 
+fn mutant(name: &'static str, fault: impl Faulty + 'static) -> Mutant {
+    let fault = Box::new(fault);
+    Mutant { name, fault }
+}
+
 /// The tool without any fault: the comparison must not find anything.
 pub fn faultless() -> Mutant {
-    Mutant {
-        name: "no fault",
-        fault: Box::new(NoFault),
-    }
+    mutant("no fault", NoFault)
 }
 
 /// Every mutant.
 pub fn mutants() -> Vec<Mutant> {
-    let mutant = |name, fault| Mutant { name, fault };
     vec![
-        mutant("floor at -A", Box::new(FloorAtMinusA)),
-        mutant(
-            "ended while a message waits",
-            Box::new(EndedWhileMessageWaits),
-        ),
-        mutant("late higher offer overwrites", Box::new(LateHigherOffer)),
-        mutant("stem from parent edges", Box::new(StemFromParents)),
-        mutant("accepting on the stem counts", Box::new(AcceptingOnStem)),
-        mutant("cells past 16,384 not zeroed", Box::new(FarCellsKept)),
-        mutant("output changed on refusal 10", Box::new(OutputChanged)),
-        mutant("9 only up to the run's end", Box::new(NineUpToEnd)),
-        mutant("-0 accepted", Box::new(MinusZero)),
-        mutant("trailing bytes accepted", Box::new(TrailingBytes)),
+        mutant("floor at -A", FloorAtMinusA),
+        mutant("ended while a message waits", EndedWhileMessageWaits),
+        mutant("late higher offer overwrites", LateHigherOffer),
+        mutant("stem from parent edges", StemFromParents),
+        mutant("accepting on the stem counts", AcceptingOnStem),
+        mutant("cells past 16,384 not zeroed", FarCellsKept),
+        mutant("output changed on refusal 10", OutputChanged),
+        mutant("9 only up to the run's end", NineUpToEnd),
+        mutant("-0 accepted", MinusZero),
+        mutant("trailing bytes accepted", TrailingBytes),
         mutant(
             "waiting offer stays when a lower one comes",
-            Box::new(WaitingOfferStays),
+            WaitingOfferStays,
         ),
-        mutant("scan goes on below the floor", Box::new(ScanGoesOn)),
-        mutant(
-            "distance read again within a scan",
-            Box::new(DistanceReadAgain),
-        ),
-        mutant("idle acts counted", Box::new(IdleCounted)),
-        mutant("everything searched on the first act", Box::new(AllAtOnce)),
-        mutant(
-            "only reachable accepting vertices in A",
-            Box::new(ReachableOnly),
-        ),
-        mutant("delivered vertex joins at the head", Box::new(JoinsAtHead)),
-        mutant("stem last in dictionary order", Box::new(StemLastInOrder)),
-        mutant("work kept on refusal 10", Box::new(WorkKept)),
-        mutant(
-            "line without line feed accepted at the end",
-            Box::new(TornLine),
-        ),
-        mutant(
-            "passing rule judged before bytes too many",
-            Box::new(RuleBeforeEnd),
-        ),
-        mutant("joins not counted as sent", Box::new(JoinsNotSent)),
-        mutant(
-            "idle deliveries counted as delivered",
-            Box::new(IdleDelivered),
-        ),
-        mutant("tallies returned with 9", Box::new(TalliesWithNine)),
-        mutant("no tallies with 10", Box::new(NoTalliesWithTen)),
+        mutant("scan goes on below the floor", ScanGoesOn),
+        mutant("distance read again within a scan", DistanceReadAgain),
+        mutant("idle acts counted", IdleCounted),
+        mutant("everything searched on the first act", AllAtOnce),
+        mutant("only reachable accepting vertices in A", ReachableOnly),
+        mutant("delivered vertex joins at the head", JoinsAtHead),
+        mutant("stem last in dictionary order", StemLastInOrder),
+        mutant("work kept on refusal 10", WorkKept),
+        mutant("line without line feed accepted at the end", TornLine),
+        mutant("passing rule judged before bytes too many", RuleBeforeEnd),
+        mutant("joins not counted as sent", JoinsNotSent),
+        mutant("idle deliveries counted as delivered", IdleDelivered),
+        mutant("tallies returned with 9", TalliesWithNine),
+        mutant("no tallies with 10", NoTalliesWithTen),
     ]
 }
 
