@@ -27,6 +27,11 @@ trial 'release: man pages' $'loopcheck.1\nloopdraw.1\nloopfind.1\nlooplist.1\nre
 
 # ---- its library
 
+# A program that was linked with another minor version does not find this one.
+minor=${release#rezkundo-}
+minor=${minor%%-*}
+named() { readelf -d "$unpacked/lib/librezkundo.so" | sed -n 's/.*soname: \[\(.*\)\]/\1/p'; }
+trial 'release: the name of the .so' "librezkundo.so.${minor%.*}"$'\n' '' named
 checked=$lasso_1$'check passed lasso\n'
 linked() { # NAME OPTION...: the example in C, linked with what was unpacked
     (cd "$unpacked" && cc -std=c99 -Wall -Wextra -Werror share/doc/rezkundo/bindings/c/find.c -o "$work/$1" "${@:2}")
