@@ -33,7 +33,7 @@ pub extern "C" fn rezkundo_check_answer(text: &[u8], answer: &[u8]) -> Checked
 }
 
 // `REZKUNDO_VERSION` in the header that goes with this library.
-const VERSION: u32 = 10000;
+const VERSION: u32 = 10100;
 
 // The product's version as one number.
 #[no_mangle]
