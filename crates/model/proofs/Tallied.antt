@@ -20,14 +20,14 @@ use Rattle.model.proofs.Shapes.{Shape, not-broken, shape-relax, shape-c
 use Rattle.model.proofs.Few.{bit, bit-le, bit-mono, waiting, R, R-most, R-relax, R-queue, R-head, R-send, relax-cells, relax-tallies}
 
 -- BALANCE: an offer that joins fills no cell, any other fills one; a delivery empties one
-put-balanced : (t : Tallies) (os : List (Option ℕ)) (e k : ℕ) → e < length os → Balanced t (full-cells os) → Balanced (put-one (is-some (getD os e none)) t) (full-cells (set os e (some k)))
+pub put-balanced : (t : Tallies) (os : List (Option ℕ)) (e k : ℕ) → e < length os → Balanced t (full-cells os) → Balanced (put-one (is-some (getD os e none)) t) (full-cells (set os e (some k)))
 put-balanced t os e k l b = go (getD os e none) (sum-of-set one-if os e (some k) none l)
   where
     go : (o : Option ℕ) → full-cells (set os e (some k)) + one-if o ≡ full-cells os + one-if (some k) → Balanced (put-one (is-some o) t) (full-cells (set os e (some k)))
     go none s = unfold is-some in (omega (arith, one-none, one-some k))
     go (some d) s = unfold is-some in (omega (arith, one-some d, one-some k))
 
-deliver-balanced : (t : Tallies) (os : List (Option ℕ)) (e d : ℕ) → e < length os → getD os e none ≡ some d → Balanced t (full-cells os) → Balanced (deliver-one t) (full-cells (set os e none))
+pub deliver-balanced : (t : Tallies) (os : List (Option ℕ)) (e d : ℕ) → e < length os → getD os e none ≡ some d → Balanced t (full-cells os) → Balanced (deliver-one t) (full-cells (set os e none))
 deliver-balanced t os e d l h b = omega (arith, rw h at (sum-of-set one-if os e none none l), one-none, one-some d)
 
 -- FEW: v's edge f from e on is still to come in a scan of v

@@ -7,26 +7,28 @@ use Prim.Native.Nat.{ℕ, suc, _+_, _-_, _≤_, _<_, _^_}
 use native.Mathlib.Omega.{arith}
 use native.Mathlib.Nat.{zero-add}
 use native.Mathlib.Numerals.{add-one, one-add}
-use borrow.Author.Tests.{lt-ltb, le-ltb, eq-eqb}
+use borrow.Author.Tests.{lt-ltb, le-ltb, eq-eqb, ne-eqb}
 use lib.Dec.{eqb, eqb·suc-zero}
 use lib.ListN.{length, getD, set, drop, drop-of-length-le}
 use lib.Seq.{drop-cons}
 use lib.IntN.{ℤ, pos}
 use lib.Signed.{ltZ}
 use Rattle.model.specs.Case.{Case, most-vertices, most-edges, Sound, Within}
-use Rattle.model.specs.Run.{Tallies, deliver-one, State, is-some, ended-lasso, has-ended, with-queues, emptied, one-if, sum-of, full-cells, relax, scan, no-vertex, no-message, counted, depth-or, turn-of, turn, delivery-of, delivery, act, acted, Moment}
+use Rattle.model.specs.Run.{Tallies, deliver-one, State, is-some, ended-lasso, has-ended, with-queues, emptied, sum-of, full-cells, relax, scan, no-vertex, no-message, counted, depth-or, turn-of, turn, delivery-of, delivery, act, acted, Moment}
 use Rattle.model.proofs.Shapes.{head-depth}
 use Rattle.model.proofs.Fits.{accepting-few}
 use Rattle.model.proofs.Few.{few}
 use Rattle.model.proofs.Findings.{moment-known}
 use Rattle.model.proofs.ActRules.{moment-act}
 use Rattle.model.proofs.Bounds.{most-acts-within, most-sent-within}
-use Rattle.model.proofs.Tallied.{moment-tallied}
-use Rattle.model.proofs.Tools.{sum-of-set, one-none, one-some, no-message-is}
+use Rattle.model.proofs.Tallied.{deliver-balanced, moment-tallied}
+use Rattle.model.proofs.Tools.{no-message-is}
+use Rattle.model.specs.Promise.{Balanced}
+use Rattle.text.proofs.Tests.{Same, same?, same, other}
 use Rattle.search.specs.declared.run.Run.{Run}
 use Rattle.search.specs.Cells.{far, more, message-at}
 use Rattle.search.specs.Rep.{Rep, tallies-in, busy, link}
-use Rattle.search.specs.Asks.{Room, counted-run, over}
+use Rattle.search.specs.Asks.{Room, none-waits, counted-run, over}
 use Rattle.search.proofs.Stores.{held-cell}
 
 -- COUNTS fit 32 bits, and so do the tallies after one delivery or one scan more
@@ -64,6 +66,17 @@ unfolding is-some
 not-broken-is none = refl
 not-broken-is (some v) = rw eqb·suc-zero
 
+-- the tallies tell whether a cell is full
+none-waits-is : (k : Run) (os : List (Option ℕ)) → Balanced (tallies-in k) (full-cells os) → none-waits k ≡ no-message os
+none-waits-is k os b = go (same? (full-cells os) 0) ∙ no-message-is os
+  where
+    go : Same (full-cells os) 0 → eqb (k .sent - k .delivered) (k .joined) ≡ eqb (full-cells os) 0
+    go (same e) = rw (eq-eqb (full-cells os) 0 e) (eq-eqb (k .sent - k .delivered) (k .joined) (omega arith))
+    go (other n) = rw (ne-eqb (full-cells os) 0 n) (ne-eqb (k .sent - k .delivered) (k .joined) (λ e. n (omega arith)))
+
+pub sent-most : {c : Case} {x : State} {k : Run} {w : List ℤ} → Rep c x k w → k .delivered ≤ k .sent
+sent-most rep = omega (arith, rep .counted .full)
+
 pub counted-rep : (c : Case) (x : State) (k : Run) (w : List ℤ) → Rep c x k w → Rep c (counted x) (counted-run k) w
 unfolding ended-lasso
 counted-rep c x k w rep =
@@ -81,7 +94,7 @@ counted-rep c x k w rep =
         tallied = q .tallied;
         broke = q .broke;
         marks = q .marks;
-        over = rw (q .broke, q .queued, q .full, not-broken-is, no-vertex-is, no-message-is);
+        over = rw (q .broke, q .queued, none-waits-is k (x .cells) (q .full), not-broken-is, no-vertex-is);
       };
     }
 
@@ -94,9 +107,9 @@ over-is c x k w rep = rw (rep .counted .broke, rep .counted .over, not-broken-is
     twice true b = refl
     twice false b = refl
 
--- no cell is full where the counter is 0
-pub none-full : (c : Case) (x : State) (k : Run) (w : List ℤ) → Rep c x k w → k .full ≡ 0 → no-message (x .cells) ≡ true
-none-full c x k w rep e = sym (no-message-is (x .cells)) ∙ eq-eqb (full-cells (x .cells)) 0 (sym (rep .counted .full) ∙ e)
+-- no cell is full where the tallies say so
+pub none-full : (c : Case) (x : State) (k : Run) (w : List ℤ) → Rep c x k w → none-waits k ≡ true → no-message (x .cells) ≡ true
+none-full c x k w rep e = sym (none-waits-is k (x .cells) (rep .counted .full)) ∙ e
 
 -- TURNS
 pub link-none : (q : List ℕ) → link q ≡ 1 → q ≡ []
@@ -139,27 +152,18 @@ abbrev pub emptied-run : Run → Run
 emptied-run k =
     record {
       queued = k .queued;
-      full = k .full - 1;
       acts = k .acts;
       sent = k .sent;
       delivered = k .delivered + 1;
       joined = k .joined;
+      ended = k .ended;
       broken = k .broken;
       marks = k .marks;
-      ended = k .ended;
     }
 
 module _ (c : Case) (x : State) (k : Run) (w : List ℤ) (e o : ℕ) (rep : Rep c x k w) (below : e < length (c .graph .edges)) (there : getD (x .cells) e none ≡ some o) where
-  pub some-full : 1 ≤ k .full
-  some-full =
-      let f : e < length (x .cells) = omega (arith, rep .held .cells .sized) in
-      let z : one-if (getD (x .cells) e none) ≡ 1 = rw there (one-some o) in
-      omega (arith, sum-of-set one-if (x .cells) e none none f, one-none, rep .counted .full)
-
   pub cell-emptied : Rep c (emptied e x) (emptied-run k) (set w (message-at + e) (pos 1))
   cell-emptied =
-      let f : e < length (x .cells) = omega (arith, rep .held .cells .sized) in
-      let z : one-if (getD (x .cells) e none) ≡ 1 = rw there (one-some o) in
       let q = rep .counted in
       record {
         links = rep .links;
@@ -169,7 +173,7 @@ module _ (c : Case) (x : State) (k : Run) (w : List ℤ) (e o : ℕ) (rep : Rep 
         lined = rep .lined;
         counted = record {
           queued = q .queued;
-          full = omega (arith, sum-of-set one-if (x .cells) e none none f, one-none, q .full, some-full);
+          full = deliver-balanced (tallies-in k) (x .cells) e o (omega (arith, rep .held .cells .sized)) there (q .full);
           acts = q .acts;
           tallied = ap deliver-one (q .tallied);
           broke = q .broke;

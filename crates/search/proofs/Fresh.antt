@@ -99,7 +99,7 @@ module _ (c : Case) (w w1 w2 w3 w4 w5 w6 : List ℤ) (laid : Laid c w) (f1 : Fil
         lined = lined-blank c;
         counted = record {
           queued = sym (sum-of-none busy [] (c .workers) busy-none);
-          full = sym (sum-of-none one-if none (length (c .graph .edges)) one-none);
+          full = omega (arith, sum-of-none one-if none (length (c .graph .edges)) one-none);
           acts = refl;
           tallied = refl;
           broke = refl;

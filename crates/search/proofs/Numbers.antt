@@ -1,4 +1,4 @@
--- Offers compared as signed numbers; full cells and busy queues counted. Assumes nothing.
+-- Offers compared as signed numbers; busy queues counted. Assumes nothing.
 use mathlib.Core.Path.{_≡_, refl, _∙_}
 use mathlib.Core.Bool.{Bool, true, false, not, cond}
 use mathlib.Core.List.{List, [], _∷_, _++_}
@@ -12,7 +12,7 @@ use lib.Signed.{ltZ}
 use mir.Syntax.{w32}
 use mir.Val.{SFits, toZ, ofZ}
 use mir.Facts.{toZ-ofZ}
-use Rattle.model.specs.Run.{is-some, takes, lower, one-if, sum-of}
+use Rattle.model.specs.Run.{is-some, takes, lower, sum-of}
 use Rattle.model.proofs.Signs.{deeper-lt}
 use Rattle.search.specs.Cells.{far}
 use Rattle.search.specs.Rep.{busy}
@@ -55,11 +55,6 @@ pub sum-of-le : {A : Type 0} (f : A → ℕ) → ((a : A) → f a ≤ 1) → (l 
 unfolding sum-of
 sum-of-le f h [] = omega arith
 sum-of-le f h (o ∷ l) = omega (arith, h o, sum-of-le f h l)
-
-pub one-le : (o : Option ℕ) → one-if o ≤ 1
-unfolding one-if
-one-le none = omega arith
-one-le (some d) = omega arith
 
 pub busy-le : (q : List ℕ) → busy q ≤ 1
 unfolding busy

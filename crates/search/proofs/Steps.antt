@@ -14,11 +14,12 @@ use lib.IntN.{ℤ, pos, negℤ, _+ℤ_, negℤ-+ℤ, pos-+ℤ-pos}
 use lib.Signed.{mag}
 use Rattle.model.specs.Graph.{edge, edge-depth, edge-length, mark, accepting-count}
 use Rattle.model.specs.Case.{Case, owner, most-vertices, most-workers}
-use Rattle.model.specs.Run.{State, is-some, ended-lasso, with-queues, takes, member, enqueue, below-floor, relax, lower, send, scan-edge, one-if, full-cells, put-one}
-use Rattle.model.proofs.Tools.{sum-of-set, one-none, one-some, member-first}
+use Rattle.model.specs.Run.{State, is-some, ended-lasso, with-queues, takes, member, enqueue, below-floor, relax, lower, send, scan-edge, put-one}
+use Rattle.model.proofs.Tools.{sum-of-set, member-first}
+use Rattle.model.proofs.Tallied.{put-balanced}
 use Rattle.search.specs.declared.run.Run.{Run}
 use Rattle.search.specs.Cells.{Below, far, more, accepting-at, owner-at, to-at, distance-at, parent-at, link-at, message-at, head-at, tail-at}
-use Rattle.search.specs.Rep.{Table, Laid, Rep, link, busy}
+use Rattle.search.specs.Rep.{Table, Laid, Rep, tallies-in, link, busy}
 use Rattle.search.specs.Asks.{Length-is}
 use Rattle.search.proofs.Stores.{there, held-depth, held-parent, held-link, held-cell, held-head, held-tail}
 use Rattle.search.proofs.Queues.{join-first, join-next, leave, chain-marked, true-or, link-one, link-low, links-low, last-below}
@@ -31,11 +32,11 @@ cell-is {base} {size} {l} t i r h e = let z : pos (getD l i 0) ≡ pos r = sym (
 -- one counter changed
 abbrev pub with-queued : (queued : ℕ) → Run → Run
 with-queued n k =
-    record { queued = n; full = k .full; acts = k .acts; sent = k .sent; delivered = k .delivered; joined = k .joined; broken = k .broken; marks = k .marks; ended = k .ended }
+    record { queued = n; acts = k .acts; sent = k .sent; delivered = k .delivered; joined = k .joined; ended = k .ended; broken = k .broken; marks = k .marks }
 
 abbrev pub with-broken : (broken : ℕ) → Run → Run
 with-broken n k =
-    record { queued = k .queued; full = k .full; acts = k .acts; sent = k .sent; delivered = k .delivered; joined = k .joined; broken = n; marks = k .marks; ended = k .ended }
+    record { queued = k .queued; acts = k .acts; sent = k .sent; delivered = k .delivered; joined = k .joined; ended = k .ended; broken = n; marks = k .marks }
 
 -- THE CASE
 module _ (c : Case) (w : List ℤ) (v : ℕ) (laid : Laid c w) (below : v < c .graph .vertices) where
@@ -243,14 +244,13 @@ abbrev pub sent-run : (joins : Bool) → Run → Run
 sent-run b k =
     record {
       queued = k .queued;
-      full = cond b (k .full) (k .full + 1);
       acts = k .acts;
       sent = k .sent + 1;
       delivered = k .delivered;
       joined = cond b (k .joined + 1) (k .joined);
+      ended = k .ended;
       broken = k .broken;
       marks = k .marks;
-      ended = k .ended;
     }
 
 pub sent-rep : (c : Case) (x : State) (k : Run) (w : List ℤ) (e o : ℕ) (b : Bool) → Rep c x k w → e < length (c .graph .edges) → is-some (getD (x .cells) e none) ≡ b
@@ -265,7 +265,7 @@ sent-rep c x k w e o b rep below j =
       lined = rep .lined;
       counted = record {
         queued = q .queued;
-        full = now-full (getD (x .cells) e none) b j (sum-of-set one-if (x .cells) e (some (lower (getD (x .cells) e none) o)) none fits);
+        full = rw (← j) (put-balanced (tallies-in k) (x .cells) e (lower (getD (x .cells) e none) o) (omega (arith, rep .held .cells .sized)) (q .full));
         acts = q .acts;
         tallied = rw j (ap (put-one b) (q .tallied));
         broke = q .broke;
@@ -273,18 +273,6 @@ sent-rep c x k w e o b rep below j =
         over = q .over;
       };
     }
-  where
-    fits : e < length (x .cells)
-    fits = omega (arith, rep .held .cells .sized)
-
-    after : ℕ
-    after = full-cells (set (x .cells) e (some (lower (getD (x .cells) e none) o)))
-
-    now-full : (m : Option ℕ) (b : Bool) → is-some m ≡ b → after + one-if m ≡ full-cells (x .cells) + one-if (some (lower (getD (x .cells) e none) o)) → cond b (k .full) (k .full + 1) ≡ after
-    now-full none true h s = unfold is-some in cc
-    now-full none false h s = omega (arith, one-none, one-some (lower (getD (x .cells) e none) o), rep .counted .full)
-    now-full (some d) true h s = omega (arith, one-some d, one-some (lower (getD (x .cells) e none) o), rep .counted .full)
-    now-full (some d) false h s = unfold is-some in cc
 
 -- RELAX
 abbrev pub offered : State → (v o e : ℕ) → State

@@ -23,7 +23,7 @@ use Rattle.model.proofs.Rounds.{act-over, acted-over}
 use Rattle.model.proofs.RoundCells.{round-keeps}
 use Rattle.search.specs.declared.run.Run.{Run}
 use Rattle.search.specs.Rep.{Firsts, Rep, link}
-use Rattle.search.specs.Asks.{Inserted, Among, Listed, Only, Turns-leave}
+use Rattle.search.specs.Asks.{none-waits, Inserted, Among, Listed, Only, Turns-leave}
 use Rattle.search.proofs.Regions.{same-or, below-or}
 use Rattle.search.proofs.Inserts.{among-new, among-old, listed-more, each-more}
 use Rattle.search.proofs.Acts.{none-full, link-none, link-split, link-two, turn-none, turn-is, delivery-none, delivery-some, act-turn, act-delivery}
@@ -425,7 +425,7 @@ module _ (c : Case) (ok : Sound c) (F H : List ℕ) (f : Firsts (c .graph) F) (l
         in
         subst (λ (y : State). Rep c y k w) r (s .rep)
 
-    pub sweep-empty : k .full ≡ 0 → Rep c (acted c (range (length (c .graph .edges)) (c .workers)) x) k w
+    pub sweep-empty : none-waits k ≡ true → Rep c (acted c (range (length (c .graph .edges)) (c .workers)) x) k w
     sweep-empty e = sweep-ends (λ j _ _. no-cell (s .state .cells) (none-full c (s .state) k w (s .rep) e) j)
 
     pub sweep-done : length H ≤ i → Rep c (acted c (range (length (c .graph .edges)) (c .workers)) x) k w

@@ -91,18 +91,20 @@ unfoldable pub Scan-says : (v : ℕ) → (d : ℤ) → (k k′ : Run) → (w w�
 Scan-says v d k k′ w w′ = (c : Case) (x : State) (o : ℕ) → Rep c x k w → v < c .graph .vertices → d ≡ negℤ (pos o) → Rep c (scan c v o x) k′ w′
 
 -- ACTS
+abbrev pub none-waits : Run → Bool
+none-waits k = eqb (k .sent - k .delivered) (k .joined)
+
 abbrev pub counted-run : Run → Run
 counted-run k =
     record {
       queued = k .queued;
-      full = k .full;
       acts = k .acts + 1;
       sent = k .sent;
       delivered = k .delivered;
       joined = k .joined;
+      ended = eqb (k .broken) 0 && (eqb (k .queued) 0 && none-waits k);
       broken = k .broken;
       marks = k .marks;
-      ended = eqb (k .broken) 0 && (eqb (k .queued) 0 && eqb (k .full) 0);
     }
 
 abbrev pub over : Run → Bool
@@ -174,7 +176,7 @@ blank c =
     }
 
 abbrev pub blank-run : (marks : ℕ) → Run
-blank-run a = record { queued = 0; full = 0; acts = 0; sent = 0; delivered = 0; joined = 0; broken = 0; marks = a; ended = false }
+blank-run a = record { queued = 0; acts = 0; sent = 0; delivered = 0; joined = 0; ended = false; broken = 0; marks = a }
 
 unfoldable pub Blank-says : (w w′ : List ℤ) → Type 0
 Blank-says w w′ = (c : Case) → Laid c w → Rep c (blank c) (blank-run (accepting-count (c .graph))) w′

@@ -10,6 +10,7 @@ use lib.IntN.{ℤ, pos}
 use Rattle.model.specs.Graph.{Edge, Graph, edge, accepting-count}
 use Rattle.model.specs.Case.{Case, owner, least-work, Sound, Within}
 use Rattle.model.specs.Run.{Tallies, State, member, sum-of, full-cells}
+use Rattle.model.specs.Promise.{Balanced}
 use Rattle.search.specs.declared.run.Run.{Run}
 use Rattle.search.specs.Cells.{Region, far, more, by-more, by-from, by-to, accepting-at, owner-at, from-at, to-at, first-at, distance-at, parent-at, link-at, message-at, head-at, tail-at}
 
@@ -91,7 +92,7 @@ pub record Lined (c : Case) (qs : List (List ℕ)) (N H T : List ℕ) : Type 0 w
   pub mine : (p v : ℕ) → member v (getD qs p []) ≡ true → (v < c .graph .vertices) × (owner c v ≡ p)
   pub clear : (v : ℕ) → v < c .graph .vertices → member v (getD qs (owner c v) []) ≡ false → getD N v 0 ≡ 0
 
--- COUNTERS: how many queues have a vertex, how many cells a message; acts and tallies
+-- COUNTERS: how many queues have a vertex; acts and tallies, which tell how many cells have a message
 unfoldable pub busy : (queue : List ℕ) → ℕ
 busy [] = 0
 busy (v ∷ q) = 1
@@ -101,7 +102,7 @@ tallies-in k = record { sent = k .sent; delivered = k .delivered; joined = k .jo
 
 pub record Counted (A : ℕ) (queues : List (List ℕ)) (cells : List (Option ℕ)) (broken : Option ℕ) (ended : Bool) (count : ℕ) (tallies : Tallies) (k : Run) : Type 0 where
   pub queued : k .queued ≡ sum-of busy queues
-  pub full : k .full ≡ full-cells cells
+  pub full : Balanced (tallies-in k) (full-cells cells)
   pub acts : k .acts ≡ count
   pub tallied : tallies-in k ≡ tallies
   pub broke : k .broken ≡ more broken

@@ -11,6 +11,7 @@ use super::run::Run;
 use super::run::act;
 use super::run::deliver;
 use super::run::is_over;
+use super::run::none_full;
 use casefile::Case;
 
 // Puts h into its place among the first `many` numbers of a list, which rise; those behind it move up by one.
@@ -86,7 +87,7 @@ pub(crate) fn sweep(work: &mut [i32], run: Run, p: usize, heads: &[usize]) -> Ru
     let mut r = run;
     let mut i: usize = 0;
     while i < heads.len() {
-        if r.full == 0 {
+        if none_full(r) {
             return r;
         }
         r = deliver_edges(work, r, heads[i] - QUEUED, p);

@@ -8,7 +8,7 @@ ghost use lib.Signed.{ltZ};
 ghost use lib.ListN.{length};
 ghost use Rattle.model.specs.Case.{most-vertices, least-work};
 ghost use Rattle.search.specs.Cells.{message-at};
-ghost use Rattle.search.specs.Asks.{Put-says, Offer-asks, Send-asks, Send-says, Relax-says, Edge-says, Scan-asks, Scan-says, counted-run, over, Turn-asks, Turn-says, Deliver-asks, Deliver-says, Act-asks, Act-says, Length-is, Offered-asks, Offered-is, Blank-says, Fresh-asks, Fresh-says, List-asks, List-done};
+ghost use Rattle.search.specs.Asks.{Put-says, Offer-asks, Send-asks, Send-says, Relax-says, Edge-says, Scan-asks, Scan-says, none-waits, counted-run, over, Turn-asks, Turn-says, Deliver-asks, Deliver-says, Act-asks, Act-says, Length-is, Offered-asks, Offered-is, Blank-says, Fresh-asks, Fresh-says, List-asks, List-done};
 use super::cells::Cells;
 use super::cells::NO_DISTANCE;
 use super::cells::NONE;
@@ -26,19 +26,18 @@ use super::queue::pop;
 use super::queue::push;
 use casefile::Case;
 
-// What a run counts: queues that have a vertex, cells that have a message, acts; offers put into cells, messages
-// delivered, offers that joined a waiting message; the vertex that broke the floor (NONE, or its number and SOME),
-// accepting vertices; and whether it ended as "empty".
+// What a run counts: queues that have a vertex, acts; offers put into cells, messages delivered, offers that joined a
+// waiting message; whether it ended as "empty"; the vertex that broke the floor (NONE, or its number and SOME), and
+// accepting vertices. How many cells have a message is the difference of the tallies (`none_full`).
 pub(crate) struct Run {
     pub queued: usize,
-    pub full: usize,
     pub acts: u64,
     pub sent: u32,
     pub delivered: u32,
     pub joined: u32,
+    pub ended: bool,
     pub broken: usize,
     pub marks: usize,
-    pub ended: bool,
 }
 
 impl Run {
@@ -52,14 +51,13 @@ impl Run {
         store(work, Cells::DISTANCE + source, 0);
         let run = Run {
             queued: 0,
-            full: 0,
             acts: 0,
             sent: 0,
             delivered: 0,
             joined: 0,
+            ended: false,
             broken: NONE,
             marks: marks,
-            ended: false,
         };
         push(work, run, source)
     }
@@ -136,7 +134,7 @@ pub(crate) fn put_offer(work: &mut [i32], e: usize, d: i32) -> bool
     !missing(waiting)
 }
 
-// Sends an offer along an edge: it is counted, and joins the message in the cell or fills the cell.
+// Sends an offer along an edge: it is counted, and so is whether it joins.
 pub(crate) fn send(work: &mut [i32], run: Run, e: usize, d: i32) -> Run
     requires { ⌜ Send-asks e d run (now work) ⌝ }
     ensures { λ r. ⌜ Send-says e d run r (now (work .entry)) (now (work .exit)) ⌝ }
@@ -148,7 +146,6 @@ pub(crate) fn send(work: &mut [i32], run: Run, e: usize, d: i32) -> Run
         r.joined = run.joined + 1;
         return r;
     }
-    r.full = run.full + 1;
     r
 }
 
@@ -213,24 +210,31 @@ pub(crate) fn scan(work: &mut [i32], run: Run, v: usize, d: i32) -> Run
     r
 }
 
+// Whether no cell has a message: each offer sent was delivered or joined another.
+pub(crate) fn none_full(run: Run) -> bool
+    requires { ⌜ run .delivered ≤ run .sent ⌝ }
+    ensures { λ r. ⌜ r ≡ none-waits run ⌝ }
+{
+    run.sent - run.delivered == run.joined
+}
+
 // An act that did something is counted, and the run has ended as "empty" if nothing waits.
 pub(crate) fn counted(run: Run) -> Run
-    requires { ⌜ run .acts < 2 ^ 64 - 1 ⌝ }
+    requires { ⌜ (run .acts < 2 ^ 64 - 1) × (run .delivered ≤ run .sent) ⌝ }
     ensures { λ r. ⌜ r ≡ counted-run run ⌝ }
 {
     let none_broken = run.broken == NONE;
     let none_queued = run.queued == 0;
-    let none_full = run.full == 0;
+    let none_waits = none_full(run);
     Run {
         queued: run.queued,
-        full: run.full,
         acts: run.acts + 1,
         sent: run.sent,
         delivered: run.delivered,
         joined: run.joined,
+        ended: none_broken && (none_queued && none_waits),
         broken: run.broken,
         marks: run.marks,
-        ended: none_broken && (none_queued && none_full),
     }
 }
 
@@ -269,7 +273,6 @@ pub(crate) fn deliver(work: &mut [i32], run: Run, e: usize) -> Run
     }
     store(work, Cells::MESSAGE + e, NO_DISTANCE);
     let mut r = run;
-    r.full = run.full - 1;
     r.delivered = run.delivered + 1;
     let done = relax(work, r, e, d);
     counted(done)

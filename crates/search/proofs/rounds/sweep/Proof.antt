@@ -1,5 +1,5 @@
 -- `rounds::sweep` meets its contract: the deliveries on edges of the first i vertices of the list are done, and all before these. Assumes nothing.
-use mathlib.Core.Path.{_≡_, refl}
+use mathlib.Core.Path.{_≡_, refl, sym, _∙_}
 use mathlib.Core.List.{List}
 use Prim.Native.Nat.{ℕ, _-_, _≤_}
 use native.Mathlib.Omega.{arith}
@@ -8,6 +8,7 @@ use Rattle.model.specs.Case.{Case}
 use Rattle.model.specs.Run.{State, Moment}
 use Rattle.search.specs.Asks.{Listed, Only, Edges-say, Sweep-says}
 use Rattle.search.specs.Rep.{Firsts, Rep}
+use Rattle.search.proofs.Acts.{sent-most}
 use Rattle.search.proofs.Sweeps.{Swept, sweep-start, sweep-step, sweep-empty, sweep-done}
 use borrow.Author.Needs.{needs}
 use Rattle.search.proofs.rounds.sweep.Statement.{statement}
@@ -23,6 +24,12 @@ abbrev μ-loop : tie.MeasureT-loop
 loop-holds : tie.Need-loop-holds Inv-loop μ-loop
 loop-holds c = (omega arith, refl, λ q x F rep m e l only f. sweep-start q (rep .held .laid .sound) F _ f l x _ _ rep m only)
 
+none-full-requires : tie.Need-none-full-requires Inv-loop μ-loop
+none-full-requires c κs =
+    let loop = c .before in
+    let s = loop .before .before .pre in
+    sent-most (loop .loop .inv .2 (s .case) (s .state) (s .rep .held .laid .first) (s .rep) (s .moment) (s .workers) (s .listed) (s .only) (s .rep .held .laid .firsts) .rep)
+
 same-length : tie.Need-same-length Inv-loop μ-loop
 same-length c = c .before .before .before .loop .inv .1
 
@@ -30,7 +37,7 @@ returns : tie.Need-returns Inv-loop μ-loop
 unfolding Sweep-says
 returns c = λ q x rep m e l only.
     let f = rep .held .laid .firsts in
-    sweep-empty q (rep .held .laid .sound) (rep .held .laid .first) _ f l (c .before .before .before .loop .inv .2 q x _ rep m e l only f) (c .if1 .taken)
+    sweep-empty q (rep .held .laid .sound) (rep .held .laid .first) _ f l (c .before .before .before .loop .inv .2 q x _ rep m e l only f) (sym (c .before .none-full .ensures) ∙ c .if1 .taken)
 
 mul-deliver-edges : tie.Need-mul-deliver-edges Inv-loop μ-loop
 mul-deliver-edges c = search needs
@@ -88,6 +95,7 @@ sweep-spec =
     Inv-loop
     μ-loop
     loop-holds
+    none-full-requires
     same-length
     returns
     mul-deliver-edges

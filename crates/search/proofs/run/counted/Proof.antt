@@ -3,12 +3,16 @@ use Rattle.search.proofs.run.counted.Statement.{statement}
 use Rattle.search.proofs.run.counted.Tie as tie
 use Rattle.search.proofs.run.counted.Reads as reads
 use Rattle.search.proofs.run.counted.Lts as lts
+use Rattle.search.proofs.run.none_full.Reads as none-full-reads
 
-add-t11 : tie.Need-add-t11
-add-t11 c = search needs
+none-full-requires : tie.Need-none-full-requires
+none-full-requires c κs = search needs
+
+add-t10 : tie.Need-add-t10
+add-t10 c = search needs
 
 returns : tie.Need-returns
-returns c = rw (c .before .if1 .taken, c .if2 .taken)
+returns c = rw (c .before .before .none-full .ensures, c .before .if1 .taken, c .if2 .taken)
 
 returns-2 : tie.Need-returns-2
 returns-2 c = rw (c .before .if1 .taken, c .if2 .left)
@@ -17,4 +21,4 @@ returns-3 : tie.Need-returns-3
 returns-3 c = rw (c .if1 .left)
 
 pub counted-spec : {M : Type 1} → statement M
-counted-spec = tie.close (tie.spec add-t11 returns returns-2 returns-3)
+counted-spec = tie.close (tie.spec none-full-requires add-t10 returns returns-2 returns-3)

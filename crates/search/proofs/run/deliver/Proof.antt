@@ -15,7 +15,7 @@ use Rattle.search.specs.Asks.{Relax-says, Deliver-says}
 use Rattle.search.specs.Cells.{far}
 use Rattle.search.specs.Rep.{Rep}
 use Rattle.search.proofs.Stores.{there}
-use Rattle.search.proofs.Acts.{count-small, delivery-room, counted-rep, emptied-run, some-there, delivery-none, delivery-some, some-full, cell-emptied}
+use Rattle.search.proofs.Acts.{count-small, delivery-room, sent-most, counted-rep, emptied-run, some-there, delivery-none, delivery-some, cell-emptied}
 use Rattle.search.proofs.Numbers.{none-is, none-test}
 use borrow.Author.Needs.{needs}
 use Rattle.search.proofs.run.deliver.Statement.{statement}
@@ -62,12 +62,12 @@ left c q x rep h =
     rw (c .store .ensures) (cell-emptied q x _ _ e (m .0) rep h (m .1))
 
 -- and the offer relaxed
-relaxed : (c : tie.After-relax) (q : Case) (x : State) → let waiting = c .before .before .before .before .before .before .before in let a = waiting .before .before .before .before .args in
+relaxed : (c : tie.After-relax) (q : Case) (x : State) → let waiting = c .before .before .before .before .before .before in let a = waiting .before .before .before .before .args in
     (rep : Rep q x (a .run) (a .work .now)) → x .broken ≡ none → (h : a .e < length (q .graph .edges))
     → let e = a .e in Rep q (relax q e (waits waiting q x rep h .0) (emptied e x)) (c .relax .result) (c .relax .last .0)
 unfolding Relax-says
 relaxed c q x rep whole h =
-    let stored = c .before .before .before .before .before in
+    let stored = c .before .before .before .before in
     let waiting = stored .before .before in
     let a = waiting .before .before .before .before .args in
     c .relax .ensures q (emptied (a .e) x) (waits waiting q x rep h .0) (left stored q x rep h) whole h (offer-is waiting q x rep h)
@@ -97,23 +97,15 @@ add-store c = search needs
 store-requires : tie.Need-store-requires
 store-requires c κs = search needs
 
-sub-r : tie.Need-sub-r
-sub-r c =
-    let waiting = c .before .before .before .before in
-    let start = waiting .before .before .before .before in
-    let s = start .pre in
-    let m = waits waiting (s .case) (s .state) (s .rep) (s .below) in
-    some-full (s .case) (s .state) _ _ (start .args .e) (m .0) (s .rep) (s .below) (m .1)
-
 add-r : tie.Need-add-r
 add-r c =
-    let start = c .before .before .before .before .before .before .before .before .before in
+    let start = c .before .before .before .before .before .before .before .before in
     let s = start .pre in
     omega (arith, delivery-room (s .case) (s .state) (start .args .run) (s .rep .held .laid .sound) (s .rep .held .laid .within) (s .moment) (s .rep .counted .tallied))
 
 relax-requires : tie.Need-relax-requires
 relax-requires c κs =
-    let stored = c .before .before .before .before in
+    let stored = c .before .before .before in
     let waiting = stored .before .before in
     let start = waiting .before .before .before .before in
     let s = start .pre in
@@ -128,15 +120,18 @@ relax-requires c κs =
 
 counted-requires : tie.Need-counted-requires
 counted-requires c κs =
-    let waiting = c .before .before .before .before .before .before .before .before in
+    let waiting = c .before .before .before .before .before .before .before in
     let start = waiting .before .before .before .before in
     let s = start .pre in
     let e = start .args .e in
-    omega (
-      arith,
-      relaxed (c .before) (s .case) (s .state) (s .rep) (s .whole) (s .below) .counted .acts,
-      relax-count (s .case) e (waits waiting (s .case) (s .state) (s .rep) (s .below) .0) (emptied e (s .state)),
-      count-small (s .case) (s .state) (s .rep .held .laid .sound) (s .rep .held .laid .within) (s .moment),
+    let done = relaxed (c .before) (s .case) (s .state) (s .rep) (s .whole) (s .below) in (
+      omega (
+        arith,
+        done .counted .acts,
+        relax-count (s .case) e (waits waiting (s .case) (s .state) (s .rep) (s .below) .0) (emptied e (s .state)),
+        count-small (s .case) (s .state) (s .rep .held .laid .sound) (s .rep .held .laid .within) (s .moment),
+      ),
+      sent-most done,
     )
 
 same-length-2 : tie.Need-same-length-2
@@ -146,7 +141,7 @@ returns-2 : tie.Need-returns-2
 unfolding Deliver-says
 returns-2 c = λ q x rep whole h.
     let taken = c .before .before in
-    let waiting = taken .before .before .before .before .before .before .before in
+    let waiting = taken .before .before .before .before .before .before in
     let a = waiting .before .before .before .before .args in
     let m = waits waiting q x rep h in
     rw (c .counted .ensures, delivery-some q (a .e) (m .0) x (m .1)) (counted-rep q _ _ _ (relaxed taken q x rep whole h))
@@ -162,7 +157,6 @@ deliver-spec =
     returns
     add-store
     store-requires
-    sub-r
     add-r
     relax-requires
     counted-requires

@@ -7,11 +7,10 @@ use lib.ListN.{length, getD, set}
 use lib.IntN.{pos, negℤ}
 use mir.Facts.{toZ-ofZ}
 use Rattle.model.specs.Case.{Case}
-use Rattle.model.specs.Run.{State, is-some, lower, send, one-if}
+use Rattle.model.specs.Run.{State, is-some, lower, send}
 use Rattle.search.specs.Asks.{Put-says, Send-says}
 use Rattle.search.specs.Cells.{message-at, far}
 use Rattle.search.specs.Rep.{Rep}
-use Rattle.search.proofs.Numbers.{sum-of-le, one-le}
 use Rattle.search.proofs.Stores.{there}
 use Rattle.search.proofs.Steps.{sent-run, sent-rep}
 use borrow.Author.Needs.{needs}
@@ -54,18 +53,14 @@ returns : tie.Need-returns
 unfolding Send-says
 returns c = λ q x o rep h d. counted (c .before .before .before .before) true (c .before .if1 .taken) q x o rep h d
 
-add-r-3 : tie.Need-add-r-3
-add-r-3 c = let s = c .before .before .before .before .before .before .pre .offer in
-    omega (arith, sum-of-le one-if one-le (s .state .cells), s .rep .counted .full, s .rep .held .cells .sized, s .rep .held .laid .within .edges)
-
 same-length-2 : tie.Need-same-length-2
 same-length-2 c = search needs
 
 returns-2 : tie.Need-returns-2
 unfolding Send-says
-returns-2 c = λ q x o rep h d. counted (c .before .before .before .before) false (c .before .if1 .left) q x o rep h d
+returns-2 c = λ q x o rep h d. counted (c .before .before .before) false (c .if1 .left) q x o rep h d
 
 pub send-spec : {M : Type 1} → statement M
 send-spec =
     tie.close
-    (tie.spec put-offer-requires add-r add-r-2 same-length returns add-r-3 same-length-2 returns-2)
+    (tie.spec put-offer-requires add-r add-r-2 same-length returns same-length-2 returns-2)

@@ -16,7 +16,7 @@ use Rattle.model.proofs.Rounds.{scan-count}
 use Rattle.search.specs.Asks.{Pop-says, Scan-says, Turn-says}
 use Rattle.search.specs.Cells.{far}
 use Rattle.search.specs.Rep.{Rep}
-use Rattle.search.proofs.Acts.{depth-low, count-small, scan-room, counted-rep, link-split, link-two, turn-idle, turn-is}
+use Rattle.search.proofs.Acts.{depth-low, count-small, scan-room, sent-most, counted-rep, link-split, link-two, turn-idle, turn-is}
 use Rattle.search.proofs.Stores.{there}
 use Rattle.search.proofs.Steps.{head-there, head-is, head-below}
 use borrow.Author.Needs.{needs}
@@ -134,11 +134,14 @@ counted-requires c κs =
     let s = start .pre in
     let v = head .load-below .result - 2 in
     let t = split busy (s .case) (s .state) (s .rep) (s .worker) in
-    omega (
-      arith,
-      done (c .before) (s .case) (s .state) (s .rep) (s .worker) (s .moment) .counted .acts,
-      scan-count (s .case) v (depth-or (getD (s .state .depths) v none)) (with-queues (set (s .state .queues) (start .args .p) (t .0)) (s .state)),
-      count-small (s .case) (s .state) (s .rep .held .laid .sound) (s .rep .held .laid .within) (s .moment),
+    let scanned = done (c .before) (s .case) (s .state) (s .rep) (s .worker) (s .moment) in (
+      omega (
+        arith,
+        scanned .counted .acts,
+        scan-count (s .case) v (depth-or (getD (s .state .depths) v none)) (with-queues (set (s .state .queues) (start .args .p) (t .0)) (s .state)),
+        count-small (s .case) (s .state) (s .rep .held .laid .sound) (s .rep .held .laid .within) (s .moment),
+      ),
+      sent-most scanned,
     )
 
 same-length-2 : tie.Need-same-length-2
