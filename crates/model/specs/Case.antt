@@ -51,7 +51,7 @@ known-version = 1
 unfoldable pub most-acts : Case → ℕ
 most-acts c = (c .graph .vertices + length (c .graph .edges)) * (accepting-count (c .graph) + 1)
 
--- "sent ≤ m × (A + 1)": so many offers at most are put into cells
+-- a vertex is scanned at most A + 1 times, and a scan sends at most one offer along an edge
 unfoldable pub most-sent : Case → ℕ
 most-sent c = length (c .graph .edges) * (accepting-count (c .graph) + 1)
 
