@@ -14,12 +14,12 @@ use lib.IntN.{ℤ, pos, negℤ, _+ℤ_, negℤ-+ℤ, pos-+ℤ-pos}
 use lib.Signed.{mag}
 use Rattle.model.specs.Graph.{edge, edge-depth, edge-length, mark, accepting-count}
 use Rattle.model.specs.Case.{Case, owner, most-vertices, most-workers}
-use Rattle.model.specs.Run.{State, is-some, ended-lasso, with-queues, takes, member, enqueue, below-floor, relax, lower, send, scan-edge, put-one}
+use Rattle.model.specs.Run.{Tallies, State, is-some, ended-lasso, with-queues, takes, member, enqueue, below-floor, relax, lower, send, scan-edge, sum-of, put-one}
 use Rattle.model.proofs.Tools.{sum-of-set, member-first}
 use Rattle.model.proofs.Tallied.{put-balanced}
 use Rattle.search.specs.declared.run.Run.{Run}
 use Rattle.search.specs.Cells.{Below, far, more, accepting-at, owner-at, to-at, distance-at, parent-at, link-at, message-at, head-at, tail-at}
-use Rattle.search.specs.Rep.{Table, Laid, Rep, tallies-in, link, busy}
+use Rattle.search.specs.Rep.{Table, Laid, Counted, Rep, tallies-in, link, busy}
 use Rattle.search.specs.Asks.{Length-is}
 use Rattle.search.proofs.Stores.{there, held-depth, held-parent, held-link, held-cell, held-head, held-tail}
 use Rattle.search.proofs.Queues.{join-first, join-next, leave, chain-marked, true-or, link-one, link-low, links-low, last-below}
@@ -33,6 +33,9 @@ cell-is {base} {size} {l} t i r h e = let z : pos (getD l i 0) ≡ pos r = sym (
 abbrev pub with-queued : (queued : ℕ) → Run → Run
 with-queued n k =
     record { queued = n; acts = k .acts; sent = k .sent; delivered = k .delivered; joined = k .joined; ended = k .ended; broken = k .broken; marks = k .marks }
+
+requeued : {A n m : ℕ} {qs ps : List (List ℕ)} {os : List (Option ℕ)} {b : Option ℕ} {e : Bool} {t : Tallies} {k : Run} → Counted A qs os b e n t k → m ≡ sum-of busy ps → Counted A ps os b e n t (with-queued m k)
+requeued q h = record { queued = h; full = q .full; acts = q .acts; tallied = q .tallied; broke = q .broke; marks = q .marks; over = q .over }
 
 abbrev pub with-broken : (broken : ℕ) → Run → Run
 with-broken n k =
@@ -145,15 +148,7 @@ module _ (c : Case) (x : State) (k : Run) (w : List ℤ) (v : ℕ) (rep : Rep c 
           tails = set (rep .tails) p v;
           held = held-tail (held-head (held-link (rep .held) v 1 below) p (v + 2) worker-below) p v worker-below;
           lined = join-first c (x .queues) (rep .links) (rep .heads) (rep .tails) v p (rep .lined) owned below worker-below (rep .held .links .sized) (rep .held .heads .sized) (rep .held .tails .sized) free-is hp;
-          counted = record {
-            queued = omega (arith, sum-of-set busy (x .queues) p (getD (x .queues) p [] ++ (v ∷ [])) [] pq, busy-snoc (getD (x .queues) p []) v, q .queued);
-            full = q .full;
-            acts = q .acts;
-            tallied = q .tallied;
-            broke = q .broke;
-            marks = q .marks;
-            over = q .over;
-          };
+          counted = requeued q (omega (arith, sum-of-set busy (x .queues) p (getD (x .queues) p [] ++ (v ∷ [])) [] pq, busy-snoc (getD (x .queues) p []) v, q .queued));
         })
 
     -- behind the last
@@ -173,15 +168,7 @@ module _ (c : Case) (x : State) (k : Run) (w : List ℤ) (v : ℕ) (rep : Rep c 
           tails = set (rep .tails) p v;
           held = held-tail (held-link (held-link (rep .held) t (v + 2) tb) v 1 below) p v worker-below;
           lined = join-next c (x .queues) (rep .links) (rep .heads) (rep .tails) v p (rep .lined) owned below worker-below (rep .held .links .sized) (rep .held .heads .sized) (rep .held .tails .sized) free-is t (sym tp) (λ e. n (sym hp ∙ e));
-          counted = record {
-            queued = omega (arith, sum-of-set busy (x .queues) p (getD (x .queues) p [] ++ (v ∷ [])) [] pq, busy-snoc (getD (x .queues) p []) v, q .queued);
-            full = q .full;
-            acts = q .acts;
-            tallied = q .tallied;
-            broke = q .broke;
-            marks = q .marks;
-            over = q .over;
-          };
+          counted = requeued q (omega (arith, sum-of-set busy (x .queues) p (getD (x .queues) p [] ++ (v ∷ [])) [] pq, busy-snoc (getD (x .queues) p []) v, q .queued));
         })
 
     -- the last of a queue that is not empty
@@ -227,15 +214,7 @@ module _ (c : Case) (x : State) (k : Run) (w : List ℤ) (p v : ℕ) (q : List �
         tails = rep .tails;
         held = held-link (held-head (rep .held) p (link q) pw) v 0 head-below;
         lined = leave c (x .queues) (rep .links) (rep .heads) (rep .tails) v p q (rep .lined) head pw (rep .held .links .sized) (rep .held .heads .sized);
-        counted = record {
-          queued = omega (arith, sum-of-set busy (x .queues) p q [] pq, s .queued);
-          full = s .full;
-          acts = s .acts;
-          tallied = s .tallied;
-          broke = s .broke;
-          marks = s .marks;
-          over = s .over;
-        };
+        counted = requeued s (omega (arith, sum-of-set busy (x .queues) p q [] pq, s .queued));
       })
 
 -- SEND
