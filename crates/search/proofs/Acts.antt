@@ -1,35 +1,37 @@
--- Turns, deliveries and acts: counters tell the end, and each act is the model's. Assumes nothing.
+-- Turns, deliveries and acts: counters and queues tell the end, and each act is the model's. Assumes nothing.
 use mathlib.Core.Path.{_≡_, refl, sym, ap, _∙_}
-use mathlib.Core.Bool.{Bool, true, false, not, _||_}
+use mathlib.Core.Bool.{Bool, true, false, cond}
 use mathlib.Core.List.{List, [], _∷_}
 use mathlib.Core.Option.{Option, none, some}
 use Prim.Native.Nat.{ℕ, suc, _+_, _-_, _≤_, _<_, _^_}
 use native.Mathlib.Omega.{arith}
-use native.Mathlib.Nat.{zero-add}
-use native.Mathlib.Numerals.{add-one, one-add}
+use native.Mathlib.Numerals.{add-one}
 use borrow.Author.Tests.{lt-ltb, le-ltb, eq-eqb, ne-eqb}
-use lib.Dec.{eqb, eqb·suc-zero}
+use lib.Dec.{eqb}
 use lib.ListN.{length, getD, set, drop, drop-of-length-le}
 use lib.Seq.{drop-cons}
 use lib.IntN.{ℤ, pos}
 use lib.Signed.{ltZ}
 use Rattle.model.specs.Case.{Case, most-vertices, most-edges, Sound, Within}
-use Rattle.model.specs.Run.{Tallies, deliver-one, State, is-some, ended-lasso, has-ended, with-queues, emptied, sum-of, full-cells, relax, scan, no-vertex, no-message, counted, depth-or, turn-of, turn, delivery-of, delivery, act, acted, Moment}
+use Rattle.model.specs.Run.{Tallies, deliver-one, State, is-some, ended-lasso, has-ended, with-queues, emptied, full-cells, takes, taken, relax, scan, no-vertex, no-message, counted, depth-or, turn-of, turn, delivery-of, delivery, act, acted, Moment}
 use Rattle.model.proofs.Shapes.{head-depth}
 use Rattle.model.proofs.Fits.{accepting-few}
 use Rattle.model.proofs.Few.{few}
 use Rattle.model.proofs.Findings.{moment-known}
-use Rattle.model.proofs.ActRules.{moment-act}
+use Rattle.model.proofs.ActRules.{moment-act, rules-kept}
+use Rattle.model.proofs.Rounds.{act-over}
 use Rattle.model.proofs.Bounds.{most-acts-within, most-sent-within}
 use Rattle.model.proofs.Tallied.{deliver-balanced, moment-tallied}
-use Rattle.model.proofs.Tools.{no-message-is}
-use Rattle.model.specs.Promise.{Balanced}
-use Rattle.text.proofs.Tests.{Same, same?, same, other}
+use Rattle.model.proofs.Tools.{no-message-is, no-queue, no-cell}
+use Rattle.model.specs.Graph.{edge}
+use Rattle.model.specs.Promise.{Balanced, Nothing-waits}
+use Rattle.text.proofs.Tests.{Same, same?, same, other, or-left, clash}
 use Rattle.search.specs.declared.run.Run.{Run}
 use Rattle.search.specs.Cells.{far, more, message-at}
-use Rattle.search.specs.Rep.{Rep, tallies-in, busy, link}
-use Rattle.search.specs.Asks.{Room, none-waits, counted-run, over}
+use Rattle.search.specs.Rep.{Rep, tallies-in, link}
+use Rattle.search.specs.Asks.{Room, none-waits}
 use Rattle.search.proofs.Stores.{held-cell}
+use Rattle.search.proofs.Steps.{is-broken, not-broken}
 
 -- COUNTS fit 32 bits, and so do the tallies after one delivery or one scan more
 pub count-small : (c : Case) (x : State) → Sound c → Within c → Moment c x → x .count < 2 ^ 32 - 1
@@ -54,18 +56,6 @@ module _ (c : Case) (x : State) (k : Run) (ok : Sound c) (l : Within c) (m : Mom
       let p : k .delivered ≡ x .tallies .delivered = ap (λ (t : Tallies). t .delivered) t in
       omega (arith, s .0, s .1)
 
--- NOTHING WAITS where the counters are 0
-no-vertex-is : (qs : List (List ℕ)) → eqb (sum-of busy qs) 0 ≡ no-vertex qs
-unfolding sum-of busy no-vertex
-no-vertex-is [] = refl
-no-vertex-is ([] ∷ qs) = rw zero-add (no-vertex-is qs)
-no-vertex-is ((v ∷ q) ∷ qs) = rw (one-add, eqb·suc-zero (sum-of busy qs), eqb·suc-zero (length q))
-
-not-broken-is : (o : Option ℕ) → eqb (more o) 0 ≡ not (is-some o)
-unfolding is-some
-not-broken-is none = refl
-not-broken-is (some v) = rw eqb·suc-zero
-
 -- the tallies tell whether a cell is full
 none-waits-is : (k : Run) (os : List (Option ℕ)) → Balanced (tallies-in k) (full-cells os) → none-waits k ≡ no-message os
 none-waits-is k os b = go (same? (full-cells os) 0) ∙ no-message-is os
@@ -77,45 +67,44 @@ none-waits-is k os b = go (same? (full-cells os) 0) ∙ no-message-is os
 pub sent-most : {c : Case} {x : State} {k : Run} {w : List ℤ} → Rep c x k w → k .delivered ≤ k .sent
 sent-most rep = omega (arith, rep .counted .full)
 
-pub counted-rep : (c : Case) (x : State) (k : Run) (w : List ℤ) → Rep c x k w → Rep c (counted x) (counted-run k) w
-unfolding ended-lasso
-counted-rep c x k w rep =
-    let q = rep .counted in
-    record {
-      links = rep .links;
-      heads = rep .heads;
-      tails = rep .tails;
-      held = rep .held;
-      lined = rep .lined;
-      counted = record {
-        queued = q .queued;
-        full = q .full;
-        acts = add-one (k .acts) ∙ ap suc (q .acts);
-        tallied = q .tallied;
-        broke = q .broke;
-        marks = q .marks;
-        over = rw (q .broke, q .queued, none-waits-is k (x .cells) (q .full), not-broken-is, no-vertex-is);
-      };
-    }
-
--- the counters tell the end
-pub over-is : (c : Case) (x : State) (k : Run) (w : List ℤ) → Rep c x k w → has-ended x ≡ over k
-unfolding has-ended ended-lasso
-over-is c x k w rep = rw (rep .counted .broke, rep .counted .over, not-broken-is) (twice (is-some (x .broken)) (x .ended-empty))
-  where
-    twice : (a b : Bool) → (a || b) ≡ (not (not a) || b)
-    twice true b = refl
-    twice false b = refl
-
 -- no cell is full where the tallies say so
 pub none-full : (c : Case) (x : State) (k : Run) (w : List ℤ) → Rep c x k w → none-waits k ≡ true → no-message (x .cells) ≡ true
 none-full c x k w rep e = sym (none-waits-is k (x .cells) (rep .counted .full)) ∙ e
 
--- TURNS
-pub link-none : (q : List ℕ) → link q ≡ 1 → q ≡ []
-link-none [] h = refl
-link-none (u ∷ q) h = absurd (omega arith)
+-- THE END: the floor is broken where the counter has a vertex, and a run that went on otherwise has ended where nothing waits
+module _ {c : Case} {x : State} {k : Run} {w : List ℤ} (rep : Rep c x k w) where
+  pub broken-none : k .broken ≡ 0 → x .broken ≡ none
+  broken-none z = not-broken (x .broken) (sym (rep .counted .broke) ∙ z)
 
+  pub broken-ended : (k .broken ≡ 0 → ⊥) → has-ended x ≡ true
+  unfolding has-ended ended-lasso
+  broken-ended n = or-left (is-some (x .broken)) (x .ended-empty) (is-broken (x .broken) (λ z. n (rep .counted .broke ∙ z)))
+
+empty-ended : (x : State) → x .broken ≡ none → has-ended x ≡ x .ended-empty
+unfolding has-ended ended-lasso is-some
+empty-ended x b = rw b
+
+module _ (c : Case) (x : State) (ok : Sound c) (m : Moment c x) (whole : x .broken ≡ none) where
+  pub waits-none : has-ended x ≡ true → Nothing-waits x
+  waits-none o = rules-kept c ok x m .empty-only (sym (empty-ended x whole) ∙ o) .1
+
+  -- the end is told by the queues and the tallies
+  pub over-full : (k : Run) (w : List ℤ) → Rep c x k w → none-waits k ≡ false → has-ended x ≡ false
+  over-full k w rep e = go (has-ended x) refl
+    where
+      go : (b : Bool) → has-ended x ≡ b → has-ended x ≡ false
+      go true o = clash _ (none-waits-is k (x .cells) (rep .counted .full) ∙ waits-none o .cells) e
+      go false o = o
+
+  pub over-queued : (b : Bool) (k : Run) (w : List ℤ) → Rep c x k w → none-waits k ≡ true → b ≡ no-vertex (x .queues) → b ≡ has-ended x
+  over-queued b k w rep e q = go (has-ended x) refl b refl
+    where
+      go : (h : Bool) → has-ended x ≡ h → (b′ : Bool) → b ≡ b′ → b ≡ has-ended x
+      go true o b′ i = q ∙ waits-none o .queues ∙ sym o
+      go false o false i = i ∙ sym o
+      go false o true i = clash _ (rules-kept c ok x m .empty-always (record { queues = sym q ∙ i; cells = none-full c x k w rep e })) o
+
+-- TURNS
 pub link-split : (q : List ℕ) (h : ℕ) → link q ≡ h → (h ≡ 1 → ⊥) → (r : List ℕ) × (q ≡ (h - 2) ∷ r)
 link-split [] h e n = absurd (n (sym e))
 link-split (u ∷ q) h e n = let z : u ≡ h - 2 = omega arith in (q, ap (λ (i : ℕ). i ∷ q) z)
@@ -129,10 +118,30 @@ unfolding turn turn-of
 turn-idle c x k w p rep [] e h = rw e rep
 turn-idle c x k w p rep (u ∷ q) e h = absurd (omega arith)
 
+pub turn-none : (c : Case) (x : State) (p : ℕ) → getD (x .queues) p [] ≡ [] → turn c p x ≡ x
+unfolding turn turn-of
+turn-none c x p e = rw e
+
 pub turn-is : (c : Case) (x : State) (p v : ℕ) (q : List ℕ) → getD (x .queues) p [] ≡ v ∷ q
     → turn c p x ≡ counted (scan c v (depth-or (getD (x .depths) v none)) (with-queues (set (x .queues) p q) x))
 unfolding turn turn-of
 turn-is c x p v q e = rw e
+
+-- the counters once a turn is done
+abbrev pub turned-run : Run → Run
+turned-run k = record { turns = k .turns + 1; sent = k .sent; delivered = k .delivered; joined = k .joined; marks = k .marks; broken = k .broken }
+
+pub turned-rep : (c : Case) (x : State) (k : Run) (w : List ℤ) → Rep c x k w → Rep c (counted x) (turned-run k) w
+turned-rep c x k w rep =
+    let q = rep .counted in
+    record {
+      links = rep .links;
+      heads = rep .heads;
+      tails = rep .tails;
+      held = rep .held;
+      lined = rep .lined;
+      counted = record { full = q .full; acts = omega (arith, q .acts); tallied = q .tallied; broke = q .broke; marks = q .marks };
+    }
 
 -- DELIVERIES
 pub some-there : (s : Option ℕ) → ltZ (pos 0) (far s) ≡ false → (o : ℕ) × (s ≡ some o)
@@ -147,23 +156,26 @@ pub delivery-some : (c : Case) (e o : ℕ) (x : State) → getD (x .cells) e non
 unfolding delivery delivery-of
 delivery-some c e o x h = rw h
 
--- the counters once a message is delivered
+-- the counters once a message is delivered, and the state of the model in which that act is counted
 abbrev pub emptied-run : Run → Run
-emptied-run k =
+emptied-run k = record { turns = k .turns; sent = k .sent; delivered = k .delivered + 1; joined = k .joined; marks = k .marks; broken = k .broken }
+
+abbrev pub handed : (e : ℕ) → State → State
+handed e x =
     record {
-      queued = k .queued;
-      acts = k .acts;
-      sent = k .sent;
-      delivered = k .delivered + 1;
-      joined = k .joined;
-      ended = k .ended;
-      broken = k .broken;
-      marks = k .marks;
+      depths = x .depths;
+      parents = x .parents;
+      queues = x .queues;
+      cells = set (x .cells) e none;
+      broken = x .broken;
+      ended-empty = x .ended-empty;
+      count = suc (x .count);
+      tallies = deliver-one (x .tallies);
     }
 
-module _ (c : Case) (x : State) (k : Run) (w : List ℤ) (e o : ℕ) (rep : Rep c x k w) (below : e < length (c .graph .edges)) (there : getD (x .cells) e none ≡ some o) where
-  pub cell-emptied : Rep c (emptied e x) (emptied-run k) (set w (message-at + e) (pos 1))
-  cell-emptied =
+module _ (c : Case) (x : State) (k : Run) (w : List ℤ) (e o : ℕ) where
+  pub cell-emptied : Rep c x k w → e < length (c .graph .edges) → getD (x .cells) e none ≡ some o → Rep c (handed e x) (emptied-run k) (set w (message-at + e) (pos 1))
+  cell-emptied rep below there =
       let q = rep .counted in
       record {
         links = rep .links;
@@ -172,15 +184,21 @@ module _ (c : Case) (x : State) (k : Run) (w : List ℤ) (e o : ℕ) (rep : Rep 
         held = held-cell (rep .held) e none below;
         lined = rep .lined;
         counted = record {
-          queued = q .queued;
           full = deliver-balanced (tallies-in k) (x .cells) e o (omega (arith, rep .held .cells .sized)) there (q .full);
-          acts = q .acts;
+          acts = omega (arith, q .acts);
           tallied = ap deliver-one (q .tallied);
           broke = q .broke;
           marks = q .marks;
-          over = q .over;
         };
       }
+
+  pub offer-tried : Rep c (relax c e o (handed e x)) k w → Rep c (counted (relax c e o (emptied e x))) k w
+  unfolding relax
+  offer-tried rep = go (takes (getD (x .depths) (edge (c .graph) e .to) none) o) rep
+    where
+      go : (b : Bool) → Rep c (cond b (taken c e o (handed e x)) (handed e x)) k w → Rep c (counted (cond b (taken c e o (emptied e x)) (emptied e x))) k w
+      go true r = record { links = r .links; heads = r .heads; tails = r .tails; held = r .held; lined = r .lined; counted = r .counted }
+      go false r = record { links = r .links; heads = r .heads; tails = r .tails; held = r .held; lined = r .lined; counted = r .counted }
 
 -- ACTS
 pub act-turn : (c : Case) (a : ℕ) (x : State) → has-ended x ≡ false → a < c .workers → act c a x ≡ turn c a x
@@ -191,15 +209,27 @@ pub act-delivery : (c : Case) (a p : ℕ) (x : State) → has-ended x ≡ false 
 unfolding act
 act-delivery c a p x h w l = let k : c .workers ≤ a = omega arith in rw (w, h, le-ltb a (c .workers) k)
 
+-- while the floor is not broken an act is the turn or the delivery: after the end both are idle
+module _ (c : Case) (x : State) (ok : Sound c) (m : Moment c x) (whole : x .broken ≡ none) where
+  pub turn-act : (a : ℕ) → a < c .workers → act c a x ≡ turn c a x
+  turn-act a l = go (has-ended x) refl
+    where
+      go : (b : Bool) → has-ended x ≡ b → act c a x ≡ turn c a x
+      go true o = act-over c a x o ∙ sym (turn-none c x a (no-queue (x .queues) (waits-none c x ok m whole o .queues) a))
+      go false o = act-turn c a x o l
+
+  pub delivery-act : (a p : ℕ) → p ≡ c .workers → p ≤ a → act c a x ≡ delivery c (a - p) x
+  delivery-act a p w l = go (has-ended x) refl
+    where
+      go : (b : Bool) → has-ended x ≡ b → act c a x ≡ delivery c (a - p) x
+      go true o = act-over c a x o ∙ sym (delivery-none c (a - p) x (no-cell (x .cells) (waits-none c x ok m whole o .cells) (a - p)))
+      go false o = act-delivery c a p x o w l
+
 -- the depth that a scan reads is not below the floor
 pub depth-low : (c : Case) (x : State) (p v : ℕ) (q : List ℕ) → Sound c → Within c → Moment c x → x .broken ≡ none → getD (x .queues) p [] ≡ v ∷ q → depth-or (getD (x .depths) v none) ≤ most-vertices
 depth-low c x p v q ok l m whole e =
     let s = moment-known c ok x m .paid .shape in
     omega (arith, s .above whole v (depth-or (getD (x .depths) v none)) (head-depth c ok p v q x s e), accepting-few c ok, l .vertices)
-
-pub turn-none : (c : Case) (x : State) (p : ℕ) → getD (x .queues) p [] ≡ [] → turn c p x ≡ x
-unfolding turn turn-of
-turn-none c x p e = rw e
 
 -- A LIST OF ACTS, of which the first i are done
 acted-step : (c : Case) (a : ℕ) (more : List ℕ) (x : State) → acted c (a ∷ more) x ≡ acted c more (act c a x)

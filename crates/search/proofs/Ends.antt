@@ -1,9 +1,9 @@
 -- Ends: from a run that stands in the cells to its answer and its outcome. Assumes nothing.
 use mathlib.Core.Path.{_≡_, refl, sym, ap, subst, _∙_}
-use mathlib.Core.Bool.{true, false, cond}
+use mathlib.Core.Bool.{Bool, true, false, cond}
 use mathlib.Core.List.{List}
 use mathlib.Core.Option.{Option, none, some}
-use Prim.Native.Nat.{ℕ, _-_, _≤_}
+use Prim.Native.Nat.{ℕ, _+_, _-_, _≤_, _<_, _^_}
 use native.Mathlib.Omega.{arith}
 use lib.ListN.{length, getD, replicate}
 use lib.IntN.{ℤ, pos}
@@ -15,14 +15,14 @@ use Rattle.model.specs.Entry.{verdict, zeros, Run-says}
 use Rattle.model.proofs.Fits.{cycle-few, answer-fits}
 use Rattle.search.specs.Cells.{more, cycle-at, cells-end}
 use Rattle.search.specs.Rep.{Rep}
-use Rattle.search.specs.Asks.{over}
+use Rattle.search.specs.Asks.{Over-says}
 use Rattle.search.specs.Show as show
 use Rattle.search.specs.Show.{Lies, Broke, Showable, Shows, Lasso-there, Written}
 use Rattle.search.specs.Writing.{Edges-at, Distances-at, Lasso-asks, Lasso-says, Empty-says, Answers}
 use Rattle.search.specs.Finish.{Gone, Lasso-done, Answer-done, Finish-says, verdict-of}
 use Rattle.search.specs.declared.run.Run.{Run}
 use Rattle.model.proofs.Findings.{Known, moment-known, stem-few}
-use Rattle.search.proofs.Acts.{over-is}
+use Rattle.search.proofs.Acts.{broken-none, count-small}
 use Rattle.search.proofs.Cycles.{run-broke, run-real}
 
 -- whether the floor is broken, by the counter
@@ -30,16 +30,9 @@ more-some : (o : Option ℕ) (k : ℕ) → k ≡ more o → (k ≡ 0 → ⊥) �
 more-some none k e n = absurd (n e)
 more-some (some b) k e n = (b, refl, omega arith)
 
-more-none : (o : Option ℕ) (k : ℕ) → k ≡ more o → k ≡ 0 → o ≡ none
-more-none none k e z = refl
-more-none (some b) k e z = absurd (omega arith)
-
 module _ {c : Case} {x : State} {k : Run} {w : List ℤ} (r : Rep c x k w) where
   pub broken-some : (k .broken ≡ 0 → ⊥) → (b : ℕ) × (x .broken ≡ some b) × (k .broken - 1 ≡ b)
   broken-some n = more-some (x .broken) (k .broken) (r .counted .broke) n
-
-  pub broken-none : k .broken ≡ 0 → x .broken ≡ none
-  broken-none z = more-none (x .broken) (k .broken) (r .counted .broke) z
 
 module _ {c : Case} {x : State} {k : Run} {n s : ℕ} {w : List ℤ} {o : List ℕ} (g : Gone c x k n s w o) where
   known : Known c x
@@ -114,14 +107,15 @@ module _ {c : Case} {x : State} {k : Run} {n s : ℕ} {w : List ℤ} {o : List �
   unfolding zeros
   zeros-kept u v e l = e ∙ ap (λ (j : ℕ). replicate j (pos 0)) l
 
-  pub cut-short : {v : List ℤ} → over k ≡ false → v ≡ zeros w → Run-says 0 (has-ended x) c x (record { refusal = 10; verdict = 0; acts = k .acts; written = 0; sent = k .sent; delivered = k .delivered; joined = k .joined }) o o w v
+  pub cut-short : {v : List ℤ} → has-ended x ≡ false → v ≡ zeros w →
+      Run-says 0 (has-ended x) c x (record { refusal = 10; verdict = 0; acts = k .turns + k .delivered; written = 0; sent = k .sent; delivered = k .delivered; joined = k .joined }) o o w v
   unfolding Run-says
-  cut-short e z = rw (over-is c x k w (g .rep) ∙ e) (record { refusal = refl; verdict = refl; acts = g .rep .counted .acts; written = refl; tallies = g .rep .counted .tallied; output = refl; work = z })
+  cut-short e z = rw e (record { refusal = refl; verdict = refl; acts = g .rep .counted .acts; written = refl; tallies = g .rep .counted .tallied; output = refl; work = z })
 
-  pub finished : {r : ℕ} (u : List ℤ) {v : List ℤ} {z : List ℕ} → over k ≡ true → Answers (answer (c .graph) x) r o z → v ≡ zeros u → length u ≡ length w →
-      Run-says 0 (has-ended x) c x (record { refusal = 0; verdict = verdict-of k; acts = k .acts; written = r; sent = k .sent; delivered = k .delivered; joined = k .joined }) o z w v
+  pub finished : {r : ℕ} (u : List ℤ) {v : List ℤ} {z : List ℕ} → has-ended x ≡ true → Answers (answer (c .graph) x) r o z → v ≡ zeros u → length u ≡ length w →
+      Run-says 0 (has-ended x) c x (record { refusal = 0; verdict = verdict-of k; acts = k .turns + k .delivered; written = r; sent = k .sent; delivered = k .delivered; joined = k .joined }) o z w v
   unfolding Run-says
-  finished u e a z l = rw (over-is c x k w (g .rep) ∙ e) (record { refusal = refl; verdict = verdict-is; acts = g .rep .counted .acts; written = a .written; tallies = g .rep .counted .tallied; output = a .output; work = zeros-kept u _ z l })
+  finished u e a z l = rw e (record { refusal = refl; verdict = verdict-is; acts = g .rep .counted .acts; written = a .written; tallies = g .rep .counted .tallied; output = a .output; work = zeros-kept u _ z l })
 
 -- THE FUNCTIONS of src/finish.rt: the lasso is shown, then written
 pub above-none : (k : ℕ) → (k ≡ 0 → ⊥) → 1 ≤ k
@@ -161,12 +155,22 @@ pub distances-at : {c : Case} {x : State} {k : Run} {n s : ℕ} {w : List ℤ} {
 distances-at g = let l = g .rep .held .laid in record { few = omega (arith, g .vertices, l .within .vertices); inside = omega (arith, l .long, g .vertices, l .within .vertices) }
 
 -- then the outcome
-pub done-written : {c : Case} {x : State} {k : Run} {n s r : ℕ} {w : List ℤ} {o z : List ℕ} → Gone c x k n s w o → over k ≡ true → Answer-done k n s r w o z → r ≤ least-output
-done-written {c} {x} {k} {w = w} g e a = omega (arith, a .answers c x g (over-is c x k w (g .rep) ∙ e) .written, fits-least g)
+module _ (k : Run) (p n s : ℕ) (w : List ℤ) (o : List ℕ) (over : Bool) (says : Over-says p k over w) where
+  ended-is : {c : Case} {x : State} → Gone c x k n s w o → p ≡ c .workers → (b : Bool) → over ≡ b → has-ended x ≡ b
+  unfolding Over-says
+  ended-is {c} {x} g q b e = sym (says c x (g .rep) (g .moment) q) ∙ e
 
-pub finish-cut : (k : Run) {n s : ℕ} {w v : List ℤ} {o : List ℕ} → over k ≡ false → v ≡ zeros w → Finish-says k n s (record { refusal = 10; verdict = 0; acts = k .acts; written = 0; sent = k .sent; delivered = k .delivered; joined = k .joined }) w v o o
-finish-cut k e z = record { says = λ c x g. cut-short g e z }
+  pub done-written : {c : Case} {x : State} {r : ℕ} {z : List ℕ} → Gone c x k n s w o → p ≡ c .workers → over ≡ true → Answer-done k n s r w o z → r ≤ least-output
+  done-written {c} {x} g q e a = omega (arith, a .answers c x g (ended-is g q true e) .written, fits-least g)
 
-pub finish-done : {k : Run} {n s r : ℕ} {w : List ℤ} (u : List ℤ) {v : List ℤ} {o z : List ℕ} {t : ℕ} → over k ≡ true → Answer-done k n s r w o z → v ≡ zeros u → length u ≡ length w → t ≡ verdict-of k →
-    Finish-says k n s (record { refusal = 0; verdict = t; acts = k .acts; written = r; sent = k .sent; delivered = k .delivered; joined = k .joined }) w v o z
-finish-done {k} {w = w} u e a z l q = record { says = λ c x g. rw q (finished g u e (a .answers c x g (over-is c x k w (g .rep) ∙ e)) z l) }
+  pub finish-cut : {v : List ℤ} {acts : ℕ} → over ≡ false → v ≡ zeros w → acts ≡ k .turns + k .delivered →
+      Finish-says k p n s (record { refusal = 10; verdict = 0; acts = acts; written = 0; sent = k .sent; delivered = k .delivered; joined = k .joined }) w v o o
+  finish-cut e z a = record { says = λ c x g q. rw a (cut-short g (ended-is g q false e) z) }
+
+  pub finish-done : {r : ℕ} (u : List ℤ) {v : List ℤ} {z : List ℕ} {t acts : ℕ} → over ≡ true → Answer-done k n s r w o z → v ≡ zeros u → length u ≡ length w → t ≡ verdict-of k → acts ≡ k .turns + k .delivered →
+      Finish-says k p n s (record { refusal = 0; verdict = t; acts = acts; written = r; sent = k .sent; delivered = k .delivered; joined = k .joined }) w v o z
+  finish-done u e a z l t i = record { says = λ c x g q. let h = ended-is g q true e in rw (t, i) (finished g u h (a .answers c x g h) z l) }
+
+-- the acts counted fit 64 bits
+pub acts-small : {c : Case} {x : State} {k : Run} {n s : ℕ} {w : List ℤ} {o : List ℕ} → Gone c x k n s w o → k .turns + k .delivered < 2 ^ 64
+acts-small {c} {x} g = let l = g .rep .held .laid in omega (arith, g .rep .counted .acts, count-small c x (l .sound) (l .within) (g .moment))

@@ -31,7 +31,7 @@ use Rattle.casefile.proofs.Tables.{held}
 use Rattle.search.specs.Rep.{Rep}
 use Rattle.search.specs.Asks.{Fresh-asks, Fresh-says, List-asks, List-done, By-rounds-asks, By-rounds-says}
 use Rattle.search.specs.Loading.{Load-asks, Load-says}
-use Rattle.search.specs.Finish.{Gone, Answer-asks, Finish-says}
+use Rattle.search.specs.Finish.{Gone, Finish-asks, Finish-says}
 use Rattle.search.specs.Entries.{refused-by, load-refusal, Case-laid, Loads}
 use Rattle.search.specs.declared.Loaded.{Loaded}
 use Rattle.search.specs.declared.Loaded.the-variants.{Refused as Not-loaded, Laid as Loaded-case}
@@ -244,11 +244,11 @@ module _ (s xs : List ℕ) (c : Case) (marks : ℕ) (w w₁ : List ℤ) (l : Cas
           listed : by-rounds (case-in s) ≡ by-list (case-in s) acts
           listed = runs-kept (case-in s) ok .rounds-listed (most-acts (case-in s)) (omega arith)
 
-      pub list-finish : List-done (c .workers) xs k₂ k₃ w₂ w₃ → Answer-asks k₃ (c .vertices) (c .source) w₃ o
-      list-finish d = record { case = case-in s; state = by-list (case-in s) xs; gone = list-gone d }
+      pub list-finish : List-done (c .workers) xs k₂ k₃ w₂ w₃ → Finish-asks k₃ (c .workers) (c .vertices) (c .source) w₃ o
+      list-finish d = record { answer = record { case = case-in s; state = by-list (case-in s) xs; gone = list-gone d }; workers = workers }
 
-      pub rounds-finish : By-rounds-says (c .workers) (c .vertices) (c .edges) k₂ k₃ w₂ w₃ → Answer-asks k₃ (c .vertices) (c .source) w₃ o
-      rounds-finish d = record { case = case-in s; state = by-rounds (case-in s); gone = rounds-gone d }
+      pub rounds-finish : By-rounds-says (c .workers) (c .vertices) (c .edges) k₂ k₃ w₂ w₃ → Finish-asks k₃ (c .workers) (c .vertices) (c .source) w₃ o
+      rounds-finish d = record { answer = record { case = case-in s; state = by-rounds (case-in s); gone = rounds-gone d }; workers = workers }
 
       -- the cells' length alone counts in what is said of them
       as-lent : length w₃ ≡ length w → (b : Bool) (x : State) (r : Outcome) (z : List ℕ) (v : List ℤ) → Run-says 0 b (case-in s) x r o z w₃ v → Run-says 0 b (case-in s) x r o z w v
@@ -262,12 +262,12 @@ module _ (s xs : List ℕ) (c : Case) (marks : ℕ) (w w₁ : List ℤ) (l : Cas
       in-range : acts-refusal (case-in s) xs ≡ 0
       in-range = unfold acts-refusal in (rw (rw (workers, edges) at (l .in-range)) (unfold refuse in refl))
 
-      pub list-says : List-done (c .workers) xs k₂ k₃ w₂ w₃ → {r : Outcome} {z : List ℕ} {v : List ℤ} → Finish-says k₃ (c .vertices) (c .source) r w₃ v o z → length w₃ ≡ length w → List-says s xs r o z w v
+      pub list-says : List-done (c .workers) xs k₂ k₃ w₂ w₃ → {r : Outcome} {z : List ℕ} {v : List ℤ} → Finish-says k₃ (c .workers) (c .vertices) (c .source) r w₃ v o z → length w₃ ≡ length w → List-says s xs r o z w v
       unfolding List-says list-refusal
       list-says d {r} {z} {v} f long =
-          rw (buffers-long (length o) (length w) enough, right, in-range) (unfold first-of in (as-lent long (has-ended (by-list (case-in s) xs)) (by-list (case-in s) xs) r z v (f .says (case-in s) (by-list (case-in s) xs) (list-gone d))))
+          rw (buffers-long (length o) (length w) enough, right, in-range) (unfold first-of in (as-lent long (has-ended (by-list (case-in s) xs)) (by-list (case-in s) xs) r z v (f .says (case-in s) (by-list (case-in s) xs) (list-gone d) workers)))
 
-      pub rounds-say : By-rounds-says (c .workers) (c .vertices) (c .edges) k₂ k₃ w₂ w₃ → {r : Outcome} {z : List ℕ} {v : List ℤ} → Finish-says k₃ (c .vertices) (c .source) r w₃ v o z → length w₃ ≡ length w → Rounds-say s r o z w v
+      pub rounds-say : By-rounds-says (c .workers) (c .vertices) (c .edges) k₂ k₃ w₂ w₃ → {r : Outcome} {z : List ℕ} {v : List ℤ} → Finish-says k₃ (c .workers) (c .vertices) (c .source) r w₃ v o z → length w₃ ≡ length w → Rounds-say s r o z w v
       unfolding Rounds-say rounds-refusal
       rounds-say d {r} {z} {v} f long =
-          rw (buffers-long (length o) (length w) enough, right) (unfold first-of in (as-lent long (has-ended (by-rounds (case-in s))) (by-rounds (case-in s)) r z v (f .says (case-in s) (by-rounds (case-in s)) (rounds-gone d))))
+          rw (buffers-long (length o) (length w) enough, right) (unfold first-of in (as-lent long (has-ended (by-rounds (case-in s))) (by-rounds (case-in s)) r z v (f .says (case-in s) (by-rounds (case-in s)) (rounds-gone d) workers)))

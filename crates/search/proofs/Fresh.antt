@@ -13,7 +13,7 @@ use Rattle.model.specs.Run.{State, one-if, member, enqueue, fresh, with-queues}
 use Rattle.model.proofs.Tools.{sum-of-none, one-none, getD-replicate-same}
 use Rattle.search.specs.declared.run.Run.{Run}
 use Rattle.search.specs.Cells.{Region, Filled, far, by-more, distance-at, parent-at, link-at, message-at, head-at, tail-at}
-use Rattle.search.specs.Rep.{Laid, Table, Lined, Rep, busy}
+use Rattle.search.specs.Rep.{Laid, Table, Lined, Rep}
 use Rattle.search.specs.Asks.{blank, blank-run}
 use Rattle.search.proofs.Stores.{held-depth}
 
@@ -31,10 +31,6 @@ table-blank code d a base n w f =
 no-member : (v : ℕ) → member v [] ≡ false
 unfolding member
 no-member v = refl
-
-busy-none : busy [] ≡ 0
-unfolding busy
-busy-none = refl
 
 lined-blank : (c : Case) → Lined c (replicate (c .workers) []) (replicate (c .graph .vertices) 0) (replicate (c .workers) 1) (replicate (c .workers) 0)
 lined-blank c =
@@ -98,13 +94,11 @@ module _ (c : Case) (w w1 w2 w3 w4 w5 w6 : List ℤ) (laid : Laid c w) (f1 : Fil
         };
         lined = lined-blank c;
         counted = record {
-          queued = sym (sum-of-none busy [] (c .workers) busy-none);
           full = omega (arith, sum-of-none one-if none (length (c .graph .edges)) one-none);
           acts = refl;
           tallied = refl;
           broke = refl;
           marks = refl;
-          over = refl;
         };
       }
 

@@ -1,21 +1,19 @@
--- Offers compared as signed numbers; busy queues counted. Assumes nothing.
+-- Offers compared as signed numbers. Assumes nothing.
 use mathlib.Core.Path.{_≡_, refl, _∙_}
 use mathlib.Core.Bool.{Bool, true, false, not, cond}
-use mathlib.Core.List.{List, [], _∷_, _++_}
+use mathlib.Core.List.{List}
 use mathlib.Core.Option.{Option, none, some}
-use Prim.Native.Nat.{ℕ, zero, suc, _≤_}
-use native.Mathlib.Omega.{arith}
+use Prim.Native.Nat.{ℕ, zero, suc}
 use lib.Dec.{ltb}
-use lib.ListN.{length, set}
+use lib.ListN.{set}
 use lib.IntN.{ℤ, pos, negℤ}
 use lib.Signed.{ltZ}
 use mir.Syntax.{w32}
 use mir.Val.{SFits, toZ, ofZ}
 use mir.Facts.{toZ-ofZ}
-use Rattle.model.specs.Run.{is-some, takes, lower, sum-of}
+use Rattle.model.specs.Run.{is-some, takes, lower}
 use Rattle.model.proofs.Signs.{deeper-lt}
 use Rattle.search.specs.Cells.{far}
-use Rattle.search.specs.Rep.{busy}
 
 below-none : (a : ℕ) → ltZ (negℤ (pos a)) (pos 1) ≡ true
 below-none zero = refl
@@ -50,21 +48,6 @@ pub none-is : (o : Option ℕ) → ltZ (pos 0) (far o) ≡ true → o ≡ none
 none-is none h = refl
 none-is (some zero) h = cc
 none-is (some (suc k)) h = cc
-
-pub sum-of-le : {A : Type 0} (f : A → ℕ) → ((a : A) → f a ≤ 1) → (l : List A) → sum-of f l ≤ length l
-unfolding sum-of
-sum-of-le f h [] = omega arith
-sum-of-le f h (o ∷ l) = omega (arith, h o, sum-of-le f h l)
-
-pub busy-le : (q : List ℕ) → busy q ≤ 1
-unfolding busy
-busy-le [] = omega arith
-busy-le (v ∷ q) = omega arith
-
-pub busy-snoc : (q : List ℕ) (v : ℕ) → busy (q ++ (v ∷ [])) ≡ 1
-unfolding busy
-busy-snoc [] v = refl
-busy-snoc (x ∷ q) v = refl
 
 -- a signed local holds bits: what a test and a store of it say, said of the numbers
 pub taken-test : (b : Bool) (d old : ℤ) (o : ℕ) (s : Option ℕ) → SFits w32 d → SFits w32 old → b ≡ ltZ (toZ w32 (ofZ w32 d)) (toZ w32 (ofZ w32 old))

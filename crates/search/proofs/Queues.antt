@@ -10,11 +10,11 @@ use borrow.Author.Tests.{eqb-true, eqb-false, eq-eqb, ne-eqb}
 use lib.ListN.{length, getD, set, length-set}
 use lib.Seq.{getD-set-same, getD-set-other}
 use Rattle.model.specs.Case.{Case, owner}
-use Rattle.model.specs.Run.{member}
+use Rattle.model.specs.Run.{member, no-vertex}
 use Rattle.text.proofs.Tests.{or-false, or-cases, or-right}
-use Rattle.model.proofs.Tools.{member-first, member-later}
+use Rattle.model.proofs.Tools.{member-first, member-later, getD-out, no-queue, no-queues}
 use Rattle.search.specs.Rep.{link, Linked, Ends, Lined}
-use Rattle.search.proofs.Regions.{same-or}
+use Rattle.search.proofs.Regions.{same-or, below-or}
 
 pub true-or : (b : Bool) → (b ≡ true) ⊎ (b ≡ false)
 true-or true = inl refl
@@ -106,6 +106,21 @@ elsewhere c qs N H T v p r L o n = go (true-or (member v (getD qs r [])))
 pub link-one : (q : List ℕ) → link q ≡ 1 → q ≡ []
 link-one [] h = refl
 link-one (v ∷ q) h = let z : _≡_ {A = ℕ} 0 1 = omega arith in cc
+
+-- whether all queues are empty
+pub some-vertex : (qs : List (List ℕ)) (p h : ℕ) → link (getD qs p []) ≡ h → (h ≡ 1 → ⊥) → false ≡ no-vertex qs
+some-vertex qs p h e n = go (true-or (no-vertex qs))
+  where
+    go : (no-vertex qs ≡ true) ⊎ (no-vertex qs ≡ false) → false ≡ no-vertex qs
+    go (inl t) = absurd (n (sym e ∙ ap link (no-queue qs t p)))
+    go (inr f) = sym f
+
+pub all-empty : (qs : List (List ℕ)) (p : ℕ) → length qs ≤ p → ((j : ℕ) → j < p → getD qs j [] ≡ []) → no-vertex qs ≡ true
+all-empty qs p l f = no-queues qs (λ j. go j (below-or j p))
+  where
+    go : (j : ℕ) → (j < p) ⊎ (p ≤ j) → getD qs j [] ≡ []
+    go j (inl b) = f j b
+    go j (inr b) = getD-out qs j [] (omega arith)
 
 no-member : (v : ℕ) → member v [] ≡ false
 unfolding member

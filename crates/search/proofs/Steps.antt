@@ -14,32 +14,23 @@ use lib.IntN.{ℤ, pos, negℤ, _+ℤ_, negℤ-+ℤ, pos-+ℤ-pos}
 use lib.Signed.{mag}
 use Rattle.model.specs.Graph.{edge, edge-depth, edge-length, mark, accepting-count}
 use Rattle.model.specs.Case.{Case, owner, most-vertices, most-workers}
-use Rattle.model.specs.Run.{Tallies, State, is-some, ended-lasso, with-queues, takes, member, enqueue, below-floor, relax, lower, send, scan-edge, sum-of, put-one}
-use Rattle.model.proofs.Tools.{sum-of-set, member-first}
+use Rattle.model.specs.Run.{State, is-some, ended-lasso, with-queues, takes, member, enqueue, below-floor, relax, lower, send, scan-edge, put-one}
+use Rattle.model.proofs.Tools.{member-first}
 use Rattle.model.proofs.Tallied.{put-balanced}
 use Rattle.search.specs.declared.run.Run.{Run}
 use Rattle.search.specs.Cells.{Below, far, more, accepting-at, owner-at, to-at, distance-at, parent-at, link-at, message-at, head-at, tail-at}
-use Rattle.search.specs.Rep.{Table, Laid, Counted, Rep, tallies-in, link, busy}
+use Rattle.search.specs.Rep.{Table, Laid, Rep, tallies-in, link}
 use Rattle.search.specs.Asks.{Length-is}
 use Rattle.search.proofs.Stores.{there, held-depth, held-parent, held-link, held-cell, held-head, held-tail}
-use Rattle.search.proofs.Queues.{join-first, join-next, leave, chain-marked, true-or, link-one, link-low, links-low, last-below}
-use Rattle.search.proofs.Numbers.{busy-snoc}
+use Rattle.search.proofs.Queues.{join-first, join-next, leave, chain-marked, true-or, link-low, links-low, last-below}
 
 -- a number that was loaded is the table's
 pub cell-is : {base size : ℕ} {l : List ℕ} {w : List ℤ} → Table pos 0 base size l w → (i r : ℕ) → i < size → getD w (base + i) (pos 0) ≡ pos r → getD l i 0 ≡ r
 cell-is {base} {size} {l} t i r h e = let z : pos (getD l i 0) ≡ pos r = sym (there t i h) ∙ e in cc
 
 -- one counter changed
-abbrev pub with-queued : (queued : ℕ) → Run → Run
-with-queued n k =
-    record { queued = n; acts = k .acts; sent = k .sent; delivered = k .delivered; joined = k .joined; ended = k .ended; broken = k .broken; marks = k .marks }
-
-requeued : {A n m : ℕ} {qs ps : List (List ℕ)} {os : List (Option ℕ)} {b : Option ℕ} {e : Bool} {t : Tallies} {k : Run} → Counted A qs os b e n t k → m ≡ sum-of busy ps → Counted A ps os b e n t (with-queued m k)
-requeued q h = record { queued = h; full = q .full; acts = q .acts; tallied = q .tallied; broke = q .broke; marks = q .marks; over = q .over }
-
 abbrev pub with-broken : (broken : ℕ) → Run → Run
-with-broken n k =
-    record { queued = k .queued; acts = k .acts; sent = k .sent; delivered = k .delivered; joined = k .joined; ended = k .ended; broken = n; marks = k .marks }
+with-broken n k = record { turns = k .turns; sent = k .sent; delivered = k .delivered; joined = k .joined; marks = k .marks; broken = n }
 
 -- THE CASE
 module _ (c : Case) (w : List ℤ) (v : ℕ) (laid : Laid c w) (below : v < c .graph .vertices) where
@@ -63,19 +54,6 @@ module _ (c : Case) (w : List ℤ) (v : ℕ) (laid : Laid c w) (below : v < c .g
   mark-is m e = let z : pos (mark (c .graph) v) ≡ pos m = sym (laid .mark-cells .each v (omega (arith, laid .sound .marks))) ∙ e in cc
 
 -- PUSH
-none-busy : busy [] ≡ 0
-unfolding busy
-none-busy = refl
-
-busy-head : (v : ℕ) (q : List ℕ) → busy (v ∷ q) ≡ 1
-unfolding busy
-busy-head v q = refl
-
-some-busy : (q : List ℕ) → (q ≡ [] → ⊥) → busy q ≡ 1
-unfolding busy
-some-busy [] n = absurd (n refl)
-some-busy (v ∷ q) n = refl
-
 enqueue-kept : (p v : ℕ) (qs : List (List ℕ)) → member v (getD qs p []) ≡ true → enqueue p v qs ≡ qs
 unfolding enqueue
 enqueue-kept p v qs h = rw h
@@ -133,14 +111,9 @@ module _ (c : Case) (x : State) (k : Run) (w : List ℤ) (v : ℕ) (rep : Rep c 
 
     -- the queue is empty
     pub push-first : getD w (head-at + p) (pos 0) ≡ pos 1
-        → Rep c (with-queues (enqueue (owner c v) v (x .queues)) x) (with-queued (k .queued + 1) k)
-        (set (set (set w (link-at + v) (pos 1)) (head-at + p) (pos (v + 2))) (tail-at + p) (pos v))
+        → Rep c (with-queues (enqueue (owner c v) v (x .queues)) x) k (set (set (set w (link-at + v) (pos 1)) (head-at + p) (pos (v + 2))) (tail-at + p) (pos v))
     push-first head =
         let hp : getD (rep .heads) p 0 ≡ 1 = cell-is (rep .held .heads) p 1 worker-below head in
-        let e : getD (x .queues) p [] ≡ [] = link-one (getD (x .queues) p []) (sym (rep .lined .heads p worker-below) ∙ hp) in
-        let pq : p < length (x .queues) = omega (arith, rep .lined .sized, worker-below) in
-        let z : busy (getD (x .queues) p []) ≡ 0 = rw e none-busy in
-        let q = rep .counted in
         rw joined-is
         (record {
           links = set (rep .links) v 1;
@@ -148,7 +121,7 @@ module _ (c : Case) (x : State) (k : Run) (w : List ℤ) (v : ℕ) (rep : Rep c 
           tails = set (rep .tails) p v;
           held = held-tail (held-head (held-link (rep .held) v 1 below) p (v + 2) worker-below) p v worker-below;
           lined = join-first c (x .queues) (rep .links) (rep .heads) (rep .tails) v p (rep .lined) owned below worker-below (rep .held .links .sized) (rep .held .heads .sized) (rep .held .tails .sized) free-is hp;
-          counted = requeued q (omega (arith, sum-of-set busy (x .queues) p (getD (x .queues) p [] ++ (v ∷ [])) [] pq, busy-snoc (getD (x .queues) p []) v, q .queued));
+          counted = rep .counted;
         })
 
     -- behind the last
@@ -157,10 +130,7 @@ module _ (c : Case) (x : State) (k : Run) (w : List ℤ) (v : ℕ) (rep : Rep c 
     push-next h t head n tail =
         let hp : getD (rep .heads) p 0 ≡ h = cell-is (rep .held .heads) p h worker-below head in
         let tp : getD (rep .tails) p 0 ≡ t = cell-is (rep .held .tails) p t worker-below tail in
-        let pq : p < length (x .queues) = omega (arith, rep .lined .sized, worker-below) in
-        let z : busy (getD (x .queues) p []) ≡ 1 = some-busy (getD (x .queues) p []) (λ e. n (sym hp ∙ rep .lined .heads p worker-below ∙ ap link e)) in
         let tb : t < c .graph .vertices = rw tp at (last-below c (x .queues) (rep .links) (rep .heads) (rep .tails) p (rep .lined) worker-below (λ e. n (sym hp ∙ e))) in
-        let q = rep .counted in
         rw joined-is
         (record {
           links = set (set (rep .links) t (v + 2)) v 1;
@@ -168,7 +138,7 @@ module _ (c : Case) (x : State) (k : Run) (w : List ℤ) (v : ℕ) (rep : Rep c 
           tails = set (rep .tails) p v;
           held = held-tail (held-link (held-link (rep .held) t (v + 2) tb) v 1 below) p v worker-below;
           lined = join-next c (x .queues) (rep .links) (rep .heads) (rep .tails) v p (rep .lined) owned below worker-below (rep .held .links .sized) (rep .held .heads .sized) (rep .held .tails .sized) free-is t (sym tp) (λ e. n (sym hp ∙ e));
-          counted = requeued q (omega (arith, sum-of-set busy (x .queues) p (getD (x .queues) p [] ++ (v ∷ [])) [] pq, busy-snoc (getD (x .queues) p []) v, q .queued));
+          counted = rep .counted;
         })
 
     -- the last of a queue that is not empty
@@ -182,31 +152,15 @@ module _ (c : Case) (x : State) (k : Run) (w : List ℤ) (v : ℕ) (rep : Rep c 
         }
 
 -- POP
-pub busy-rest : (q : List ℕ) → (link q ≡ 1 → busy q ≡ 0) × ((link q ≡ 1 → ⊥) → busy q ≡ 1)
-unfolding busy
-busy-rest [] = (λ h. refl, λ n. absurd (n refl))
-busy-rest (u ∷ q) = (λ h. absurd (omega arith), λ n. refl)
-
 module _ (c : Case) (x : State) (k : Run) (w : List ℤ) (p v : ℕ) (q : List ℕ) (rep : Rep c x k w) (pw : p < c .workers) (head : getD (x .queues) p [] ≡ v ∷ q) where
   pub head-below : v < c .graph .vertices
   head-below = rep .lined .mine p v (rw head (member-first v q)) .0
 
-  pub next-is : (r : ℕ) → getD w (link-at + v) (pos 0) ≡ pos r → r ≡ link q
+  next-is : (r : ℕ) → getD w (link-at + v) (pos 0) ≡ pos r → r ≡ link q
   next-is r e = sym (cell-is (rep .held .links) v r head-below e) ∙ (rw head at (rep .lined .chains p)) .0
 
-  pub some-queued : 1 ≤ k .queued
-  some-queued =
-      let pq : p < length (x .queues) = omega (arith, rep .lined .sized) in
-      let z : busy (getD (x .queues) p []) ≡ 1 = rw head (busy-head v q) in
-      omega (arith, sum-of-set busy (x .queues) p [] [] pq, none-busy, rep .counted .queued)
-
-  pub pop-step : (n r : ℕ) → getD w (link-at + v) (pos 0) ≡ pos r → n + 1 ≡ k .queued + busy q
-      → Rep c (with-queues (set (x .queues) p q) x) (with-queued n k)
-      (set (set w (head-at + p) (pos r)) (link-at + v) (pos 0))
-  pop-step n r e kq =
-      let pq : p < length (x .queues) = omega (arith, rep .lined .sized) in
-      let z : busy (getD (x .queues) p []) ≡ 1 = rw head (busy-head v q) in
-      let s = rep .counted in
+  pub pop-step : (r : ℕ) → getD w (link-at + v) (pos 0) ≡ pos r → Rep c (with-queues (set (x .queues) p q) x) k (set (set w (head-at + p) (pos r)) (link-at + v) (pos 0))
+  pop-step r e =
       rw (next-is r e)
       (record {
         links = set (rep .links) v 0;
@@ -214,7 +168,7 @@ module _ (c : Case) (x : State) (k : Run) (w : List ℤ) (p v : ℕ) (q : List �
         tails = rep .tails;
         held = held-link (held-head (rep .held) p (link q) pw) v 0 head-below;
         lined = leave c (x .queues) (rep .links) (rep .heads) (rep .tails) v p q (rep .lined) head pw (rep .held .links .sized) (rep .held .heads .sized);
-        counted = requeued s (omega (arith, sum-of-set busy (x .queues) p q [] pq, s .queued));
+        counted = rep .counted;
       })
 
 -- SEND
@@ -222,14 +176,12 @@ module _ (c : Case) (x : State) (k : Run) (w : List ℤ) (p v : ℕ) (q : List �
 abbrev pub sent-run : (joins : Bool) → Run → Run
 sent-run b k =
     record {
-      queued = k .queued;
-      acts = k .acts;
+      turns = k .turns;
       sent = k .sent + 1;
       delivered = k .delivered;
       joined = cond b (k .joined + 1) (k .joined);
-      ended = k .ended;
-      broken = k .broken;
       marks = k .marks;
+      broken = k .broken;
     }
 
 pub sent-rep : (c : Case) (x : State) (k : Run) (w : List ℤ) (e o : ℕ) (b : Bool) → Rep c x k w → e < length (c .graph .edges) → is-some (getD (x .cells) e none) ≡ b
@@ -243,13 +195,11 @@ sent-rep c x k w e o b rep below j =
       held = held-cell (rep .held) e (some (lower (getD (x .cells) e none) o)) below;
       lined = rep .lined;
       counted = record {
-        queued = q .queued;
         full = rw (← j) (put-balanced (tallies-in k) (x .cells) e (lower (getD (x .cells) e none) o) (omega (arith, rep .held .cells .sized)) (q .full));
         acts = q .acts;
         tallied = rw j (ap (put-one b) (q .tallied));
         broke = q .broke;
         marks = q .marks;
-        over = q .over;
       };
     }
 
@@ -309,7 +259,7 @@ relax-taken c x k w e v o b t h rep bt n br =
       tails = rep .tails;
       held = rep .held;
       lined = rep .lined;
-      counted = record { queued = q .queued; full = q .full; acts = q .acts; tallied = q .tallied; broke = br; marks = q .marks; over = q .over };
+      counted = record { full = q .full; acts = q .acts; tallied = q .tallied; broke = br; marks = q .marks };
     })
 
 -- SCAN

@@ -13,12 +13,12 @@ use lib.Seq.{getD-set-same, getD-set-other, getD-take, length-take-le}
 use lib.IntN.{ℤ}
 use Rattle.model.specs.Graph.{Graph, edge, edge-depth, accepting-count}
 use Rattle.model.specs.Case.{Case, owner, most-acts, Sound}
-use Rattle.model.specs.Run.{State, has-ended, fresh, with-queues, emptied, scan, no-message, depth-or, delivery, act, acted, range, round-acts, rounds, by-rounds, Moment}
+use Rattle.model.specs.Run.{State, has-ended, fresh, with-queues, emptied, scan, no-vertex, no-message, depth-or, delivery, act, acted, range, round-acts, rounds, by-rounds, Moment}
 use Rattle.model.proofs.Tools.{member-first, some-not-none, getD-replicate-same, no-cell, no-cells}
 use Rattle.model.proofs.Steps.{scan-keeps}
 use Rattle.model.proofs.Few.{relax-cells}
 use Rattle.model.proofs.Findings.{moment-known}
-use Rattle.model.proofs.ActRules.{moment-act, moment-acted}
+use Rattle.model.proofs.ActRules.{moment-act, moment-acted, rules-kept}
 use Rattle.model.proofs.Rounds.{act-over, acted-over}
 use Rattle.model.proofs.RoundCells.{round-keeps}
 use Rattle.search.specs.declared.run.Run.{Run}
@@ -26,7 +26,8 @@ use Rattle.search.specs.Rep.{Firsts, Rep, link}
 use Rattle.search.specs.Asks.{none-waits, Inserted, Among, Listed, Only, Turns-leave}
 use Rattle.search.proofs.Regions.{same-or, below-or}
 use Rattle.search.proofs.Inserts.{among-new, among-old, listed-more, each-more}
-use Rattle.search.proofs.Acts.{none-full, link-none, link-split, link-two, turn-none, turn-is, delivery-none, delivery-some, act-turn, act-delivery}
+use Rattle.search.proofs.Queues.{link-one, all-empty}
+use Rattle.search.proofs.Acts.{none-full, broken-none, waits-none, link-split, link-two, turn-none, turn-is, delivery-none, delivery-some, act-turn, act-delivery, delivery-act}
 
 -- ACTS BY NUMBER
 step-range : (c : Case) (k i : ℕ) (x : State) → acted c (range (suc k) i) x ≡ acted c (range k (suc i)) (act c i x)
@@ -107,8 +108,8 @@ next-delivery : (c : Case) (k e : ℕ) (y : State) → acted c (range (suc k) (c
 next-delivery c k e y = let r : suc (c .workers + e) ≡ c .workers + suc e = omega arith in step-range c k (c .workers + e) y ∙ rw r
 
 -- a delivery, by its act's number
-pub act-rep : (c : Case) (e p : ℕ) (y : State) (k : Run) (w : List ℤ) → p ≡ c .workers → has-ended y ≡ false → Rep c (delivery c e y) k w → Rep c (act c (p + e) y) k w
-act-rep c e p y k w q o rep = subst (λ (z : State). Rep c z k w) (sym (act-delivery c (p + e) p y o q (omega arith) ∙ rw (minus p e))) rep
+pub act-rep : (c : Case) (e p : ℕ) (y : State) (k : Run) (w : List ℤ) → p ≡ c .workers → Moment c y → y .broken ≡ none → Rep c (delivery c e y) k w → Rep c (act c (p + e) y) k w
+act-rep c e p y k w q m b rep = subst (λ (z : State). Rep c z k w) (sym (delivery-act c y (rep .held .laid .sound) m b (p + e) p q (omega arith) ∙ rw (minus p e))) rep
 
 -- WHAT A DELIVERY LEAVES
 module _ (c : Case) (e : ℕ) (y : State) (l : e < length (y .cells)) where
@@ -211,6 +212,7 @@ pub record Turning (c : Case) (x : State) (p : ℕ) (H : List ℕ) (scanned w : 
   pub listed : Listed (c .graph .vertices) H scanned
   pub theirs : (j : ℕ) → j < scanned → owner c (getD H j 0 - 2) < w
   pub only : Only c H scanned (along .at)
+  pub idle : scanned ≡ 0 → (j : ℕ) → j < w → getD (along .at .queues) j [] ≡ []
 
 module _ (c : Case) (x : State) (p : ℕ) (e : p ≡ c .workers) where
   pub turns-start : (H : List ℕ) (k : Run) (cells : List ℤ) → Rep c x k cells → Moment c x → no-message (x .cells) ≡ true → Turning c x p H 0 0 k cells
@@ -220,18 +222,25 @@ module _ (c : Case) (x : State) (p : ℕ) (e : p ≡ c .workers) where
         listed = record { rising = λ i j l m. absurd (omega arith); low = λ j m. absurd (omega arith); high = λ j m. absurd (omega arith) };
         theirs = λ j m. absurd (omega arith);
         only = only-none c H x i;
+        idle = λ _ j m. absurd (omega arith);
       }
 
   pub turns-idle : (H : List ℕ) (n w : ℕ) (k : Run) (cells : List ℤ) → (u : Turning c x p H n w k cells) → w < p → link (getD (u .along .at .queues) w []) ≡ 1 → Turning c x p H n (w + 1) k cells
   unfolding along-step
   turns-idle H n w k cells u l h =
-      let i = turn-over c w (u .along .at) (omega arith) (link-none (getD (u .along .at .queues) w []) h) in
+      let empty = link-one (getD (u .along .at .queues) w []) h in
+      let i = turn-over c w (u .along .at) (omega arith) empty in
       record {
         along = along-step c x 0 p w k k cells cells (u .along) l (subst (λ (y : State). Rep c y k cells) (sym i) (u .along .rep));
         listed = u .listed;
         theirs = λ j m. omega (arith, u .theirs j m);
         only = subst (λ (y : State). Only c H n y) (sym i) (u .only);
+        idle = λ z j m. subst (λ (y : State). getD (y .queues) j [] ≡ []) (sym i) (go z j m empty (same-or j w));
       }
+    where
+      go : n ≡ 0 → (j : ℕ) → j < w + 1 → getD (u .along .at .queues) w [] ≡ [] → (j ≡ w) ⊎ (j ≡ w → ⊥) → getD (u .along .at .queues) j [] ≡ []
+      go z j m e (inl q) = rw q e
+      go z j m e (inr d) = u .idle z j (omega (arith, d))
 
   pub turns-step : (H H′ : List ℕ) (n w h : ℕ) (k k′ : Run) (cells cells′ : List ℤ) → (u : Turning c x p H n w k cells) → w < p → Inserted n h H H′
       → link (getD (u .along .at .queues) w []) ≡ h → (h ≡ 1 → ⊥) → Rep c (act c w (u .along .at)) k′ cells′ → Turning c x p H′ (n + 1) (w + 1) k′ cells′
@@ -249,6 +258,7 @@ module _ (c : Case) (x : State) (p : ℕ) (e : p ≡ c .workers) where
         listed = listed-more m (c .graph .vertices) (u .listed) (omega arith) (omega (arith, mine .0)) (λ j b d. absurd (omega (arith, u .theirs j b, mine .1, ap (λ (g : ℕ). owner c (g - 2)) d)));
         theirs = each-more m (λ (g : ℕ). owner c (g - 2) < w + 1) (λ j b. omega (arith, u .theirs j b)) own;
         only = only-step c H H′ n w v (q .0) y (omega arith) s (q .1) (u .only);
+        idle = λ z. absurd (omega arith);
       }
 
   pub turns-done : (H : List ℕ) (n w : ℕ) (k : Run) (cells : List ℤ) → (u : Turning c x p H n w k cells) → p ≤ w → n ≤ p
@@ -261,6 +271,7 @@ module _ (c : Case) (x : State) (p : ℕ) (e : p ≡ c .workers) where
         few = omega arith;
         listed = u .listed;
         only = subst (λ (y : State). Only c H n y) i (u .only);
+        idle = λ z. subst (λ (y : State). no-vertex (y .queues) ≡ true) i (all-empty (u .along .at .queues) p (omega (arith, u .along .rep .lined .sized)) (λ j b. u .idle z j (omega arith)));
       }
 
 -- a list's front has its first numbers
@@ -438,15 +449,33 @@ module _ (c : Case) (ok : Sound c) (F H : List ℕ) (f : Firsts (c .graph) F) (l
 pub round-rep : (c : Case) (x : State) (k : Run) (w : List ℤ) → Sound c → Rep c (acted c (range (length (c .graph .edges)) (c .workers)) (acted c (range (c .workers) 0) x)) k w → Rep c (acted c (round-acts c) x) k w
 round-rep c x k w ok rep = subst (λ (y : State). Rep c y k w) (sym (round-is c ok x)) rep
 
--- ROUNDS: so many are left
-rounds-step : (k : ℕ) (c : Case) (x : State) → has-ended x ≡ false → rounds (suc k) c x ≡ rounds k c (acted c (round-acts c) x)
-unfolding rounds
-rounds-step k c x h = rw h
+-- a round that scanned nothing finds nothing that waits
+pub round-ended : (c : Case) (ok : Sound c) (x : State) (H : List ℕ) → Moment c x → let y = acted c (range (c .workers) 0) x in
+    Only c H 0 y → no-vertex (y .queues) ≡ true → has-ended (acted c (round-acts c) x) ≡ true
+unfolding Only
+round-ended c ok x H m only empty =
+    let y = acted c (range (c .workers) 0) x in
+    let o = rules-kept c ok y (moment-acted c (range (c .workers) 0) x m) .empty-always (record { queues = empty; cells = no-cells (y .cells) (λ e. no-one e (getD (y .cells) e none) refl) }) in
+    subst (λ (z : State). has-ended z ≡ true) (sym (round-is c ok x ∙ acted-over c (range (length (c .graph .edges)) (c .workers)) y o)) o
+  where
+    no-one : (e : ℕ) (s : Option ℕ) → getD (acted c (range (c .workers) 0) x .cells) e none ≡ s → getD (acted c (range (c .workers) 0) x .cells) e none ≡ none
+    no-one e none h = h
+    no-one e (some d) h = absurd (omega (arith, only e d h .below))
 
+-- ROUNDS: so many are left
 rounds-over : (k : ℕ) (c : Case) (x : State) → has-ended x ≡ true → rounds k c x ≡ x
 unfolding rounds
 rounds-over zero c x h = refl
 rounds-over (suc k) c x h = rw h
+
+-- a round after the end changes nothing
+rounds-step : (k : ℕ) (c : Case) (x : State) → rounds (suc k) c x ≡ rounds k c (acted c (round-acts c) x)
+unfolding rounds
+rounds-step k c x = go (has-ended x) refl
+  where
+    go : (b : Bool) → has-ended x ≡ b → rounds (suc k) c x ≡ rounds k c (acted c (round-acts c) x)
+    go true o = rw (o, acted-over c (round-acts c) x o, rounds-over k c x o)
+    go false o = rw o
 
 rounds-none : (c : Case) (x : State) → rounds 0 c x ≡ x
 unfolding rounds
@@ -463,8 +492,15 @@ module _ (c : Case) (x : State) (many : ℕ) where
   pub left-start : (k : Run) (w : List ℤ) → Rep c x k w → Moment c x → no-message (x .cells) ≡ true → Left c x many many k w
   left-start k w rep p e = record { at = x; rep = rep; moment = p; empty = λ _. e; rest = refl }
 
-  pub left-step : (left : ℕ) (k k′ : Run) (w w′ : List ℤ) → (u : Left c x many left k w) → 0 < left → has-ended (u .at) ≡ false → Rep c (acted c (round-acts c) (u .at)) k′ w′ → Left c x many (left - 1) k′ w′
-  left-step left k k′ w w′ u h o rep =
+  pub left-empty : (left : ℕ) (k : Run) (w : List ℤ) → (u : Left c x many left k w) → k .broken ≡ 0 → no-message (u .at .cells) ≡ true
+  left-empty left k w u z = go (has-ended (u .at)) refl
+    where
+      go : (b : Bool) → has-ended (u .at) ≡ b → no-message (u .at .cells) ≡ true
+      go true o = waits-none c (u .at) (u .rep .held .laid .sound) (u .moment) (broken-none (u .rep) z) o .cells
+      go false o = u .empty o
+
+  pub left-step : (left : ℕ) (k k′ : Run) (w w′ : List ℤ) → (u : Left c x many left k w) → 0 < left → Rep c (acted c (round-acts c) (u .at)) k′ w′ → Left c x many (left - 1) k′ w′
+  left-step left k k′ w w′ u h rep =
       let ok = rep .held .laid .sound in
       let i : left ≡ suc (left - 1) = omega arith in
       record {
@@ -472,11 +508,16 @@ module _ (c : Case) (x : State) (many : ℕ) where
         rep = rep;
         moment = moment-acted c (round-acts c) (u .at) (u .moment);
         empty = round-keeps c ok (u .at .tallies .joined) (u .at) (record { shape = moment-known c ok (u .at) (u .moment) .paid .shape; joins = refl; empty = u .empty }) .empty;
-        rest = sym (rounds-step (left - 1) c (u .at) o) ∙ ap (λ (j : ℕ). rounds j c (u .at)) (sym i) ∙ u .rest;
+        rest = sym (rounds-step (left - 1) c (u .at)) ∙ ap (λ (j : ℕ). rounds j c (u .at)) (sym i) ∙ u .rest;
       }
 
   pub left-over : (left : ℕ) (k : Run) (w : List ℤ) → (u : Left c x many left k w) → has-ended (u .at) ≡ true → Rep c (rounds many c x) k w
   left-over left k w u o = subst (λ (y : State). Rep c y k w) (sym (rounds-over left c (u .at) o) ∙ u .rest) (u .rep)
+
+  -- a round that ends the run is the last
+  pub left-last : (left : ℕ) (k k′ : Run) (w w′ : List ℤ) → (u : Left c x many left k w) → 0 < left → Rep c (acted c (round-acts c) (u .at)) k′ w′ → has-ended (acted c (round-acts c) (u .at)) ≡ true → Rep c (rounds many c x) k′ w′
+  unfolding left-step
+  left-last left k k′ w w′ u h rep o = left-over (left - 1) k′ w′ (left-step left k k′ w w′ u h rep) o
 
   pub left-done : (left : ℕ) (k : Run) (w : List ℤ) → (u : Left c x many left k w) → left ≤ 0 → Rep c (rounds many c x) k w
   left-done left k w u h =

@@ -1,7 +1,7 @@
 -- What the functions over a run ask and say: each asks that the cells hold some run, and speaks of every run that they
 -- hold. Assumes nothing: these are definitions.
 use mathlib.Core.Path.{_≡_}
-use mathlib.Core.Bool.{Bool, true, false, not, _&&_, _||_}
+use mathlib.Core.Bool.{Bool, true, false}
 use mathlib.Core.List.{List, [], _∷_}
 use mathlib.Core.Option.{Option, none, some}
 use Prim.Native.Nat.{ℕ, _+_, _-_, _≤_, _<_, _^_}
@@ -10,35 +10,48 @@ use lib.ListN.{length, getD, set, replicate}
 use lib.IntN.{ℤ, pos, negℤ}
 use Rattle.model.specs.Graph.{Graph, edge, mark, edge-depth, edge-length, accepting-count}
 use Rattle.model.specs.Case.{Case, owner, most-vertices}
-use Rattle.model.specs.Run.{no-tallies, State, is-some, fresh, with-queues, enqueue, lower, send, relax, scan-edge, scan, no-message, turn, delivery, act, acted, range, round-acts, rounds, by-rounds, Moment}
+use Rattle.model.specs.Run.{no-tallies, State, has-ended, is-some, fresh, with-queues, enqueue, lower, send, relax, scan-edge, scan, no-vertex, no-message, turn, delivery, act, acted, range, round-acts, rounds, by-rounds, Moment}
 use Rattle.search.specs.declared.run.Run.{Run}
 use Rattle.search.specs.declared.rounds.Turned.{Turned}
 use Rattle.search.specs.Cells.{far, message-at}
 use Rattle.search.specs.Rep.{Firsts, Laid, coded, Rep}
 
 -- PUSH: a vertex joins the tail of its owner's queue unless it is there
-pub record Push-asks (v : ℕ) (k : Run) (w : List ℤ) : Type 0 where
+pub record Push-asks (v : ℕ) (w : List ℤ) : Type 0 where
   pub case : Case
   pub state : State
-  pub rep : Rep case state k w
+  pub run : Run
+  pub rep : Rep case state run w
   pub below : v < case .graph .vertices
 
-unfoldable pub Push-says : (v : ℕ) → (k k′ : Run) → (w w′ : List ℤ) → Type 0
-Push-says v k k′ w w′ = (c : Case) (x : State) → Rep c x k w → v < c .graph .vertices → Rep c (with-queues (enqueue (owner c v) v (x .queues)) x) k′ w′
+unfoldable pub Push-says : (v : ℕ) → (w w′ : List ℤ) → Type 0
+Push-says v w w′ = (c : Case) (x : State) (k : Run) → Rep c x k w → v < c .graph .vertices → Rep c (with-queues (enqueue (owner c v) v (x .queues)) x) k w′
 
 -- POP: the head of a worker's queue leaves it
-pub record Pop-asks (p v : ℕ) (k : Run) (w : List ℤ) : Type 0 where
+pub record Pop-asks (p v : ℕ) (w : List ℤ) : Type 0 where
   pub case : Case
   pub state : State
+  pub run : Run
   pub rest : List ℕ
-  pub rep : Rep case state k w
+  pub rep : Rep case state run w
   pub worker : p < case .workers
   pub below : v < case .graph .vertices
   pub head : getD (state .queues) p [] ≡ v ∷ rest
 
-unfoldable pub Pop-says : (p v : ℕ) → (k k′ : Run) → (w w′ : List ℤ) → Type 0
-Pop-says p v k k′ w w′ =
-    (c : Case) (x : State) (q : List ℕ) → Rep c x k w → p < c .workers → getD (x .queues) p [] ≡ v ∷ q → Rep c (with-queues (set (x .queues) p q) x) k′ w′
+unfoldable pub Pop-says : (p v : ℕ) → (w w′ : List ℤ) → Type 0
+Pop-says p v w w′ =
+    (c : Case) (x : State) (k : Run) (q : List ℕ) → Rep c x k w → p < c .workers → getD (x .queues) p [] ≡ v ∷ q → Rep c (with-queues (set (x .queues) p q) x) k w′
+
+-- whether all queues are empty
+pub record Queues-ask (p : ℕ) (w : List ℤ) : Type 0 where
+  pub case : Case
+  pub state : State
+  pub run : Run
+  pub rep : Rep case state run w
+  pub workers : p ≡ case .workers
+
+unfoldable pub Queues-say : (p : ℕ) → (r : Bool) → (w : List ℤ) → Type 0
+Queues-say p r w = (c : Case) (x : State) (k : Run) → Rep c x k w → p ≡ c .workers → r ≡ no-vertex (x .queues)
 
 -- PUT: the offer d goes into the cell of edge e, where o waits; r says whether it joined a message
 unfoldable pub Put-says : (e : ℕ) → (d : ℤ) → (r : Bool) → (w w′ : List ℤ) → Type 0
@@ -94,21 +107,14 @@ Scan-says v d k k′ w w′ = (c : Case) (x : State) (o : ℕ) → Rep c x k w �
 abbrev pub none-waits : Run → Bool
 none-waits k = eqb (k .sent - k .delivered) (k .joined)
 
-abbrev pub counted-run : Run → Run
-counted-run k =
-    record {
-      queued = k .queued;
-      acts = k .acts + 1;
-      sent = k .sent;
-      delivered = k .delivered;
-      joined = k .joined;
-      ended = eqb (k .broken) 0 && (eqb (k .queued) 0 && none-waits k);
-      broken = k .broken;
-      marks = k .marks;
-    }
+pub record Over-asks (p : ℕ) (k : Run) (w : List ℤ) : Type 0 where
+  pub case : Case
+  pub state : State
+  pub rep : Rep case state k w
+  pub workers : p ≡ case .workers
 
-abbrev pub over : Run → Bool
-over k = not (eqb (k .broken) 0) || k .ended
+unfoldable pub Over-says : (p : ℕ) → (k : Run) → (r : Bool) → (w : List ℤ) → Type 0
+Over-says p k r w = (c : Case) (x : State) → Rep c x k w → Moment c x → p ≡ c .workers → r ≡ has-ended x
 
 pub record Turn-asks (p : ℕ) (k : Run) (w : List ℤ) : Type 0 where
   pub case : Case
@@ -176,7 +182,7 @@ blank c =
     }
 
 abbrev pub blank-run : (marks : ℕ) → Run
-blank-run a = record { queued = 0; acts = 0; sent = 0; delivered = 0; joined = 0; ended = false; broken = 0; marks = a }
+blank-run a = record { turns = 0; sent = 0; delivered = 0; joined = 0; marks = a; broken = 0 }
 
 unfoldable pub Blank-says : (w w′ : List ℤ) → Type 0
 Blank-says w w′ = (c : Case) → Laid c w → Rep c (blank c) (blank-run (accepting-count (c .graph))) w′
@@ -244,6 +250,7 @@ pub record Turns-leave (c : Case) (y : State) (t : Turned) (w : List ℤ) (heads
   pub few : t .scanned ≤ c .workers
   pub listed : Listed (c .graph .vertices) heads (t .scanned)
   pub only : Only c heads (t .scanned) y
+  pub idle : t .scanned ≡ 0 → no-vertex (y .queues) ≡ true
 
 unfoldable pub Turns-say : (p : ℕ) → (k : Run) → (t : Turned) → (w w′ : List ℤ) → (heads : List ℕ) → Type 0
 Turns-say p k t w w′ H =
@@ -277,17 +284,22 @@ Sweep-says p H k k′ w w′ =
     (c : Case) (x : State) → Rep c x k w → Moment c x → p ≡ c .workers → Listed (c .graph .vertices) H (length H) → Only c H (length H) x →
     Rep c (acted c (range (length (c .graph .edges)) (c .workers)) x) k′ w′
 
-pub record Round-asks (p : ℕ) (k : Run) (w : List ℤ) : Type 0 where
+-- the run y after a round; where nothing was scanned it has ended
+pub record Round-leaves (c : Case) (y : State) (t : Turned) (w : List ℤ) : Type 0 where
+  pub rep : Rep c y (t .run) w
+  pub ended : t .scanned ≡ 0 → has-ended y ≡ true
+
+unfoldable pub Round-says : (p : ℕ) → (k : Run) → (t : Turned) → (w w′ : List ℤ) → (size : ℕ) → Type 0
+Round-says p k t w w′ size =
+    (c : Case) (x : State) → Rep c x k w → Moment c x → p ≡ c .workers → p ≤ size → no-message (x .cells) ≡ true → Round-leaves c (acted c (round-acts c) x) t w′
+
+pub record Rounds-ask (p : ℕ) (k : Run) (w : List ℤ) : Type 0 where
   pub case : Case
   pub state : State
   pub rep : Rep case state k w
   pub moment : Moment case state
   pub workers : p ≡ case .workers
   pub empty : no-message (state .cells) ≡ true
-
-unfoldable pub Round-says : (p : ℕ) → (k k′ : Run) → (w w′ : List ℤ) → Type 0
-Round-says p k k′ w w′ =
-    (c : Case) (x : State) → Rep c x k w → Moment c x → p ≡ c .workers → no-message (x .cells) ≡ true → Rep c (acted c (round-acts c) x) k′ w′
 
 unfoldable pub Rounds-done : (many p : ℕ) → (k k′ : Run) → (w w′ : List ℤ) → Type 0
 Rounds-done many p k k′ w w′ =

@@ -39,6 +39,11 @@ pub record Answer-done (k : Run) (n source r : ℕ) (w : List ℤ) (o z : List �
 abbrev pub verdict-of : Run → ℕ
 verdict-of k = cond (eqb (k .broken) 0) empty-verdict lasso-verdict
 
+-- such a run, with its number of workers
+pub record Finish-asks (k : Run) (p n source : ℕ) (w : List ℤ) (o : List ℕ) : Type 0 where
+  pub answer : Answer-asks k n source w o
+  pub workers : p ≡ answer .case .workers
+
 -- the outcome and what is left in every buffer, as `Entry` says of a case without a refusal
-pub record Finish-says (k : Run) (n source : ℕ) (r : Outcome) (w v : List ℤ) (o z : List ℕ) : Type 0 where
-  pub says : (c : Case) (x : State) → Gone c x k n source w o → Run-says 0 (has-ended x) c x r o z w v
+pub record Finish-says (k : Run) (p n source : ℕ) (r : Outcome) (w v : List ℤ) (o z : List ℕ) : Type 0 where
+  pub says : (c : Case) (x : State) → Gone c x k n source w o → p ≡ c .workers → Run-says 0 (has-ended x) c x r o z w v

@@ -1,7 +1,7 @@
 -- How a case and a run of it lie in the lent cells: the tables of specs/Cells.antt, queues by links, and the counters
 -- of `Run`. Assumes nothing: these are definitions.
 use mathlib.Core.Path.{_≡_}
-use mathlib.Core.Bool.{Bool, true, false}
+use mathlib.Core.Bool.{true, false}
 use mathlib.Core.List.{List, [], _∷_}
 use mathlib.Core.Option.{Option, none}
 use Prim.Native.Nat.{ℕ, _+_, _≤_, _<_}
@@ -9,7 +9,7 @@ use lib.ListN.{length, getD}
 use lib.IntN.{ℤ, pos}
 use Rattle.model.specs.Graph.{Edge, Graph, edge, accepting-count}
 use Rattle.model.specs.Case.{Case, owner, least-work, Sound, Within}
-use Rattle.model.specs.Run.{Tallies, State, member, sum-of, full-cells}
+use Rattle.model.specs.Run.{Tallies, State, member, full-cells}
 use Rattle.model.specs.Promise.{Balanced}
 use Rattle.search.specs.declared.run.Run.{Run}
 use Rattle.search.specs.Cells.{Region, far, more, by-more, by-from, by-to, accepting-at, owner-at, from-at, to-at, first-at, distance-at, parent-at, link-at, message-at, head-at, tail-at}
@@ -92,24 +92,19 @@ pub record Lined (c : Case) (qs : List (List ℕ)) (N H T : List ℕ) : Type 0 w
   pub mine : (p v : ℕ) → member v (getD qs p []) ≡ true → (v < c .graph .vertices) × (owner c v ≡ p)
   pub clear : (v : ℕ) → v < c .graph .vertices → member v (getD qs (owner c v) []) ≡ false → getD N v 0 ≡ 0
 
--- COUNTERS: how many queues have a vertex; acts and tallies, which tell how many cells have a message
-unfoldable pub busy : (queue : List ℕ) → ℕ
-busy [] = 0
-busy (v ∷ q) = 1
-
+-- COUNTERS: each act counted was a turn or a delivery, and the tallies tell how many cells have a message
 abbrev pub tallies-in : Run → Tallies
 tallies-in k = record { sent = k .sent; delivered = k .delivered; joined = k .joined }
 
-pub record Counted (A : ℕ) (queues : List (List ℕ)) (cells : List (Option ℕ)) (broken : Option ℕ) (ended : Bool) (count : ℕ) (tallies : Tallies) (k : Run) : Type 0 where
-  pub queued : k .queued ≡ sum-of busy queues
+pub record Counted (A : ℕ) (cells : List (Option ℕ)) (broken : Option ℕ) (count : ℕ) (tallies : Tallies) (k : Run) : Type 0 where
   pub full : Balanced (tallies-in k) (full-cells cells)
-  pub acts : k .acts ≡ count
+  pub acts : k .turns + k .delivered ≡ count
   pub tallied : tallies-in k ≡ tallies
   pub broke : k .broken ≡ more broken
   pub marks : k .marks ≡ A
-  pub over : k .ended ≡ ended
 
--- a run x of the case c stands in the cells w, with the counters k
+-- a run x of the case c stands in the cells w, with the counters k. That it ended as "empty" is nowhere: at every moment
+-- the queues and the cells tell it
 abbrev pub tables : State → (links heads tails : List ℕ) → Tables
 tables x N H T = record { depths = x .depths; parents = x .parents; links = N; cells = x .cells; heads = H; tails = T }
 
@@ -119,4 +114,4 @@ pub record Rep (c : Case) (x : State) (k : Run) (w : List ℤ) : Type 0 where
   pub tails : List ℕ
   pub held : Held c (tables x links heads tails) w
   pub lined : Lined c (x .queues) links heads tails
-  pub counted : Counted (accepting-count (c .graph)) (x .queues) (x .cells) (x .broken) (x .ended-empty) (x .count) (x .tallies) k
+  pub counted : Counted (accepting-count (c .graph)) (x .cells) (x .broken) (x .count) (x .tallies) k

@@ -1,5 +1,5 @@
 // The end of a run: its answer into the output, its outcome, and the cells zeros again. Contracts cite specs/Finish.antt.
-ghost use Rattle.search.specs.Finish.{Answer-asks, Lasso-done, Answer-done, Finish-says, verdict-of};
+ghost use Rattle.search.specs.Finish.{Answer-asks, Lasso-done, Answer-done, Finish-asks, Finish-says, verdict-of};
 ghost use mathlib.Core.Path.{_≡_};
 use crate::answer::write_empty;
 use crate::answer::write_lasso;
@@ -8,6 +8,7 @@ use crate::cells::NONE;
 use crate::cells::SOME;
 use crate::cells::clear;
 use crate::run::Run;
+use crate::run::acts_done;
 use crate::run::is_over;
 use crate::show::show_lasso;
 use casefile::Case;
@@ -51,18 +52,20 @@ pub(crate) fn finish(
     output: &mut [u8],
     work: &mut [i32],
     run: Run,
+    p: usize,
     n: usize,
     source: usize,
 ) -> Outcome
-    requires { ⌜ Answer-asks run n source (now work) (now output) ⌝ }
-    ensures { λ r. ⌜ Finish-says run n source r (now (work .entry)) (now (work .exit)) (now (output .entry)) (now (output .exit)) ⌝ }
+    requires { ⌜ Finish-asks run p n source (now work) (now output) ⌝ }
+    ensures { λ r. ⌜ Finish-says run p n source r (now (work .entry)) (now (work .exit)) (now (output .entry)) (now (output .exit)) ⌝ }
 {
-    if !is_over(run) {
+    let acts = acts_done(run);
+    if !is_over(work, run, p) {
         clear(work);
         return Outcome {
             refusal: 10,
             verdict: Outcome::NONE,
-            acts: run.acts,
+            acts: acts,
             written: 0,
             sent: run.sent,
             delivered: run.delivered,
@@ -74,7 +77,7 @@ pub(crate) fn finish(
     Outcome {
         refusal: 0,
         verdict: verdict(run),
-        acts: run.acts,
+        acts: acts,
         written: written as u32,
         sent: run.sent,
         delivered: run.delivered,

@@ -110,7 +110,7 @@ pub fn run_list(case: &[u8], acts: &[u32], output: &mut [u8], work: &mut [i32]) 
         Loaded::Laid(c, marks) => {
             let fresh = Run::fresh(work, c.source, marks);
             let run = act_list(work, fresh, acts, c.workers);
-            finish(output, work, run, c.vertices, c.source)
+            finish(output, work, run, c.workers, c.vertices, c.source)
         }
     }
 }
@@ -127,7 +127,7 @@ pub fn run_rounds(case: &[u8], output: &mut [u8], work: &mut [i32]) -> Outcome
         Loaded::Laid(c, marks) => {
             let fresh = Run::fresh(work, c.source, marks);
             let run = run_by_rounds(work, fresh, c.workers, c.vertices, c.edges);
-            finish(output, work, run, c.vertices, c.source)
+            finish(output, work, run, c.workers, c.vertices, c.source)
         }
     }
 }

@@ -2,15 +2,15 @@
 // a round does every turn, then the deliveries on the edges of these vertices, in number order.
 ghost use Prim.Native.Nat.{_<_};
 ghost use lib.ListN.{length};
-ghost use Rattle.search.specs.Asks.{Inserted, Turns-ask, Turns-say, Edges-ask, Edges-say, Sweep-asks, Sweep-says, Round-asks, Round-says, Rounds-done, By-rounds-asks, By-rounds-says};
+ghost use Rattle.search.specs.Asks.{Inserted, Turns-ask, Turns-say, Edges-ask, Edges-say, Sweep-asks, Sweep-says, Round-says, Rounds-ask, Rounds-done, By-rounds-asks, By-rounds-says};
 use super::cells::Cells;
+use super::cells::NONE;
 use super::cells::QUEUE_END;
 use super::cells::QUEUED;
 use super::cells::load_below;
 use super::run::Run;
 use super::run::act;
 use super::run::deliver;
-use super::run::is_over;
 use super::run::none_full;
 use casefile::Case;
 
@@ -31,7 +31,7 @@ pub(crate) fn insert(list: &mut [usize], many: usize, h: usize)
     list[0] = h;
 }
 
-// What the turns of a round leave: the run, and how many vertices were scanned.
+// What a round and its turns leave: the run, and how many vertices were scanned.
 pub(crate) struct Turned {
     pub run: Run,
     pub scanned: usize,
@@ -50,9 +50,9 @@ pub(crate) fn turns(work: &mut [i32], run: Run, p: usize, heads: &mut [usize]) -
         if head == QUEUE_END {
             continue;
         }
+        r = act(work, r, w, p);
         insert(heads, scanned, head);
         scanned += 1;
-        r = act(work, r, w, p);
     }
     Turned {
         run: r,
@@ -69,7 +69,7 @@ pub(crate) fn deliver_edges(work: &mut [i32], run: Run, v: usize, p: usize) -> R
     let mut e = load_below(work, Cells::FIRST + v, Case::MOST_EDGES + 1);
     let mut r = run;
     while e < end {
-        if is_over(r) {
+        if r.broken != NONE {
             return r;
         }
         r = deliver(work, r, e);
@@ -96,29 +96,37 @@ pub(crate) fn sweep(work: &mut [i32], run: Run, p: usize, heads: &[usize]) -> Ru
     r
 }
 
-// A round.
-pub(crate) fn round(work: &mut [i32], run: Run, p: usize) -> Run
-    requires { ⌜ Round-asks p run (now work) ⌝ }
-    ensures { λ r. ⌜ Round-says p run r (now (work .entry)) (now (work .exit)) ⌝ }
+// A round; the list that its turns leave is lent.
+pub(crate) fn round(work: &mut [i32], run: Run, p: usize, heads: &mut [usize]) -> Turned
+    requires { ⌜ Turns-ask p run (now work) (length (now heads)) ⌝ }
+    ensures { λ r. ⌜ Round-says p run r (now (work .entry)) (now (work .exit)) (length (now (heads .entry))) ⌝ }
 {
-    let mut heads = [0usize; Case::MOST_WORKERS];
-    let turned = turns(work, run, p, &mut heads);
+    let turned = turns(work, run, p, heads);
     let scanned = turned.scanned;
-    sweep(work, turned.run, p, &heads[..scanned])
+    let swept = sweep(work, turned.run, p, &heads[..scanned]);
+    Turned {
+        run: swept,
+        scanned: scanned,
+    }
 }
 
-// Rounds, at most so many, to the end of the run.
+// Rounds, at most so many, to the end of the run: the floor is broken, or a round had nothing to scan.
 pub(crate) fn rounds(work: &mut [i32], run: Run, many: usize, p: usize) -> Run
-    requires { ⌜ Round-asks p run (now work) ⌝ }
+    requires { ⌜ Rounds-ask p run (now work) ⌝ }
     ensures { λ r. ⌜ Rounds-done many p run r (now (work .entry)) (now (work .exit)) ⌝ }
 {
+    let mut heads = [0usize; Case::MOST_WORKERS];
     let mut r = run;
     let mut left = many;
     while 0 < left {
-        if is_over(r) {
+        if r.broken != NONE {
             return r;
         }
-        r = round(work, r, p);
+        let done = round(work, r, p, &mut heads);
+        r = done.run;
+        if done.scanned == 0 {
+            return r;
+        }
         left -= 1;
     }
     r
@@ -129,6 +137,6 @@ pub(crate) fn run_by_rounds(work: &mut [i32], run: Run, p: usize, n: usize, m: u
     requires { ⌜ By-rounds-asks p n m run (now work) ⌝ }
     ensures { λ r. ⌜ By-rounds-says p n m run r (now (work .entry)) (now (work .exit)) ⌝ }
 {
-    let many = (n + m) * (run.marks + 1);
+    let many = (n + m) * (run.marks as usize + 1);
     rounds(work, run, many, p)
 }

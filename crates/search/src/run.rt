@@ -2,13 +2,13 @@
 // function keeps the cells and the counters equal to a run of the model (specs/Rep.antt).
 ghost use mathlib.Core.Path.{_≡_};
 ghost use mathlib.Core.Bool.{cond};
-ghost use Prim.Native.Nat.{_+_, _<_, _≤_, _^_, _-_};
+ghost use Prim.Native.Nat.{_+_, _<_, _≤_, _^_};
 ghost use lib.IntN.{pos, negℤ};
 ghost use lib.Signed.{ltZ};
 ghost use lib.ListN.{length};
 ghost use Rattle.model.specs.Case.{most-vertices, least-work};
 ghost use Rattle.search.specs.Cells.{message-at};
-ghost use Rattle.search.specs.Asks.{Put-says, Offer-asks, Send-asks, Send-says, Relax-says, Edge-says, Scan-asks, Scan-says, none-waits, counted-run, over, Turn-asks, Turn-says, Deliver-asks, Deliver-says, Act-asks, Act-says, Length-is, Offered-asks, Offered-is, Blank-says, Fresh-asks, Fresh-says, List-asks, List-done};
+ghost use Rattle.search.specs.Asks.{Put-says, Offer-asks, Send-asks, Send-says, Relax-says, Edge-says, Scan-asks, Scan-says, none-waits, Over-asks, Over-says, Turn-asks, Turn-says, Deliver-asks, Deliver-says, Act-asks, Act-says, Length-is, Offered-asks, Offered-is, Blank-says, Fresh-asks, Fresh-says, List-asks, List-done};
 use super::cells::Cells;
 use super::cells::NO_DISTANCE;
 use super::cells::NONE;
@@ -22,22 +22,22 @@ use super::cells::load;
 use super::cells::load_below;
 use super::cells::store;
 use super::cells::store_number;
+use super::queue::none_queued;
 use super::queue::pop;
 use super::queue::push;
 use casefile::Case;
 
-// What a run counts: queues that have a vertex, acts; offers put into cells, messages delivered, offers that joined a
-// waiting message; whether it ended as "empty"; the vertex that broke the floor (NONE, or its number and SOME), and
-// accepting vertices. How many cells have a message is the difference of the tallies (`none_full`).
+// What a run counts: turns of a worker that had a vertex; offers put into cells, messages delivered, offers that joined a
+// waiting message; accepting vertices; and the vertex that broke the floor (NONE, or its number and SOME). Each act hands
+// it on, so what these and the cells tell has no counter: acts are turns and deliveries, the tallies tell how many cells
+// have a message (`none_full`), and a run has ended as "empty" when nothing waits (`is_over`).
 pub(crate) struct Run {
-    pub queued: usize,
-    pub acts: u64,
+    pub turns: u64,
     pub sent: u32,
     pub delivered: u32,
     pub joined: u32,
-    pub ended: bool,
+    pub marks: u32,
     pub broken: usize,
-    pub marks: usize,
 }
 
 impl Run {
@@ -49,17 +49,15 @@ impl Run {
     {
         blank(work);
         store(work, Cells::DISTANCE + source, 0);
-        let run = Run {
-            queued: 0,
-            acts: 0,
+        push(work, source);
+        Run {
+            turns: 0,
             sent: 0,
             delivered: 0,
             joined: 0,
-            ended: false,
+            marks: marks as u32,
             broken: NONE,
-            marks: marks,
-        };
-        push(work, run, source)
+        }
     }
 }
 
@@ -159,8 +157,9 @@ pub(crate) fn relax(work: &mut [i32], run: Run, e: usize, d: i32) -> Run
     if lower(d, old) {
         store(work, Cells::DISTANCE + v, d);
         store_number(work, Cells::PARENT + v, e + SOME);
-        let mut r = push(work, run, v);
-        if below_floor(d, run.marks) {
+        push(work, v);
+        let mut r = run;
+        if below_floor(d, run.marks as usize) {
             r.broken = v + SOME;
         }
         return r;
@@ -218,32 +217,23 @@ pub(crate) fn none_full(run: Run) -> bool
     run.sent - run.delivered == run.joined
 }
 
-// An act that did something is counted, and the run has ended as "empty" if nothing waits.
-pub(crate) fn counted(run: Run) -> Run
-    requires { ⌜ (run .acts < 2 ^ 64 - 1) × (run .delivered ≤ run .sent) ⌝ }
-    ensures { λ r. ⌜ r ≡ counted-run run ⌝ }
+// How many acts did something: each was a turn or a delivery.
+pub(crate) fn acts_done(run: Run) -> u64
+    requires { ⌜ run .turns + run .delivered < 2 ^ 64 ⌝ }
+    ensures { λ r. ⌜ r ≡ run .turns + run .delivered ⌝ }
 {
-    let none_broken = run.broken == NONE;
-    let none_queued = run.queued == 0;
-    let none_waits = none_full(run);
-    Run {
-        queued: run.queued,
-        acts: run.acts + 1,
-        sent: run.sent,
-        delivered: run.delivered,
-        joined: run.joined,
-        ended: none_broken && (none_queued && none_waits),
-        broken: run.broken,
-        marks: run.marks,
-    }
+    run.turns + run.delivered as u64
 }
 
-// Whether a run has ended, as "lasso" or as "empty".
-pub(crate) fn is_over(run: Run) -> bool
-    ensures { λ r. ⌜ r ≡ over run ⌝ }
+// Whether a run has ended: as "lasso" once the floor is broken, as "empty" when nothing waits.
+pub(crate) fn is_over(work: &[i32], run: Run, p: usize) -> bool
+    requires { ⌜ Over-asks p run (now work) ⌝ }
+    ensures { λ r. ⌜ Over-says p run r (now (work .entry)) ⌝ }
 {
-    let broken = run.broken != NONE;
-    broken || run.ended
+    if run.broken != NONE {
+        return true;
+    }
+    none_full(run) && none_queued(work, p)
 }
 
 // A turn of worker p: the head of its queue is taken off and scanned.
@@ -256,10 +246,12 @@ pub(crate) fn turn(work: &mut [i32], run: Run, p: usize) -> Run
         return run;
     }
     let v = head - QUEUED;
-    let taken = pop(work, run, p, v);
+    pop(work, p, v);
     let d = load(work, Cells::DISTANCE + v);
-    let done = scan(work, taken, v, d);
-    counted(done)
+    let done = scan(work, run, v, d);
+    let mut r = done;
+    r.turns = done.turns + 1;
+    r
 }
 
 // A delivery on edge e: its cell is emptied and the offer relaxed.
@@ -274,16 +266,16 @@ pub(crate) fn deliver(work: &mut [i32], run: Run, e: usize) -> Run
     store(work, Cells::MESSAGE + e, NO_DISTANCE);
     let mut r = run;
     r.delivered = run.delivered + 1;
-    let done = relax(work, r, e, d);
-    counted(done)
+    relax(work, r, e, d)
 }
 
-// An act: turns by worker number, then deliveries by edge number; nothing is done after the end.
+// An act: turns by worker number, then deliveries by edge number. Nothing is done after the end: once the floor is broken
+// by this test, and in a run that ended as "empty" because every act is idle.
 pub(crate) fn act(work: &mut [i32], run: Run, a: usize, p: usize) -> Run
     requires { ⌜ Act-asks a p run (now work) ⌝ }
     ensures { λ r. ⌜ Act-says a p run r (now (work .entry)) (now (work .exit)) ⌝ }
 {
-    if is_over(run) {
+    if run.broken != NONE {
         return run;
     }
     if a < p {

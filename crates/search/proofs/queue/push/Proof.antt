@@ -5,8 +5,6 @@ use lib.ListN.{getD}
 use lib.IntN.{pos}
 use Rattle.search.specs.Asks.{Push-says}
 use Rattle.search.specs.Cells.{link-at}
-use Rattle.search.specs.Rep.{busy}
-use Rattle.search.proofs.Numbers.{sum-of-le, busy-le}
 use Rattle.search.proofs.Steps.{owner-there, head-there, link-there, push-kept, worker-below, push-first, push-next, tail-there}
 use borrow.Author.Needs.{needs}
 use Rattle.search.proofs.queue.push.Statement.{statement}
@@ -35,7 +33,7 @@ same-length c = search needs
 
 returns : tie.Need-returns
 unfolding Push-says
-returns c = λ q x rep below. push-kept q x _ _ _ rep below _ (c .before .load-below .ensures .0) (c .if1 .taken)
+returns c = λ q x k rep below. push-kept q x _ _ _ rep below _ (c .before .load-below .ensures .0) (c .if1 .taken)
 
 add-load-below-3 : tie.Need-add-load-below-3
 add-load-below-3 c = search needs
@@ -77,17 +75,13 @@ add-store-number-4 c = search needs
 store-number-requires-3 : tie.Need-store-number-requires-3
 store-number-requires-3 c κs = search needs
 
-add-r : tie.Need-add-r
-add-r c = let s = c .before .before .before .before .before .before .before .before .before .before .before .before .before .before .before .before .before .before .pre in
-    omega (arith, sum-of-le busy busy-le (s .state .queues), s .rep .counted .queued, s .rep .lined .sized, s .rep .held .laid .within .workers)
-
 same-length-2 : tie.Need-same-length-2
 same-length-2 c = search needs
 
 returns-2 : tie.Need-returns-2
 unfolding Push-says
-returns-2 c = λ q x rep below.
-    let tailed = c .before .before in
+returns-2 c = λ q x k rep below.
+    let tailed = c .before in
     let headed = tailed .before .before .before in
     let linked = headed .before .before .before in
     let empty = linked .before .before in
@@ -133,7 +127,7 @@ same-length-3 c = search needs
 
 returns-3 : tie.Need-returns-3
 unfolding Push-says
-returns-3 c = λ q x rep below.
+returns-3 c = λ q x k rep below.
     let linked = c .before .before .before .before in
     let joined = linked .before .before .before in
     let tail = joined .before .before in
@@ -164,7 +158,6 @@ push-spec =
     store-number-requires-2
     add-store-number-4
     store-number-requires-3
-    add-r
     same-length-2
     returns-2
     add-load-below-6

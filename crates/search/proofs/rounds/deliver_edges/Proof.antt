@@ -1,17 +1,15 @@
 use mathlib.Core.Path.{_≡_, refl, sym, _∙_}
-use mathlib.Core.Bool.{false}
 use mathlib.Core.List.{List}
 use Prim.Native.Nat.{ℕ, _+_, _-_, _≤_, _<_}
 use native.Mathlib.Omega.{arith}
 use lib.ListN.{length, getD}
 use Rattle.model.specs.Case.{Case}
-use Rattle.model.specs.Run.{State, has-ended, Moment}
+use Rattle.model.specs.Run.{State, Moment}
 use Rattle.search.specs.Asks.{Deliver-says, Edges-say}
 use Rattle.search.specs.Rep.{Firsts, Laid, Rep}
 use Rattle.search.proofs.Ranges.{first-there, first-is}
 use Rattle.search.proofs.Sweeps.{Along, along-start, along-step, along-over, along-done, act-rep, first-same, edges-rep}
-use Rattle.search.proofs.Acts.{over-is}
-use Rattle.model.proofs.Shapes.{not-broken}
+use Rattle.search.proofs.Acts.{broken-none, broken-ended}
 use borrow.Author.Needs.{needs}
 use Rattle.search.proofs.rounds.deliver_edges.Statement.{statement}
 use Rattle.search.proofs.rounds.deliver_edges.Tie as tie
@@ -19,7 +17,6 @@ use Rattle.search.proofs.rounds.deliver_edges.Reads as reads
 use Rattle.search.proofs.rounds.deliver_edges.Lts as lts
 use Rattle.search.proofs.cells.load_below.Reads as load-below-reads
 use Rattle.search.proofs.run.deliver.Reads as deliver-reads
-use Rattle.search.proofs.run.is_over.Reads as is-over-reads
 
 abbrev Inv-loop : tie.InvT-loop
 Inv-loop work₀ v p end e₀ r₀ work e r = (length work ≡ length work₀)
@@ -71,9 +68,6 @@ load-below-requires-2 c κs = let s = c .before .before .before .pre in
 loop-holds : tie.Need-loop-holds Inv-loop μ-loop
 loop-holds c = (refl, λ q x rep m w l. along-start q x _ _ _ _ rep m)
 
-is-over-requires : tie.Need-is-over-requires Inv-loop μ-loop
-is-over-requires c κs = search needs
-
 same-length : tie.Need-same-length Inv-loop μ-loop
 same-length c = c .before .before .before .loop .inv .0
 
@@ -86,11 +80,7 @@ returns c = λ q x F rep m w h f.
     let laid = rep .held .laid in
     let u = loop .loop .inv .1 q x rep m w (end-low end q laid h) in
     edges-rep q x _ _ (end .before .before .args .p) (first .load-below2 .result) (end .load-below .result) _ _ w (start-is first q F laid h f) (end-is end q F laid h f)
-    (along-over q x _ _ _ _ _ u (over-is q (u .at) _ _ (u .rep) ∙ sym (c .before .is-over .ensures) ∙ c .if1 .taken))
-
--- the run has not ended where the loop goes on
-goes : (c : tie.Else1 Inv-loop μ-loop) (q : Case) (x : State) → Rep q x (c .before .before .before .loop .r) (c .before .before .before .loop .work) → has-ended x ≡ false
-goes c q x rep = over-is q x _ _ rep ∙ sym (c .before .is-over .ensures) ∙ c .if1 .left
+    (along-over q x _ _ _ _ _ u (broken-ended (u .rep) (c .if1 .taken)))
 
 deliver-requires : tie.Need-deliver-requires Inv-loop μ-loop
 deliver-requires c κs =
@@ -100,7 +90,7 @@ deliver-requires c κs =
     let s = end .before .before .pre in
     let l = end-low end (s .case) (s .rep .held .laid) (s .below) in
     let u = loop .loop .inv .1 (s .case) (s .state) (s .rep) (s .moment) (s .workers) l in
-    record { case = s .case; state = u .at; rep = u .rep; moment = u .moment; whole = not-broken (u .at) (goes (c .before) (s .case) (u .at) (u .rep)); below = omega (arith, l, test .loop-test .taken) }
+    record { case = s .case; state = u .at; rep = u .rep; moment = u .moment; whole = broken-none (u .rep) (c .before .if1 .left); below = omega (arith, l, test .loop-test .taken) }
 
 add-e : tie.Need-add-e Inv-loop μ-loop
 add-e c = omega (arith, c .before .before .before .before .before .loop-test .taken)
@@ -121,8 +111,8 @@ loop-again c =
           let z : p + (e + 1) ≡ p + e + 1 = omega arith in
           let t = test .loop-test .taken in
           let u = loop .loop .inv .1 q x rep m w l in
-          let o = goes on q (u .at) (u .rep) in
-          rw z (along-step q x _ _ (p + e) _ _ _ _ u (omega arith) (act-rep q e p (u .at) _ _ w o (c .before .deliver .ensures q (u .at) (u .rep) (not-broken (u .at) o) (omega arith)))),
+          let whole = broken-none (u .rep) (on .if1 .left) in
+          rw z (along-step q x _ _ (p + e) _ _ _ _ u (omega arith) (act-rep q e p (u .at) _ _ w (u .moment) whole (c .before .deliver .ensures q (u .at) (u .rep) whole (omega arith)))),
     )
 
 same-length-2 : tie.Need-same-length-2 Inv-loop μ-loop
@@ -151,7 +141,6 @@ deliver-edges-spec =
     add-load-below-5
     load-below-requires-2
     loop-holds
-    is-over-requires
     same-length
     returns
     deliver-requires

@@ -16,6 +16,9 @@ use Rattle.search.proofs.rounds.rounds.Reads as rounds-reads
 add-many : tie.Need-add-many
 add-many c = search needs
 
+cast-many : tie.Need-cast-many
+cast-many c = search needs
+
 add-many-2 : tie.Need-add-many-2
 add-many-2 c = let s = c .before .pre in
     omega (arith, s .rep .counted .marks, accepting-few (s .case) (s .rep .held .laid .sound), s .rep .held .laid .within .vertices)
@@ -49,4 +52,4 @@ returns c = λ q rep w v e.
 
 pub run-by-rounds-spec : {M : Type 1} → statement M
 run-by-rounds-spec =
-    tie.close (tie.spec add-many add-many-2 mul-many rounds-requires same-length returns)
+    tie.close (tie.spec add-many cast-many add-many-2 mul-many rounds-requires same-length returns)

@@ -66,25 +66,25 @@ loop-again c =
           turns-idle q x _ e _ _ _ _ _ u t (head-is q (u .along .at) _ _ _ (u .along .rep) (omega arith) _ (rw (c .if1 .taken) at (c .before .load-below .ensures .0))),
     )
 
+act-requires : tie.Need-act-requires Inv-loop μ-loop
+act-requires c κs =
+    let test = c .before .before .before .before in
+    let loop = test .before in
+    let s = loop .before .before .pre in
+    let u = asked loop in
+    record { case = s .case; state = u .along .at; rep = u .along .rep; moment = u .along .moment; workers = s .workers; below = omega (arith, test .loop-test .taken) }
+
 insert-requires : tie.Need-insert-requires Inv-loop μ-loop
 insert-requires c κs =
-    let test = c .before .before .before .before in
+    let test = c .before .before .before .before .before .before .before in
     let loop = test .before in
     let i = loop .loop .inv in
     omega (arith, loop .before .before .pre .room, i .1, i .3, test .loop-test .taken)
 
 add-scanned : tie.Need-add-scanned Inv-loop μ-loop
 add-scanned c =
-    let test = c .before .before .before .before .before .before .before in
+    let test = c .before .before .before .before .before .before .before .before .before .before in
     omega (arith, test .before .loop .inv .1, test .loop-test .taken)
-
-act-requires : tie.Need-act-requires Inv-loop μ-loop
-act-requires c κs =
-    let test = c .before .before .before .before .before .before .before .before in
-    let loop = test .before in
-    let s = loop .before .before .pre in
-    let u = asked loop in
-    record { case = s .case; state = u .along .at; rep = u .along .rep; moment = u .along .moment; workers = s .workers; below = omega (arith, test .loop-test .taken) }
 
 add-w-2 : tie.Need-add-w-2 Inv-loop μ-loop
 add-w-2 c = omega (arith, c .before .before .before .before .before .before .before .before .before .before .loop-test .taken)
@@ -95,20 +95,21 @@ loop-less-2 c = omega (arith, c .before .before .before .before .before .before 
 loop-again-2 : tie.Need-loop-again-2 Inv-loop μ-loop
 unfolding Act-says
 loop-again-2 c =
-    let inserted = c .before .before .before .before .before in
-    let busy = inserted .before .before in
+    let inserted = c .before .before in
+    let acted = inserted .before .before .before in
+    let busy = acted .before .before in
     let read = busy .before in
     let test = read .before .before in
     let i = test .before .loop .inv in
     let t = test .loop-test .taken in (
       omega arith,
       omega (arith, i .1),
-      omega (arith, c .before .act .kept .0, i .2),
+      omega (arith, acted .act .kept .0, i .2),
       omega (arith, inserted .insert .kept .0, i .3),
       λ q x rep m e empty room.
           let u = i .4 q x rep m e empty room in
           turns-step q x _ e _ _ _ _ _ _ _ _ _ u t (inserted .insert .ensures) (head-is q (u .along .at) _ _ _ (u .along .rep) (omega arith) _ (read .load-below .ensures .0)) (busy .if1 .left)
-          (c .before .act .ensures q (u .along .at) (u .along .rep) (u .along .moment) e (omega arith)),
+          (acted .act .ensures q (u .along .at) (u .along .rep) (u .along .moment) e (omega arith)),
     )
 
 same-length : tie.Need-same-length Inv-loop μ-loop
@@ -135,9 +136,9 @@ turns-spec =
     add-w
     loop-less
     loop-again
+    act-requires
     insert-requires
     add-scanned
-    act-requires
     add-w-2
     loop-less-2
     loop-again-2

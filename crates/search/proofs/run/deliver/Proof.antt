@@ -1,4 +1,3 @@
-use Rattle.model.proofs.Few.{relax-count}
 use mathlib.Core.Path.{_≡_, sym, ap, _∙_}
 use mathlib.Core.Option.{none, some}
 use Prim.Native.Nat.{ℕ, _<_}
@@ -10,12 +9,12 @@ use mir.Syntax.{w32}
 use mir.Val.{SFits, toZ, ofZ}
 use mir.Facts.{toZ-ofZ}
 use Rattle.model.specs.Case.{Case}
-use Rattle.model.specs.Run.{State, emptied, relax}
+use Rattle.model.specs.Run.{State, relax}
 use Rattle.search.specs.Asks.{Relax-says, Deliver-says}
 use Rattle.search.specs.Cells.{far}
 use Rattle.search.specs.Rep.{Rep}
 use Rattle.search.proofs.Stores.{there}
-use Rattle.search.proofs.Acts.{count-small, delivery-room, sent-most, counted-rep, emptied-run, some-there, delivery-none, delivery-some, cell-emptied}
+use Rattle.search.proofs.Acts.{delivery-room, offer-tried, emptied-run, handed, some-there, delivery-none, delivery-some, cell-emptied}
 use Rattle.search.proofs.Numbers.{none-is, none-test}
 use borrow.Author.Needs.{needs}
 use Rattle.search.proofs.run.deliver.Statement.{statement}
@@ -24,7 +23,6 @@ use Rattle.search.proofs.run.deliver.Reads as reads
 use Rattle.search.proofs.run.deliver.Lts as lts
 use Rattle.search.proofs.cells.load.Reads as load-reads
 use Rattle.search.proofs.cells.store.Reads as store-reads
-use Rattle.search.proofs.run.counted.Reads as counted-reads
 use Rattle.search.proofs.run.missing.Reads as missing-reads
 use Rattle.search.proofs.run.relax.Reads as relax-reads
 
@@ -54,7 +52,7 @@ offer-is c q x rep h =
 -- the cells once it is emptied
 left : (c : tie.After-store) (q : Case) (x : State) → let a = c .before .before .before .before .before .before .args in
     (rep : Rep q x (a .run) (a .work .now)) → (h : a .e < length (q .graph .edges))
-    → Rep q (emptied (a .e) x) (emptied-run (a .run)) (c .store .last .0)
+    → Rep q (handed (a .e) x) (emptied-run (a .run)) (c .store .last .0)
 left c q x rep h =
     let waiting = c .before .before in
     let m = waits waiting q x rep h in
@@ -64,13 +62,13 @@ left c q x rep h =
 -- and the offer relaxed
 relaxed : (c : tie.After-relax) (q : Case) (x : State) → let waiting = c .before .before .before .before .before .before in let a = waiting .before .before .before .before .args in
     (rep : Rep q x (a .run) (a .work .now)) → x .broken ≡ none → (h : a .e < length (q .graph .edges))
-    → let e = a .e in Rep q (relax q e (waits waiting q x rep h .0) (emptied e x)) (c .relax .result) (c .relax .last .0)
+    → let e = a .e in Rep q (relax q e (waits waiting q x rep h .0) (handed e x)) (c .relax .result) (c .relax .last .0)
 unfolding Relax-says
 relaxed c q x rep whole h =
     let stored = c .before .before .before .before in
     let waiting = stored .before .before in
     let a = waiting .before .before .before .before .args in
-    c .relax .ensures q (emptied (a .e) x) (waits waiting q x rep h .0) (left stored q x rep h) whole h (offer-is waiting q x rep h)
+    c .relax .ensures q (handed (a .e) x) (waits waiting q x rep h .0) (left stored q x rep h) whole h (offer-is waiting q x rep h)
 
 add-load : tie.Need-add-load
 add-load c = search needs
@@ -111,28 +109,12 @@ relax-requires c κs =
     let s = start .pre in
     record {
       case = s .case;
-      state = emptied (start .args .e) (s .state);
+      state = handed (start .args .e) (s .state);
       offer = waits waiting (s .case) (s .state) (s .rep) (s .below) .0;
       rep = left stored (s .case) (s .state) (s .rep) (s .below);
       below = s .below;
       is = offer-is waiting (s .case) (s .state) (s .rep) (s .below);
     }
-
-counted-requires : tie.Need-counted-requires
-counted-requires c κs =
-    let waiting = c .before .before .before .before .before .before .before in
-    let start = waiting .before .before .before .before in
-    let s = start .pre in
-    let e = start .args .e in
-    let done = relaxed (c .before) (s .case) (s .state) (s .rep) (s .whole) (s .below) in (
-      omega (
-        arith,
-        done .counted .acts,
-        relax-count (s .case) e (waits waiting (s .case) (s .state) (s .rep) (s .below) .0) (emptied e (s .state)),
-        count-small (s .case) (s .state) (s .rep .held .laid .sound) (s .rep .held .laid .within) (s .moment),
-      ),
-      sent-most done,
-    )
 
 same-length-2 : tie.Need-same-length-2
 same-length-2 c = search needs
@@ -140,11 +122,11 @@ same-length-2 c = search needs
 returns-2 : tie.Need-returns-2
 unfolding Deliver-says
 returns-2 c = λ q x rep whole h.
-    let taken = c .before .before in
+    let taken = c .before in
     let waiting = taken .before .before .before .before .before .before in
     let a = waiting .before .before .before .before .args in
     let m = waits waiting q x rep h in
-    rw (c .counted .ensures, delivery-some q (a .e) (m .0) x (m .1)) (counted-rep q _ _ _ (relaxed taken q x rep whole h))
+    rw (delivery-some q (a .e) (m .0) x (m .1)) (offer-tried q x _ _ (a .e) (m .0) (relaxed taken q x rep whole h))
 
 pub deliver-spec : {M : Type 1} → statement M
 deliver-spec =
@@ -159,6 +141,5 @@ deliver-spec =
     store-requires
     add-r
     relax-requires
-    counted-requires
     same-length-2
     returns-2)

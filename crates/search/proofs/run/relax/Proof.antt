@@ -52,18 +52,18 @@ changed c q x o rep h d =
 
 -- the cells once the target has joined its queue
 joined : (c : tie.After-push) (q : Case) (x : State) (o : ℕ) → let target = c .before .before .before .before .before .before .before .before .before .before .before .before in let a = target .before .before .args in let v = target .load-below .result in
-    Rep q x (a .run) (a .work .now) → a .e < length (q .graph .edges) → a .d ≡ negℤ (pos o) → Rep q (with-queues (enqueue (owner q v) v (x .queues)) (offered x v o (a .e))) (c .push .result) (c .push .last .0)
+    Rep q x (a .run) (a .work .now) → a .e < length (q .graph .edges) → a .d ≡ negℤ (pos o) → Rep q (with-queues (enqueue (owner q v) v (x .queues)) (offered x v o (a .e))) (a .run) (c .push .last .0)
 unfolding Push-says
 joined c q x o rep h d =
     let target = c .before .before .before .before .before .before .before .before .before .before .before .before in
     let v = target .load-below .result in
-    c .push .ensures q (offered x v o (target .before .before .args .e)) (changed (c .before .before .before) q x o rep h d) (target-below q _ _ (rep .held .laid) h v (target .load-below .ensures .0))
+    c .push .ensures q (offered x v o (target .before .before .args .e)) _ (changed (c .before .before .before) q x o rep h d) (target-below q _ _ (rep .held .laid) h v (target .load-below .ensures .0))
 
 -- the second test says whether the floor is broken
-floored : (c : tie.After-below-floor) (q : Case) (x : State) (o : ℕ) → let a = c .before .before .before .before .before .before .before .before .before .before .before .before .before .before .before .before .args in
+floored : (c : tie.After-below-floor) (q : Case) (x : State) (o : ℕ) → let a = c .before .before .before .before .before .before .before .before .before .before .before .before .before .before .before .before .before .args in
     Rep q x (a .run) (a .work .now) → a .d ≡ negℤ (pos o) → ltb (accepting-count (q .graph)) o ≡ c .below-floor .result
 floored c q x o rep d =
-    let s = c .before .before .before .before .before .before .before .before .before .before .before .before .before .before .before .before in
+    let s = c .before .before .before .before .before .before .before .before .before .before .before .before .before .before .before .before .before in
     sym (floor-test _ (s .args .d) (s .args .run .marks) o (accepting-count (q .graph)) (s .fits .d) (c .below-floor .ensures) d (rep .counted .marks))
 
 add-load-below : tie.Need-add-load-below
@@ -105,12 +105,16 @@ push-requires c κs =
     record {
       case = s .case;
       state = offered (s .state) v (s .offer) (target .before .before .args .e);
+      run = target .before .before .args .run;
       rep = changed (c .before .before) (s .case) (s .state) (s .offer) (s .rep) (s .below) (s .is);
       below = target-below (s .case) _ _ (s .rep .held .laid) (s .below) v (target .load-below .ensures .0);
     }
 
+cast-below-floor : tie.Need-cast-below-floor
+cast-below-floor c = search needs
+
 below-floor-requires : tie.Need-below-floor-requires
-below-floor-requires c κs = let s = c .before .before .before .before .before .before .before .before .before .before .before .before .before .before .before .pre in
+below-floor-requires c κs = let s = c .before .before .before .before .before .before .before .before .before .before .before .before .before .before .before .before .pre in
     omega (arith, s .rep .counted .marks, accepting-few (s .case) (s .rep .held .laid .sound), s .rep .held .laid .within .vertices)
 
 add-r : tie.Need-add-r
@@ -122,11 +126,11 @@ same-length c = search needs
 returns : tie.Need-returns
 unfolding Relax-says
 returns c = λ q x o rep whole h d.
-    let push = c .before .before .before in
+    let push = c .before .before .before .before in
     let test = push .before .before .before .before .before .before .before .before .before in
     let target = test .before .before .before in
     let v = target .load-below .result in
-    relax-taken q x (push .push .result) _ (target .before .before .args .e) v o true (target-is q _ _ (rep .held .laid) h v (target .load-below .ensures .0)) (sym (tested test q x o rep h d) ∙ push .before .before .before .before .before .before .before .before .if1 .taken)
+    relax-taken q x _ _ (target .before .before .args .e) v o true (target-is q _ _ (rep .held .laid) h v (target .load-below .ensures .0)) (sym (tested test q x o rep h d) ∙ push .before .before .before .before .before .before .before .before .if1 .taken)
     (joined push q x o rep h d) (floored (c .before) q x o rep d ∙ c .if2 .taken) _ (add-one v)
 
 same-length-2 : tie.Need-same-length-2
@@ -135,12 +139,12 @@ same-length-2 c = search needs
 returns-2 : tie.Need-returns-2
 unfolding Relax-says
 returns-2 c = λ q x o rep whole h d.
-    let push = c .before .before .before in
+    let push = c .before .before .before .before in
     let test = push .before .before .before .before .before .before .before .before .before in
     let target = test .before .before .before in
     let v = target .load-below .result in
     let r = joined push q x o rep h d in
-    relax-taken q x (push .push .result) _ (target .before .before .args .e) v o false (target-is q _ _ (rep .held .laid) h v (target .load-below .ensures .0)) (sym (tested test q x o rep h d) ∙ push .before .before .before .before .before .before .before .before .if1 .taken)
+    relax-taken q x _ _ (target .before .before .args .e) v o false (target-is q _ _ (rep .held .laid) h v (target .load-below .ensures .0)) (sym (tested test q x o rep h d) ∙ push .before .before .before .before .before .before .before .before .if1 .taken)
     r (floored (c .before) q x o rep d ∙ c .if2 .left) _ (r .counted .broke ∙ rw whole)
 
 same-length-3 : tie.Need-same-length-3
@@ -169,6 +173,7 @@ relax-spec =
     add-store-number-2
     store-number-requires
     push-requires
+    cast-below-floor
     below-floor-requires
     add-r
     same-length

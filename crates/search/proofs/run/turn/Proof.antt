@@ -16,7 +16,7 @@ use Rattle.model.proofs.Rounds.{scan-count}
 use Rattle.search.specs.Asks.{Pop-says, Scan-says, Turn-says}
 use Rattle.search.specs.Cells.{far}
 use Rattle.search.specs.Rep.{Rep}
-use Rattle.search.proofs.Acts.{depth-low, count-small, scan-room, sent-most, counted-rep, link-split, link-two, turn-idle, turn-is}
+use Rattle.search.proofs.Acts.{depth-low, count-small, scan-room, turned-rep, link-split, link-two, turn-idle, turn-is}
 use Rattle.search.proofs.Stores.{there}
 use Rattle.search.proofs.Steps.{head-there, head-is, head-below}
 use borrow.Author.Needs.{needs}
@@ -27,7 +27,6 @@ use Rattle.search.proofs.run.turn.Lts as lts
 use Rattle.search.proofs.cells.load.Reads as load-reads
 use Rattle.search.proofs.cells.load_below.Reads as load-below-reads
 use Rattle.search.proofs.queue.pop.Reads as pop-reads
-use Rattle.search.proofs.run.counted.Reads as counted-reads
 use Rattle.search.proofs.run.scan.Reads as scan-reads
 
 -- the queue, by its head
@@ -39,9 +38,9 @@ split c q x rep pw = link-split (getD (x .queues) (c .before .before .before .ar
 -- the cells after the head has left
 popped : (c : tie.After-pop) (q : Case) (x : State) → let busy = c .before .before in let a = busy .before .before .before .args in
     (rep : Rep q x (a .run) (a .work .now)) → (pw : a .p < q .workers)
-    → Rep q (with-queues (set (x .queues) (a .p) (split busy q x rep pw .0)) x) (c .pop .result) (c .pop .last .0)
+    → Rep q (with-queues (set (x .queues) (a .p) (split busy q x rep pw .0)) x) (a .run) (c .pop .last .0)
 unfolding Pop-says
-popped c q x rep pw = c .pop .ensures q x (split (c .before .before) q x rep pw .0) rep pw (split (c .before .before) q x rep pw .1)
+popped c q x rep pw = c .pop .ensures q x _ (split (c .before .before) q x rep pw .0) rep pw (split (c .before .before) q x rep pw .1)
 
 -- its distance is the depth that the model reads
 read-is : (c : tie.After-load) (q : Case) (x : State) → let head = c .before .before .before .before .before .before in let a = head .before .before .args in
@@ -96,7 +95,7 @@ sub-v c =
 pop-requires : tie.Need-pop-requires
 pop-requires c κs = let s = c .before .before .before .before .pre in
     let t = split (c .before) (s .case) (s .state) (s .rep) (s .worker) in
-    record { case = s .case; state = s .state; rest = t .0; rep = s .rep; worker = s .worker; below = head-below (s .case) (s .state) _ _ _ _ (t .0) (s .rep) (s .worker) (t .1); head = t .1 }
+    record { case = s .case; state = s .state; run = c .before .before .before .before .args .run; rest = t .0; rep = s .rep; worker = s .worker; below = head-below (s .case) (s .state) _ _ _ _ (t .0) (s .rep) (s .worker) (t .1); head = t .1 }
 
 add-load : tie.Need-add-load
 add-load c = search needs
@@ -126,22 +125,19 @@ scan-requires c κs =
       room = scan-room (s .case) (s .state) _ (s .rep .held .laid .sound) (s .rep .held .laid .within) (s .moment) (popped gone (s .case) (s .state) (s .rep) (s .worker) .counted .tallied);
     }
 
-counted-requires : tie.Need-counted-requires
-counted-requires c κs =
-    let busy = c .before .before .before .before .before .before .before .before in
+add-r : tie.Need-add-r
+add-r c =
+    let busy = c .before .before .before .before .before .before .before .before .before in
     let head = busy .before in
     let start = head .before .before in
     let s = start .pre in
     let v = head .load-below .result - 2 in
     let t = split busy (s .case) (s .state) (s .rep) (s .worker) in
-    let scanned = done (c .before) (s .case) (s .state) (s .rep) (s .worker) (s .moment) in (
-      omega (
-        arith,
-        scanned .counted .acts,
-        scan-count (s .case) v (depth-or (getD (s .state .depths) v none)) (with-queues (set (s .state .queues) (start .args .p) (t .0)) (s .state)),
-        count-small (s .case) (s .state) (s .rep .held .laid .sound) (s .rep .held .laid .within) (s .moment),
-      ),
-      sent-most scanned,
+    omega (
+      arith,
+      done (c .before .before) (s .case) (s .state) (s .rep) (s .worker) (s .moment) .counted .acts,
+      scan-count (s .case) v (depth-or (getD (s .state .depths) v none)) (with-queues (set (s .state .queues) (start .args .p) (t .0)) (s .state)),
+      count-small (s .case) (s .state) (s .rep .held .laid .sound) (s .rep .held .laid .within) (s .moment),
     )
 
 same-length-2 : tie.Need-same-length-2
@@ -154,7 +150,7 @@ returns-2 c = λ q x rep m whole pw.
     let busy = scanned .before .before .before .before .before .before .before in
     let head = busy .before in
     let t = split busy q x rep pw in
-    rw (c .counted .ensures, turn-is q x (head .before .before .args .p) (head .load-below .result - 2) (t .0) (t .1)) (counted-rep q _ _ _ (done scanned q x rep pw m))
+    rw (turn-is q x (head .before .before .args .p) (head .load-below .result - 2) (t .0) (t .1)) (turned-rep q _ _ _ (done scanned q x rep pw m))
 
 pub turn-spec : {M : Type 1} → statement M
 turn-spec =
@@ -170,6 +166,6 @@ turn-spec =
     add-load
     load-requires
     scan-requires
-    counted-requires
+    add-r
     same-length-2
     returns-2)

@@ -3,6 +3,7 @@ use Prim.Native.Nat.{_<_}
 use native.Mathlib.Omega.{arith}
 use Rattle.model.specs.Graph.{accepting-count}
 use Rattle.model.specs.Case.{Case}
+use Rattle.model.proofs.Fits.{accepting-few}
 use Rattle.search.specs.Rep.{Laid, Rep}
 use Rattle.search.specs.Asks.{Push-says, Blank-says, Fresh-says, blank-run}
 use Rattle.search.proofs.Fresh.{started, rep-started, fresh-is}
@@ -37,7 +38,11 @@ push-requires c κs =
     let a = c .before .before .before .before .before .before .before in
     let s = a .pre in
     let b : a .args .source < s .case .graph .vertices = omega (arith, s .starts, s .laid .sound .source) in
-    record { case = s .case; state = started (s .case) (a .args .source); rep = begun c (s .case) (s .laid) b (s .counts); below = b }
+    record { case = s .case; state = started (s .case) (a .args .source); run = blank-run (a .args .marks); rep = begun c (s .case) (s .laid) b (s .counts); below = b }
+
+cast-t12 : tie.Need-cast-t12
+cast-t12 c = let s = c .before .before .before .before .before .before .before .before .before .pre in
+    record { fits = omega (arith, s .counts, accepting-few (s .case) (s .laid .sound), s .laid .within .vertices) }
 
 same-length : tie.Need-same-length
 same-length c = search needs
@@ -48,8 +53,8 @@ returns c = λ q l s m.
     let p = c .before .before in
     let a = p .before .before .before .before .before .before .before in
     let b : a .args .source < q .graph .vertices = omega (arith, l .sound .source) in
-    rw (← fresh-is q (a .args .source) s) (c .before .push .ensures q (started q (a .args .source)) (begun p q l b m) b)
+    rw (← fresh-is q (a .args .source) s) (c .before .push .ensures q (started q (a .args .source)) _ (begun p q l b m) b)
 
 pub fresh-spec : {M : Type 1} → statement M
 fresh-spec =
-    tie.close (tie.spec blank-requires add-store store-requires push-requires same-length returns)
+    tie.close (tie.spec blank-requires add-store store-requires push-requires cast-t12 same-length returns)
