@@ -71,7 +71,7 @@ sent-most rep = omega (arith, rep .counted .full)
 pub none-full : (c : Case) (x : State) (k : Run) (w : List ℤ) → Rep c x k w → none-waits k ≡ true → no-message (x .cells) ≡ true
 none-full c x k w rep e = sym (none-waits-is k (x .cells) (rep .counted .full)) ∙ e
 
--- THE END: the floor is broken where the counter has a vertex, and a run that went on otherwise has ended where nothing waits
+-- THE END: the floor is broken where the counter has a vertex; else a run has ended where nothing waits
 module _ {c : Case} {x : State} {k : Run} {w : List ℤ} (rep : Rep c x k w) where
   pub broken-none : k .broken ≡ 0 → x .broken ≡ none
   broken-none z = not-broken (x .broken) (sym (rep .counted .broke) ∙ z)

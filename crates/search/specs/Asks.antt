@@ -103,7 +103,7 @@ pub record Scan-asks (v : ℕ) (d : ℤ) (k : Run) (w : List ℤ) : Type 0 where
 unfoldable pub Scan-says : (v : ℕ) → (d : ℤ) → (k k′ : Run) → (w w′ : List ℤ) → Type 0
 Scan-says v d k k′ w w′ = (c : Case) (x : State) (o : ℕ) → Rep c x k w → v < c .graph .vertices → d ≡ negℤ (pos o) → Rep c (scan c v o x) k′ w′
 
--- ACTS
+-- THE END: whether no cell has a message, by the tallies; whether a run has ended
 abbrev pub none-waits : Run → Bool
 none-waits k = eqb (k .sent - k .delivered) (k .joined)
 
@@ -116,6 +116,7 @@ pub record Over-asks (p : ℕ) (k : Run) (w : List ℤ) : Type 0 where
 unfoldable pub Over-says : (p : ℕ) → (k : Run) → (r : Bool) → (w : List ℤ) → Type 0
 Over-says p k r w = (c : Case) (x : State) → Rep c x k w → Moment c x → p ≡ c .workers → r ≡ has-ended x
 
+-- ACTS
 pub record Turn-asks (p : ℕ) (k : Run) (w : List ℤ) : Type 0 where
   pub case : Case
   pub state : State
