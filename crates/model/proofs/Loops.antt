@@ -10,13 +10,13 @@ use native.Mathlib.Omega.{arith}
 use native.Mathlib.Nat.{zero-add, suc-add}
 use lib.Dec.{ltb, eqb, T}
 use borrow.Author.Tests.{ltb-true, ltb-false, eqb-true, eqb-false}
-use lib.ListN.{length, getD}
+use lib.ListN.{length, getD, List·getD-eq-default}
 use Rattle.model.specs.Graph.{Graph, edge, edge-depth, accepting-count, is-walk, walk-end, walk-depth}
 use Rattle.model.specs.Case.{Case}
 use Rattle.model.specs.Run.{State, member}
 use Rattle.model.specs.Answer.{one-back, back, cycle-start, with-parent, cycle-from, cycle}
 use Rattle.text.proofs.Tests.{Test, test, or-cases, clash, holds, fails}
-use Rattle.model.proofs.Tools.{Once, getD-out, some-not-none, some-inj}
+use Rattle.model.proofs.Tools.{Once, some-not-none, some-inj}
 use Rattle.model.proofs.Pigeon.{marks-on, once-marks, Twice, pigeon-twice}
 use Rattle.model.proofs.Walks.{walk-cons}
 use Rattle.model.proofs.Trace.{Link, Traced}
@@ -110,7 +110,7 @@ alive-below n g ps v s f = go (test (ltb v (length ps))) (alive-parent g ps v f)
   where
     go : Test (ltb v (length ps)) → (e : ℕ) × (getD ps v none ≡ some e) → v < n
     go (holds h) p = rw s at (ltb-true v (length ps) h)
-    go (fails h) p = some-not-none (getD ps v none) (p .0) (p .1) (getD-out ps v none (ltb-false v (length ps) h))
+    go (fails h) p = some-not-none (getD ps v none) (p .0) (p .1) (List·getD-eq-default ps none (ltb-false v (length ps) h))
 
 -- n back from where the parents never end one is on a cycle
 on-cycle : (n : ℕ) (g : Graph) (ps : List (Option ℕ)) (b : ℕ) → length ps ≡ n → Alive g ps b → (p : ℕ) × (p < n) × (back (suc p) g ps (back n g ps b) ≡ back n g ps b)

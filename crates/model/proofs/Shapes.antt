@@ -8,14 +8,14 @@ use Prim.Native.Nat.{ℕ, _≤_, _<_}
 use native.Mathlib.Omega.{arith}
 use lib.Dec.{ltb}
 use borrow.Author.Tests.{ltb-true, ltb-false}
-use lib.ListN.{length, getD, set, replicate, length-set, length-replicate}
+use lib.ListN.{length, getD, set, replicate, length-set, length-replicate, List·getD-eq-default}
 use lib.Seq.{getD-set-same, getD-set-other}
 use Rattle.model.specs.Graph.{edge, accepting-count}
 use Rattle.model.specs.Case.{Case, owner, Sound}
 use Rattle.model.specs.Run.{Tallies, State, is-some, ended-lasso, has-ended, fresh, with-queues, with-cells, member, enqueue, below-floor, relax, counted, depth-or}
 use Rattle.model.specs.Passing.{above}
 use Rattle.text.proofs.Tests.{Test, test, Same, same?, or-false, clash, holds, fails, same, other}
-use Rattle.model.proofs.Tools.{Once, once-snoc, getD-out, some-not-none, none-of, once-tail, member-later, member-first, getD-replicate-same, set-some, some-inj, snoc-in, some-after}
+use Rattle.model.proofs.Tools.{Once, once-snoc, some-not-none, none-of, once-tail, member-later, member-first, getD-replicate-same, set-some, some-inj, snoc-in, some-after}
 use Rattle.model.proofs.Steps.{relax-cases}
 
 pub record Shape (c : Case) (x : State) : Type 0 where
@@ -144,7 +144,7 @@ module _ (c : Case) (ok : Sound c) where
     where
       go : Test (ltb e (length (x .cells))) → e < length (c .graph .edges)
       go (holds t) = rw (s .cells) at (ltb-true e (length (x .cells)) t)
-      go (fails t) = some-not-none (getD (x .cells) e none) d h (getD-out (x .cells) e none (omega (arith, ltb-false)))
+      go (fails t) = some-not-none (getD (x .cells) e none) d h (List·getD-eq-default (x .cells) none (omega (arith, ltb-false)))
 
   -- the depth that a scan reads
   pub head-depth : (w v : ℕ) (q : List ℕ) (x : State) → Shape c x → getD (x .queues) w [] ≡ v ∷ q → getD (x .depths) v none ≡ some (depth-or (getD (x .depths) v none))

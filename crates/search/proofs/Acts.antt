@@ -85,22 +85,22 @@ unfolding has-ended ended-lasso is-some
 empty-ended x b = rw b
 
 module _ (c : Case) (x : State) (ok : Sound c) (m : Moment c x) (whole : x .broken ≡ none) where
-  pub waits-none : has-ended x ≡ true → Nothing-waits x
-  waits-none o = rules-kept c ok x m .empty-only (sym (empty-ended x whole) ∙ o) .1
+  pub nothing-left : has-ended x ≡ true → Nothing-waits x
+  nothing-left o = rules-kept c ok x m .empty-only (sym (empty-ended x whole) ∙ o) .1
 
   -- the end is told by the queues and the tallies
   pub over-full : (k : Run) (w : List ℤ) → Rep c x k w → none-waits k ≡ false → has-ended x ≡ false
   over-full k w rep e = go (has-ended x) refl
     where
       go : (b : Bool) → has-ended x ≡ b → has-ended x ≡ false
-      go true o = clash _ (none-waits-is k (x .cells) (rep .counted .full) ∙ waits-none o .cells) e
+      go true o = clash _ (none-waits-is k (x .cells) (rep .counted .full) ∙ nothing-left o .cells) e
       go false o = o
 
   pub over-queued : (b : Bool) (k : Run) (w : List ℤ) → Rep c x k w → none-waits k ≡ true → b ≡ no-vertex (x .queues) → b ≡ has-ended x
   over-queued b k w rep e q = go (has-ended x) refl b refl
     where
       go : (h : Bool) → has-ended x ≡ h → (b′ : Bool) → b ≡ b′ → b ≡ has-ended x
-      go true o b′ i = q ∙ waits-none o .queues ∙ sym o
+      go true o b′ i = q ∙ nothing-left o .queues ∙ sym o
       go false o false i = i ∙ sym o
       go false o true i = clash _ (rules-kept c ok x m .empty-always (record { queues = sym q ∙ i; cells = none-full c x k w rep e })) o
 
@@ -112,11 +112,6 @@ link-split (u ∷ q) h e n = let z : u ≡ h - 2 = omega arith in (q, ap (λ (i 
 pub link-two : (q : List ℕ) (h : ℕ) → link q ≡ h → (h ≡ 1 → ⊥) → 2 ≤ h
 link-two [] h e n = absurd (n (sym e))
 link-two (u ∷ q) h e n = omega arith
-
-pub turn-idle : (c : Case) (x : State) (k : Run) (w : List ℤ) (p : ℕ) → Rep c x k w → (q : List ℕ) → getD (x .queues) p [] ≡ q → link q ≡ 1 → Rep c (turn c p x) k w
-unfolding turn turn-of
-turn-idle c x k w p rep [] e h = rw e rep
-turn-idle c x k w p rep (u ∷ q) e h = absurd (omega arith)
 
 pub turn-none : (c : Case) (x : State) (p : ℕ) → getD (x .queues) p [] ≡ [] → turn c p x ≡ x
 unfolding turn turn-of
@@ -156,12 +151,12 @@ pub delivery-some : (c : Case) (e o : ℕ) (x : State) → getD (x .cells) e non
 unfolding delivery delivery-of
 delivery-some c e o x h = rw h
 
--- the counters once a message is delivered, and the state of the model in which that act is counted
+-- the counters once a message is delivered: code counts the act there and then, the model after the relaxing
 abbrev pub emptied-run : Run → Run
 emptied-run k = record { turns = k .turns; sent = k .sent; delivered = k .delivered + 1; joined = k .joined; marks = k .marks; broken = k .broken }
 
-abbrev pub handed : (e : ℕ) → State → State
-handed e x =
+abbrev pub emptied-counted : (e : ℕ) → State → State
+emptied-counted e x =
     record {
       depths = x .depths;
       parents = x .parents;
@@ -173,8 +168,16 @@ handed e x =
       tallies = deliver-one (x .tallies);
     }
 
+-- the cells do not say whether a run ended as "empty"
+abbrev with-end : Bool → State → State
+with-end b x =
+    record { depths = x .depths; parents = x .parents; queues = x .queues; cells = x .cells; broken = x .broken; ended-empty = b; count = x .count; tallies = x .tallies }
+
+ended-either : {c : Case} (x : State) (k : Run) (w : List ℤ) (b : Bool) → Rep c x k w → Rep c (with-end b x) k w
+ended-either x k w b rep = record { links = rep .links; heads = rep .heads; tails = rep .tails; held = rep .held; lined = rep .lined; counted = rep .counted }
+
 module _ (c : Case) (x : State) (k : Run) (w : List ℤ) (e o : ℕ) where
-  pub cell-emptied : Rep c x k w → e < length (c .graph .edges) → getD (x .cells) e none ≡ some o → Rep c (handed e x) (emptied-run k) (set w (message-at + e) (pos 1))
+  pub cell-emptied : Rep c x k w → e < length (c .graph .edges) → getD (x .cells) e none ≡ some o → Rep c (emptied-counted e x) (emptied-run k) (set w (message-at + e) (pos 1))
   cell-emptied rep below there =
       let q = rep .counted in
       record {
@@ -192,13 +195,13 @@ module _ (c : Case) (x : State) (k : Run) (w : List ℤ) (e o : ℕ) where
         };
       }
 
-  pub offer-tried : Rep c (relax c e o (handed e x)) k w → Rep c (counted (relax c e o (emptied e x))) k w
+  pub counted-last : Rep c (relax c e o (emptied-counted e x)) k w → Rep c (counted (relax c e o (emptied e x))) k w
   unfolding relax
-  offer-tried rep = go (takes (getD (x .depths) (edge (c .graph) e .to) none) o) rep
+  counted-last = go (takes (getD (x .depths) (edge (c .graph) e .to) none) o)
     where
-      go : (b : Bool) → Rep c (cond b (taken c e o (handed e x)) (handed e x)) k w → Rep c (counted (cond b (taken c e o (emptied e x)) (emptied e x))) k w
-      go true r = record { links = r .links; heads = r .heads; tails = r .tails; held = r .held; lined = r .lined; counted = r .counted }
-      go false r = record { links = r .links; heads = r .heads; tails = r .tails; held = r .held; lined = r .lined; counted = r .counted }
+      go : (b : Bool) → Rep c (cond b (taken c e o (emptied-counted e x)) (emptied-counted e x)) k w → Rep c (counted (cond b (taken c e o (emptied e x)) (emptied e x))) k w
+      go true r = ended-either (taken c e o (emptied-counted e x)) k w _ r
+      go false r = ended-either (emptied-counted e x) k w _ r
 
 -- ACTS
 pub act-turn : (c : Case) (a : ℕ) (x : State) → has-ended x ≡ false → a < c .workers → act c a x ≡ turn c a x
@@ -215,14 +218,14 @@ module _ (c : Case) (x : State) (ok : Sound c) (m : Moment c x) (whole : x .brok
   turn-act a l = go (has-ended x) refl
     where
       go : (b : Bool) → has-ended x ≡ b → act c a x ≡ turn c a x
-      go true o = act-over c a x o ∙ sym (turn-none c x a (no-queue (x .queues) (waits-none c x ok m whole o .queues) a))
+      go true o = act-over c a x o ∙ sym (turn-none c x a (no-queue (x .queues) (nothing-left c x ok m whole o .queues) a))
       go false o = act-turn c a x o l
 
   pub delivery-act : (a p : ℕ) → p ≡ c .workers → p ≤ a → act c a x ≡ delivery c (a - p) x
   delivery-act a p w l = go (has-ended x) refl
     where
       go : (b : Bool) → has-ended x ≡ b → act c a x ≡ delivery c (a - p) x
-      go true o = act-over c a x o ∙ sym (delivery-none c (a - p) x (no-cell (x .cells) (waits-none c x ok m whole o .cells) (a - p)))
+      go true o = act-over c a x o ∙ sym (delivery-none c (a - p) x (no-cell (x .cells) (nothing-left c x ok m whole o .cells) (a - p)))
       go false o = act-delivery c a p x o w l
 
 -- the depth that a scan reads is not below the floor

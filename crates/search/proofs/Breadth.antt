@@ -6,12 +6,12 @@ use mathlib.Core.List.{List, [], _∷_, _++_}
 use mathlib.Core.Logic.{_⊎_, inl, inr}
 use Prim.Native.Nat.{ℕ, suc, _+_, _≤_, _<_}
 use native.Mathlib.Omega.{arith}
-use lib.ListN.{length, getD, set, replicate, length-append, length-set, length-replicate, List·getD-append}
+use lib.ListN.{length, getD, set, replicate, length-append, length-set, length-replicate, List·getD-append, List·getD-eq-default}
 use lib.Seq.{append-snoc, getD-set-same, getD-set-other, getD-append-seam}
 use Rattle.model.specs.Graph.{Graph, edge, is-walk, walk-end, Reaches, Lex, Fewest}
 use Rattle.model.proofs.Walks.{Steps, steps, walk-snoc, walk-end-snoc}
 use Rattle.model.proofs.Stems.{fewest-one}
-use Rattle.model.proofs.Tools.{getD-out, getD-replicate-same}
+use Rattle.model.proofs.Tools.{getD-replicate-same}
 use Rattle.model.proofs.Pigeon.{pigeon-twice}
 use Rattle.search.specs.Show.{Le, Less, tip, Made, Tree, Scanned, at-source, by-edge}
 use Rattle.search.proofs.Regions.{same-or, below-or}
@@ -241,7 +241,7 @@ tree-few g ts ms r low = go (below-or (g .vertices) (length ts))
   where
     walks : (i : ℕ) → (i < length ts) ⊎ (length ts ≤ i) → tip g (getD ts i []) < g .vertices
     walks i (inl h) = low (tip g (getD ts i [])) (getD ts i []) (r .fewest i h .reaches)
-    walks i (inr h) = low (tip g (getD ts i [])) [] (record { walks = unfold is-walk in refl; arrives = rw (getD-out ts i [] h) refl })
+    walks i (inr h) = low (tip g (getD ts i [])) [] (record { walks = unfold is-walk in refl; arrives = rw (List·getD-eq-default ts [] h) refl })
 
     go : (g .vertices < length ts) ⊎ (length ts ≤ g .vertices) → length ts ≤ g .vertices
     go (inr h) = h

@@ -8,12 +8,12 @@ use Prim.Native.Nat.{ℕ, suc, _+_, _-_, _≤_, _<_}
 use native.Mathlib.Omega.{arith}
 use borrow.Author.Tests.{eqb-true, eqb-false}
 use lib.Dec.{eqb}
-use lib.ListN.{length, getD, set}
+use lib.ListN.{length, getD, set, List·getD-eq-default}
 use lib.IntN.{ℤ, pos}
 use Rattle.model.specs.Graph.{Graph, edge}
 use Rattle.model.specs.Case.{Case, most-edges}
 use Rattle.model.specs.Answer.{one-back, back, with-parent, cycle-start, cycle-from, cycle}
-use Rattle.model.proofs.Tools.{getD-out, some-not-none}
+use Rattle.model.proofs.Tools.{some-not-none}
 use Rattle.model.specs.Run.{State}
 use Rattle.model.proofs.Trace.{Trace}
 use Rattle.model.proofs.Walked.{Walked}
@@ -45,7 +45,7 @@ module _ (c : Case) (ps : List (Option ℕ)) (v : ℕ) (w : List ℤ) (l : Lies 
     where
       go : (v < length ps) ⊎ (length ps ≤ v) → v < c .graph .vertices
       go (inl h) = omega (arith, l .sized)
-      go (inr h) = let p = chained-here (c .graph) ps v f in some-not-none (getD ps v none) (p .0) (p .1) (getD-out ps v none h)
+      go (inr h) = let p = chained-here (c .graph) ps v f in some-not-none (getD ps v none) (p .0) (p .1) (List·getD-eq-default ps none h)
 
   parent-cell : (e : ℕ) → getD ps v none ≡ some e → getD w (parent-at + v) (pos 0) ≡ pos (suc e)
   parent-cell e h = l .parents .each v (omega (arith, l .sized, chained-below)) ∙ rw h refl

@@ -155,7 +155,7 @@ pub distances-at : {c : Case} {x : State} {k : Run} {n s : ℕ} {w : List ℤ} {
 distances-at g = let l = g .rep .held .laid in record { few = omega (arith, g .vertices, l .within .vertices); inside = omega (arith, l .long, g .vertices, l .within .vertices) }
 
 -- then the outcome
-module _ (k : Run) (p n s : ℕ) (w : List ℤ) (o : List ℕ) (over : Bool) (says : Over-says p k over w) where
+module _ {k : Run} {p n s : ℕ} {w : List ℤ} {o : List ℕ} {over : Bool} (says : Over-says p k over w) where
   ended-is : {c : Case} {x : State} → Gone c x k n s w o → p ≡ c .workers → (b : Bool) → over ≡ b → has-ended x ≡ b
   unfolding Over-says
   ended-is {c} {x} g q b e = sym (says c x (g .rep) (g .moment) q) ∙ e

@@ -7,12 +7,12 @@ use Prim.Native.Nat.{ℕ, _+_, _≤_, _<_}
 use native.Mathlib.Omega.{arith}
 use lib.Dec.{eqb}
 use borrow.Author.Tests.{eqb-true, eqb-false, eq-eqb, ne-eqb}
-use lib.ListN.{length, getD, set, length-set}
+use lib.ListN.{length, getD, set, length-set, List·getD-eq-default}
 use lib.Seq.{getD-set-same, getD-set-other}
 use Rattle.model.specs.Case.{Case, owner}
 use Rattle.model.specs.Run.{member, no-vertex}
 use Rattle.text.proofs.Tests.{or-false, or-cases, or-right}
-use Rattle.model.proofs.Tools.{member-first, member-later, getD-out, no-queue, no-queues}
+use Rattle.model.proofs.Tools.{member-first, member-later, no-queue, no-queues}
 use Rattle.search.specs.Rep.{link, Linked, Ends, Lined}
 use Rattle.search.proofs.Regions.{same-or, below-or}
 
@@ -120,7 +120,14 @@ all-empty qs p l f = no-queues qs (λ j. go j (below-or j p))
   where
     go : (j : ℕ) → (j < p) ⊎ (p ≤ j) → getD qs j [] ≡ []
     go j (inl b) = f j b
-    go j (inr b) = getD-out qs j [] (omega arith)
+    go j (inr b) = List·getD-eq-default qs [] (omega arith)
+
+pub one-more : (qs : List (List ℕ)) (p : ℕ) → ((j : ℕ) → j < p → getD qs j [] ≡ []) → getD qs p [] ≡ [] → (j : ℕ) → j < p + 1 → getD qs j [] ≡ []
+one-more qs p f e j l = go (same-or j p)
+  where
+    go : (j ≡ p) ⊎ (j ≡ p → ⊥) → getD qs j [] ≡ []
+    go (inl q) = rw q e
+    go (inr n) = f j (omega (arith, n))
 
 no-member : (v : ℕ) → member v [] ≡ false
 unfolding member

@@ -26,8 +26,8 @@ use Rattle.search.specs.Rep.{Firsts, Rep, link}
 use Rattle.search.specs.Asks.{none-waits, Inserted, Among, Listed, Only, Turns-leave}
 use Rattle.search.proofs.Regions.{same-or, below-or}
 use Rattle.search.proofs.Inserts.{among-new, among-old, listed-more, each-more}
-use Rattle.search.proofs.Queues.{link-one, all-empty}
-use Rattle.search.proofs.Acts.{none-full, broken-none, waits-none, link-split, link-two, turn-none, turn-is, delivery-none, delivery-some, act-turn, act-delivery, delivery-act}
+use Rattle.search.proofs.Queues.{link-one, all-empty, one-more}
+use Rattle.search.proofs.Acts.{none-full, broken-none, nothing-left, link-split, link-two, turn-none, turn-is, delivery-none, delivery-some, act-turn, act-delivery, delivery-act}
 
 -- ACTS BY NUMBER
 step-range : (c : Case) (k i : ℕ) (x : State) → acted c (range (suc k) i) x ≡ acted c (range k (suc i)) (act c i x)
@@ -235,12 +235,8 @@ module _ (c : Case) (x : State) (p : ℕ) (e : p ≡ c .workers) where
         listed = u .listed;
         theirs = λ j m. omega (arith, u .theirs j m);
         only = subst (λ (y : State). Only c H n y) (sym i) (u .only);
-        idle = λ z j m. subst (λ (y : State). getD (y .queues) j [] ≡ []) (sym i) (go z j m empty (same-or j w));
+        idle = λ z. subst (λ (y : State). (j : ℕ) → j < w + 1 → getD (y .queues) j [] ≡ []) (sym i) (one-more (u .along .at .queues) w (u .idle z) empty);
       }
-    where
-      go : n ≡ 0 → (j : ℕ) → j < w + 1 → getD (u .along .at .queues) w [] ≡ [] → (j ≡ w) ⊎ (j ≡ w → ⊥) → getD (u .along .at .queues) j [] ≡ []
-      go z j m e (inl q) = rw q e
-      go z j m e (inr d) = u .idle z j (omega (arith, d))
 
   pub turns-step : (H H′ : List ℕ) (n w h : ℕ) (k k′ : Run) (cells cells′ : List ℤ) → (u : Turning c x p H n w k cells) → w < p → Inserted n h H H′
       → link (getD (u .along .at .queues) w []) ≡ h → (h ≡ 1 → ⊥) → Rep c (act c w (u .along .at)) k′ cells′ → Turning c x p H′ (n + 1) (w + 1) k′ cells′
@@ -496,7 +492,7 @@ module _ (c : Case) (x : State) (many : ℕ) where
   left-empty left k w u z = go (has-ended (u .at)) refl
     where
       go : (b : Bool) → has-ended (u .at) ≡ b → no-message (u .at .cells) ≡ true
-      go true o = waits-none c (u .at) (u .rep .held .laid .sound) (u .moment) (broken-none (u .rep) z) o .cells
+      go true o = nothing-left c (u .at) (u .rep .held .laid .sound) (u .moment) (broken-none (u .rep) z) o .cells
       go false o = u .empty o
 
   pub left-step : (left : ℕ) (k k′ : Run) (w w′ : List ℤ) → (u : Left c x many left k w) → 0 < left → Rep c (acted c (round-acts c) (u .at)) k′ w′ → Left c x many (left - 1) k′ w′

@@ -96,7 +96,7 @@ pub(crate) fn sweep(work: &mut [i32], run: Run, p: usize, heads: &[usize]) -> Ru
     r
 }
 
-// A round; the list that its turns leave is lent.
+// A round. The list for the vertices that it scans is lent.
 pub(crate) fn round(work: &mut [i32], run: Run, p: usize, heads: &mut [usize]) -> Turned
     requires { ⌜ Turns-ask p run (now work) (length (now heads)) ⌝ }
     ensures { λ r. ⌜ Round-says p run r (now (work .entry)) (now (work .exit)) (length (now (heads .entry))) ⌝ }

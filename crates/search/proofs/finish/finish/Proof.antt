@@ -24,7 +24,7 @@ returns : tie.Need-returns
 returns c =
     let unfinished = c .before .before .before in
     let over = unfinished .before in
-    finish-cut _ _ _ _ _ _ _ (over .is-over .ensures) (refuted _ _ (unfinished .if1 .taken) refl) (c .before .clear .ensures) (over .before .before .acts-done .ensures)
+    finish-cut (over .is-over .ensures) (refuted _ _ (unfinished .if1 .taken) refl) (c .before .clear .ensures) (over .before .before .acts-done .ensures)
 
 write-answer-requires : tie.Need-write-answer-requires
 write-answer-requires c κs = c .before .before .before .before .before .before .before .pre .answer
@@ -41,7 +41,7 @@ cast-t24 c =
     let finished = written .before .before .before in
     let over = finished .before in
     let s = over .before .before .before .before .pre in
-    record { fits = omega (arith, done-written _ _ _ _ _ _ _ (over .is-over .ensures) (s .answer .gone) (s .workers) (upheld _ _ (finished .if1 .left) refl) (written .write-answer .ensures)) }
+    record { fits = omega (arith, done-written (over .is-over .ensures) (s .answer .gone) (s .workers) (upheld _ _ (finished .if1 .left) refl) (written .write-answer .ensures)) }
 
 same-length-2 : tie.Need-same-length-2
 same-length-2 c = search needs
@@ -55,7 +55,7 @@ returns-2 c =
     let written = cleared .before .before .before .before .before in
     let finished = written .before .before .before in
     let over = finished .before in
-    finish-done _ _ _ _ _ _ _ (over .is-over .ensures) _ (upheld _ _ (finished .if1 .left) refl) (written .write-answer .ensures) (cleared .clear2 .ensures) (written .write-answer .kept .1 .0) (c .verdict .ensures) (over .before .before .acts-done .ensures)
+    finish-done (over .is-over .ensures) _ (upheld _ _ (finished .if1 .left) refl) (written .write-answer .ensures) (cleared .clear2 .ensures) (written .write-answer .kept .1 .0) (c .verdict .ensures) (over .before .before .acts-done .ensures)
 
 pub finish-spec : {M : Type 1} → statement M
 finish-spec =

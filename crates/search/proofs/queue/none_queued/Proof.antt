@@ -1,8 +1,7 @@
 -- `queue::none_queued` meets its contract: the queues of the workers before w are empty. Assumes nothing.
 use mathlib.Core.Path.{_≡_, sym}
 use mathlib.Core.List.{[]}
-use mathlib.Core.Logic.{_⊎_, inl, inr}
-use Prim.Native.Nat.{ℕ, _+_, _-_, _≤_, _<_}
+use Prim.Native.Nat.{ℕ, _-_, _≤_, _<_}
 use native.Mathlib.Omega.{arith}
 use lib.ListN.{getD}
 use Rattle.model.specs.Case.{Case}
@@ -10,9 +9,8 @@ use Rattle.model.specs.Run.{State}
 use Rattle.search.specs.declared.run.Run.{Run}
 use Rattle.search.specs.Asks.{Queues-say}
 use Rattle.search.specs.Rep.{Rep}
-use Rattle.search.proofs.Regions.{same-or}
 use Rattle.search.proofs.Steps.{head-there, head-is}
-use Rattle.search.proofs.Queues.{link-one, some-vertex, all-empty}
+use Rattle.search.proofs.Queues.{link-one, some-vertex, all-empty, one-more}
 use borrow.Author.Needs.{needs}
 use Rattle.search.proofs.queue.none_queued.Statement.{statement}
 use Rattle.search.proofs.queue.none_queued.Tie as tie
@@ -56,14 +54,13 @@ loop-less : tie.Need-loop-less Inv-loop μ-loop
 loop-less c = omega (arith, c .before .before .loop-test .taken)
 
 loop-again : tie.Need-loop-again Inv-loop μ-loop
-loop-again c = (omega (arith, c .before .before .loop-test .taken), λ q x k rep e j h. go q x k rep e j h (same-or j (c .before .before .before .loop .w)))
-  where
-    go : (q : Case) (x : State) (k : Run) → Rep q x k (c .before .before .before .before .args .work .now) → c .before .before .before .before .args .p ≡ q .workers → (j : ℕ) → j < c .before .before .before .loop .w + 1
-        → (j ≡ c .before .before .before .loop .w) ⊎ (j ≡ c .before .before .before .loop .w → ⊥) → getD (x .queues) j [] ≡ []
-    go q x k rep e j h (inl i) =
-        let test = c .before .before in
-        rw i (link-one (getD (x .queues) (test .before .loop .w) []) (head-is q x _ _ _ rep (omega (arith, test .loop-test .taken)) _ (rw (c .if1 .left) at (c .before .load-below .ensures .0))))
-    go q x k rep e j h (inr n) = c .before .before .before .loop .inv .1 q x k rep e j (omega (arith, n))
+loop-again c =
+    let test = c .before .before in (
+      omega (arith, test .loop-test .taken),
+      λ q x k rep e.
+          one-more (x .queues) (test .before .loop .w) (test .before .loop .inv .1 q x k rep e)
+          (link-one (getD (x .queues) (test .before .loop .w) []) (head-is q x _ _ _ rep (omega (arith, test .loop-test .taken)) _ (rw (c .if1 .left) at (c .before .load-below .ensures .0)))),
+    )
 
 returns-2 : tie.Need-returns-2 Inv-loop μ-loop
 unfolding Queues-say

@@ -14,7 +14,7 @@ use Rattle.search.specs.Asks.{Relax-says, Deliver-says}
 use Rattle.search.specs.Cells.{far}
 use Rattle.search.specs.Rep.{Rep}
 use Rattle.search.proofs.Stores.{there}
-use Rattle.search.proofs.Acts.{delivery-room, offer-tried, emptied-run, handed, some-there, delivery-none, delivery-some, cell-emptied}
+use Rattle.search.proofs.Acts.{delivery-room, counted-last, emptied-run, emptied-counted, some-there, delivery-none, delivery-some, cell-emptied}
 use Rattle.search.proofs.Numbers.{none-is, none-test}
 use borrow.Author.Needs.{needs}
 use Rattle.search.proofs.run.deliver.Statement.{statement}
@@ -52,7 +52,7 @@ offer-is c q x rep h =
 -- the cells once it is emptied
 left : (c : tie.After-store) (q : Case) (x : State) → let a = c .before .before .before .before .before .before .args in
     (rep : Rep q x (a .run) (a .work .now)) → (h : a .e < length (q .graph .edges))
-    → Rep q (handed (a .e) x) (emptied-run (a .run)) (c .store .last .0)
+    → Rep q (emptied-counted (a .e) x) (emptied-run (a .run)) (c .store .last .0)
 left c q x rep h =
     let waiting = c .before .before in
     let m = waits waiting q x rep h in
@@ -62,13 +62,13 @@ left c q x rep h =
 -- and the offer relaxed
 relaxed : (c : tie.After-relax) (q : Case) (x : State) → let waiting = c .before .before .before .before .before .before in let a = waiting .before .before .before .before .args in
     (rep : Rep q x (a .run) (a .work .now)) → x .broken ≡ none → (h : a .e < length (q .graph .edges))
-    → let e = a .e in Rep q (relax q e (waits waiting q x rep h .0) (handed e x)) (c .relax .result) (c .relax .last .0)
+    → let e = a .e in Rep q (relax q e (waits waiting q x rep h .0) (emptied-counted e x)) (c .relax .result) (c .relax .last .0)
 unfolding Relax-says
 relaxed c q x rep whole h =
     let stored = c .before .before .before .before in
     let waiting = stored .before .before in
     let a = waiting .before .before .before .before .args in
-    c .relax .ensures q (handed (a .e) x) (waits waiting q x rep h .0) (left stored q x rep h) whole h (offer-is waiting q x rep h)
+    c .relax .ensures q (emptied-counted (a .e) x) (waits waiting q x rep h .0) (left stored q x rep h) whole h (offer-is waiting q x rep h)
 
 add-load : tie.Need-add-load
 add-load c = search needs
@@ -109,7 +109,7 @@ relax-requires c κs =
     let s = start .pre in
     record {
       case = s .case;
-      state = handed (start .args .e) (s .state);
+      state = emptied-counted (start .args .e) (s .state);
       offer = waits waiting (s .case) (s .state) (s .rep) (s .below) .0;
       rep = left stored (s .case) (s .state) (s .rep) (s .below);
       below = s .below;
@@ -126,7 +126,7 @@ returns-2 c = λ q x rep whole h.
     let waiting = taken .before .before .before .before .before .before in
     let a = waiting .before .before .before .before .args in
     let m = waits waiting q x rep h in
-    rw (delivery-some q (a .e) (m .0) x (m .1)) (offer-tried q x _ _ (a .e) (m .0) (relaxed taken q x rep whole h))
+    rw (delivery-some q (a .e) (m .0) x (m .1)) (counted-last q x _ _ (a .e) (m .0) (relaxed taken q x rep whole h))
 
 pub deliver-spec : {M : Type 1} → statement M
 deliver-spec =

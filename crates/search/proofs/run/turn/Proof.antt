@@ -1,5 +1,5 @@
 use Rattle.model.proofs.Shapes.{head-depth}
-use mathlib.Core.Path.{_≡_, refl, ap, _∙_}
+use mathlib.Core.Path.{_≡_, ap, _∙_}
 use mathlib.Core.List.{List, [], _∷_}
 use mathlib.Core.Option.{none}
 use Prim.Native.Nat.{ℕ, _-_, _<_}
@@ -16,8 +16,9 @@ use Rattle.model.proofs.Rounds.{scan-count}
 use Rattle.search.specs.Asks.{Pop-says, Scan-says, Turn-says}
 use Rattle.search.specs.Cells.{far}
 use Rattle.search.specs.Rep.{Rep}
-use Rattle.search.proofs.Acts.{depth-low, count-small, scan-room, turned-rep, link-split, link-two, turn-idle, turn-is}
+use Rattle.search.proofs.Acts.{depth-low, count-small, scan-room, turned-rep, link-split, link-two, turn-none, turn-is}
 use Rattle.search.proofs.Stores.{there}
+use Rattle.search.proofs.Queues.{link-one}
 use Rattle.search.proofs.Steps.{head-there, head-is, head-below}
 use borrow.Author.Needs.{needs}
 use Rattle.search.proofs.run.turn.Statement.{statement}
@@ -84,7 +85,9 @@ same-length c = search needs
 
 returns : tie.Need-returns
 unfolding Turn-says
-returns c = λ q x rep m whole pw. turn-idle q x _ _ (c .before .before .before .args .p) rep _ refl (head-is q x _ _ _ rep pw _ (c .before .load-below .ensures .0) ∙ c .if1 .taken)
+returns c = λ q x rep m whole pw.
+    let p = c .before .before .before .args .p in
+    rw (turn-none q x p (link-one (getD (x .queues) p []) (head-is q x _ _ _ rep pw _ (c .before .load-below .ensures .0) ∙ c .if1 .taken))) rep
 
 sub-v : tie.Need-sub-v
 sub-v c =
