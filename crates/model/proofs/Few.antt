@@ -232,7 +232,7 @@ module _ (c : Case) (ok : Sound c) where
       empty : (e : ℕ) → getD (fresh c .cells) e none ≡ none
       empty e = unfold fresh in (getD-replicate-same (length (c .graph .edges)) e none)
 
-      zero-bit : bit (is-some none) ≡ 0
+      zero-bit : bit (is-some {A = ℕ} none) ≡ 0
       zero-bit = unfold bit is-some in refl
 
   pub fresh-paid : Paid c (fresh c)

@@ -27,3 +27,13 @@ pub mod CheckerComplete
 pub mod Kept
 pub mod EntriesKept
 pub mod KeptRuns
+pub mod ClaimItems
+pub mod ClaimLabels
+pub mod ClaimSpelling
+pub mod ClaimComplete
+pub mod ClaimGood
+pub mod ClaimFirstTold
+pub mod ClaimDefinite
+pub mod ClaimSound
+pub mod ClaimWhole
+pub mod ClaimRows

@@ -6,5 +6,12 @@ pub mod Run
 pub mod Answer
 pub mod Passing
 pub mod Entry
+pub mod ClaimTokens
+pub mod ClaimLabels
+pub mod ClaimGrammar
+pub mod ClaimTable
+pub mod Claim
+pub mod ClaimPromise
 pub mod Promise
 pub mod KeptRuns
+pub mod ClaimRows

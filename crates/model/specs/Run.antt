@@ -44,9 +44,9 @@ pub record State : Type 0 where
 unfoldable pub distance : (depth : ℕ) → ℤ
 distance d = negℤ (pos d)
 
-unfoldable pub is-some : Option ℕ → Bool
+unfoldable pub is-some : {A : Type 0} → Option A → Bool
 is-some none = false
-is-some (some k) = true
+is-some (some a) = true
 
 -- a run ended as "lasso"; it ended as "lasso" or as "empty"
 unfoldable pub ended-lasso : State → Bool
