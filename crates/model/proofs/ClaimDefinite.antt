@@ -1,6 +1,6 @@
 -- A claim gets 0, 14, 15 or 16: every fault of the table is 15 or 16.
 use Rattle.model.specs.Run.{is-some}
-use mathlib.Core.Path.{_≡_, refl}
+use mathlib.Core.Path.{subst, ap, _≡_, refl}
 use mathlib.Core.Bool.{Bool, true, false, _&&_, _||_, not, cond}
 use mathlib.Core.List.{List, [], _∷_}
 use mathlib.Core.Logic.{_⊎_, inl, inr}
@@ -16,7 +16,7 @@ use Rattle.model.specs.ClaimLabels.{or-level, and-level, Label, deepest,
 use Rattle.model.specs.ClaimGrammar.{Item, states, start, skipped, State, Syntax, item-fits, header-whole, state-count, start-state, proposition-names, has-acceptance, small-first, count-in, has-line, title-fits, most-propositions, is-plain}
 use Rattle.model.specs.ClaimTokens.{tokens, opens}
 use Rattle.model.specs.ClaimPromise.{Claims-definite}
-use Rattle.model.specs.ClaimTable.{refusal-of, claim-refusal, whole, after-start, after-acceptance, Part, numbered, titled, marked, edged, bare, Line, Place, opening, version, in-items, in-skipped, wants-count, wants-start, wants-propositions, wants-names, wants-sets, wants-inf, wants-open, wants-set, wants-close, in-lines, wants-state, in-line, in-marks, in-label, wants-target, complete, Next, go, fault, otherwise, on-number, on-string, is-sign, is-any-name, snoc, with-item, unless, capital-first, on-header, header-step, line-step, line-at, edge-step, marks-step, part-step, from-label, step, ended, told, Told, taken-as, refused}
+use Rattle.model.specs.ClaimTable.{refusal-of, claim-refusal, claim-told, whole, after-start, after-acceptance, Part, numbered, titled, marked, edged, bare, Line, Place, opening, version, in-items, in-skipped, wants-count, wants-start, wants-propositions, wants-names, wants-sets, wants-inf, wants-open, wants-set, wants-close, in-lines, wants-state, in-line, in-marks, in-label, wants-target, complete, Next, go, fault, otherwise, on-number, on-string, is-sign, is-any-name, snoc, with-item, unless, capital-first, on-header, header-step, line-step, line-at, edge-step, marks-step, part-step, from-label, step, ended, told, Told, taken-as, refused}
 
 abbrev pub Number-good : ℕ → Type 0
 Number-good k = (k ≡ 15) ⊎ (k ≡ 16)
@@ -251,13 +251,25 @@ not-refused ts e = pick (told (go opening) ts) refl (told-numbered (go opening) 
 
 -- 0, 14, 15 and 16 and no other
 pub claims-definite : Claims-definite
-unfolding Claims-definite claim-refusal
+unfolding Claims-definite claim-refusal claim-told refusal-of
 claims-definite bs = pick (opens bs)
   where
     number-of : (x : Told) → Told-numbered x → (refusal-of x ≡ 0) ⊎ ((refusal-of x ≡ 14) ⊎ Number-good (refusal-of x))
     number-of (taken-as a) n = unfold refusal-of in (inl refl)
     number-of (refused k) n = unfold refusal-of in (inr (inr n))
 
-    pick : (b : Bool) → let k = cond b (refusal-of (told (go opening) (tokens bs))) 14 in (k ≡ 0) ⊎ ((k ≡ 14) ⊎ Number-good k)
+    pick : (b : Bool) → let k = refusal-of (cond b (told (go opening) (tokens bs)) (refused 14)) in (k ≡ 0) ⊎ ((k ≡ 14) ⊎ Number-good k)
     pick true = number-of (told (go opening) (tokens bs)) (told-numbered (go opening) (tokens bs) tt)
-    pick false = inr (inl refl)
+    pick false = unfold refusal-of in (inr (inl refl))
+
+-- a refusal is not 0
+pub refused-some : (bs : List ℕ) (k : ℕ) → claim-told bs ≡ refused k → k ≡ 0 → ⊥
+unfolding claim-told refusal-of
+refused-some bs k e = pick (opens bs) e
+  where
+    number-of : (x : Told) → Told-numbered x → x ≡ refused k → k ≡ 0 → ⊥
+    number-of x n q = not-zero k (subst (λ (y : Told). Told-numbered y) q n)
+
+    pick : (b : Bool) → cond b (told (go opening) (tokens bs)) (refused 14) ≡ refused k → k ≡ 0 → ⊥
+    pick true q = number-of (told (go opening) (tokens bs)) (told-numbered (go opening) (tokens bs) tt) q
+    pick false q = λ z. absurd (omega (arith, z, ap refusal-of q))

@@ -2,7 +2,7 @@
 use mathlib.Core.Path.{_≡_, refl, sym, ap, subst, _∙_}
 use mathlib.Core.Bool.{Bool, true, false, _&&_, not, cond}
 use mathlib.Core.List.{List, [], _∷_, _++_}
-use mathlib.Core.Option.{Option, none, some, Option·getD, Option·none-ne-some}
+use mathlib.Core.Option.{Option, none, some, Option·getD}
 use Prim.Native.Nat.{ℕ, zero, suc, _+_, _≤_, _<_}
 use native.Mathlib.Nat.{zero-add}
 use native.Mathlib.Omega.{arith}
@@ -10,12 +10,12 @@ use lib.Dec.{ltb, leb, eqb}
 use lib.ListN.{length, getD}
 use borrow.Author.Tests.{leb-true, ltb-true, ltb-false, ne-eqb, not-true}
 use Rattle.text.specs.Ascii.{line-feed}
-use Rattle.text.proofs.Tests.{and-both, clash}
+use Rattle.text.proofs.Tests.{and-both, or-false, clash}
 use Rattle.model.specs.Run.{member, is-some}
 use Rattle.model.specs.ClaimGrammar.{Edge, State, Syntax, state-count, start-state, proposition-names, has-acceptance, count-in, propositions-in, header-whole, items-fit, title-fits, marks-fit, edge-fits, edges-fit, has-line, state-fits, states-fit, taken, most-states, most-propositions, longest-title}
 use Rattle.model.specs.ClaimLabels.{label-depth, label-within, deepest}
 use Rattle.model.specs.ClaimTable.{bare}
-use Rattle.model.specs.Claim.{Claim-state, state, some-target, claim-leads, edges-of, state-of-line, line-of, states-from, claim-of, Claim-sound}
+use Rattle.model.specs.Claim.{Claim-state, is-marked, state, some-target, claim-leads, edges-of, state-of-line, line-of, states-from, claim-of, Claim-sound}
 use Rattle.model.proofs.ClaimItems.{Below, Count-sane, Few-names, sane}
 
 -- STATES by number
@@ -77,13 +77,22 @@ lines-sane n k c bs (s ∷ ss) f =
     pick true p q = p
     pick false p q = q
 
--- a state that is there is its line's, and another has no name and no edge
-state-cases : (X : Claim-state → Type 0) (m c : ℕ) (ss : List State) → X (state-of-line (line-of c ss)) → X no-state → X (getD (states-from m 0 ss) c no-state)
-state-cases X m c ss h k = pick (ltb c m) refl
-  where
-    pick : (b : Bool) → ltb c m ≡ b → X (getD (states-from m 0 ss) c no-state)
-    pick true e = subst X (sym (state-from m 0 c ss (ltb-true c m e) ∙ ap (λ (i : ℕ). state-of-line (line-of i ss)) (zero-add c))) h
-    pick false e = subst X (sym (state-past m 0 c ss (ltb-false c m e))) k
+-- no line is of a number that is no state
+lines-low : (n k c : ℕ) (bs ss : List State) → states-fit n k bs ss ≡ true → n ≤ c → has-line c ss ≡ false
+unfolding states-fit state-fits has-line
+lines-low n k c bs [] f h = refl
+lines-low n k c bs (s ∷ ss) f h =
+    let a = ltb (s .number) n && not (has-line (s .number) bs) in
+    let b = title-fits (s .title) && marks-fit (s .marks) in
+    let p = and-both (state-fits n k bs s) (states-fit n k (bs ++ (s ∷ [])) ss) f in
+    let q = and-both (a && b) (edges-fit n k (s .edges)) (p .0) in
+    let t : s .number < n = ltb-true (s .number) n (and-both (ltb (s .number) n) (not (has-line (s .number) bs)) (and-both a b (q .0) .0) .0) in
+    rw (ne-eqb c (s .number) (λ e. absurd (omega (arith, t, h, e)))) (lines-low n k c (bs ++ (s ∷ [])) ss (p .1) h)
+
+pub line-bare : (ss : List State) (c : ℕ) → has-line c ss ≡ false → line-of c ss ≡ bare c none none
+unfolding line-of has-line
+line-bare [] c h = refl
+line-bare (k ∷ ss) c h = let p = or-false (eqb c (k .number)) (has-line c ss) h in rw (p .0) (line-bare ss c (p .1))
 
 title-short : (w : List ℕ) → title-fits (some w) ≡ true → (length w ≤ longest-title) × (member line-feed w ≡ false)
 unfolding title-fits
@@ -123,9 +132,24 @@ module _ (a : Syntax) (ok : taken a ≡ true) where
       let u = and-both (items-fit [] (a .items)) (header-whole (a .items)) (h .0) in
       record { items-ok = u .0; whole-ok = u .1; lines-ok = and-both (states-fit n k [] (a .states)) (eqb (length (a .states)) n) (h .1) .0 }
 
+  pub whole-header : header-whole (a .items) ≡ true
+  whole-header = parts .whole-ok
+
   all-states : length (claim-of a .states) ≡ n
   unfolding claim-of
   all-states = length-states n 0 (a .states)
+
+  -- every state is its line's, bare past the last
+  pub state-is-line : (c : ℕ) → state (claim-of a) c ≡ state-of-line (line-of c (a .states))
+  unfolding state claim-of
+  state-is-line c = pick (ltb c n) refl
+    where
+      bare-state : (v : ℕ) → state-of-line (bare v none none) ≡ no-state
+      bare-state v = unfold state-of-line is-marked edges-of in refl
+
+      pick : (b : Bool) → ltb c n ≡ b → getD (states-from n 0 (a .states)) c no-state ≡ state-of-line (line-of c (a .states))
+      pick true e = state-from n 0 c (a .states) (ltb-true c n e) ∙ ap (λ (i : ℕ). state-of-line (line-of i (a .states))) (zero-add c)
+      pick false e = state-past n 0 c (a .states) (ltb-false c n e) ∙ sym (ap state-of-line (line-bare (a .states) c (lines-low n k c [] (a .states) (parts .lines-ok) (ltb-false c n e))) ∙ bare-state c)
 
   line-right : (c : ℕ) → Line-sane n (line-of c (a .states))
   line-right c = lines-sane n k c [] (a .states) (parts .lines-ok)
@@ -146,13 +170,12 @@ module _ (a : Syntax) (ok : taken a ≡ true) where
   few-propositions = unfold claim-of propositions-in in names-few (proposition-names (a .items)) (sane (a .items) (parts .items-ok) .few-names)
 
   named : (c : ℕ) (w : List ℕ) → state (claim-of a) c .name ≡ some w → title-fits (some w) ≡ true
-  named c w = unfold state claim-of in state-cases (λ (s : Claim-state). s .name ≡ some w → title-fits (some w) ≡ true) n c (a .states) (λ e. lined (unfold state-of-line in e)) (λ e. absurd (Option·none-ne-some w e))
-    where
-      lined : line-of c (a .states) .title ≡ some w → title-fits (some w) ≡ true
-      lined e = subst (λ (o : Option (List ℕ)). title-fits o ≡ true) e (line-right c .title)
+  unfolding state-of-line
+  named c w e = subst (λ (o : Option (List ℕ)). title-fits o ≡ true) (sym (ap (λ (x : Claim-state). x .name) (state-is-line c)) ∙ e) (line-right c .title)
 
   low-targets : (c d : ℕ) → length (claim-of a .states) ≤ d → claim-leads (claim-of a) c d ≡ false
-  low-targets c d h = unfold claim-leads state claim-of in state-cases (λ (s : Claim-state). some-target (s .edges) d ≡ false) n c (a .states) (unfold state-of-line in (line-right c .targets d (subst (λ (m : ℕ). m ≤ d) all-states h))) (unfold some-target in refl)
+  unfolding claim-leads state-of-line
+  low-targets c d h = ap (λ (x : Claim-state). some-target (x .edges) d) (state-is-line c) ∙ line-right c .targets d (subst (λ (m : ℕ). m ≤ d) all-states h)
 
   pub taken-sound : Claim-sound (claim-of a)
   taken-sound =

@@ -5,7 +5,7 @@ use mathlib.Core.List.{List}
 use Prim.Native.Nat.{ℕ}
 use native.Mathlib.Omega.{arith}
 use Rattle.model.specs.ClaimTokens.{tokens, opens}
-use Rattle.model.specs.ClaimTable.{go, opening, told, refusal-of, claim-refusal}
+use Rattle.model.specs.ClaimTable.{go, opening, told, refused, refusal-of, claim-told, claim-refusal}
 use Rattle.model.specs.Claim.{claim-of, tree-of, claim-in}
 use Rattle.model.specs.ClaimPromise.{Of-grammar, Taken-exactly, One-tree, Claims-right}
 use Rattle.model.proofs.ClaimSpelling.{taken-spelled}
@@ -19,26 +19,30 @@ unfolding One-tree tree-of
 one-tree a b f g e = ap tree-of (sym (taken-read a f) ∙ (ap (told (go opening)) e ∙ taken-read b g))
 
 grammar-taken : (bs : List ℕ) → Of-grammar bs → claim-refusal bs ≡ 0
-unfolding claim-refusal refusal-of
+unfolding claim-refusal claim-told refusal-of
 grammar-taken bs g = rw (g .opened, g .spells, taken-read (g .tree) (g .within)) refl
 
+opened-not : refusal-of (refused 14) ≡ 0 → ⊥
+unfolding refusal-of
+opened-not e = absurd (omega (arith, e))
+
 taken-grammar : (bs : List ℕ) → claim-refusal bs ≡ 0 → Of-grammar bs
-unfolding claim-refusal
+unfolding claim-refusal claim-told
 taken-grammar bs e = pick (opens bs) refl e
   where
-    pick : (b : Bool) → opens bs ≡ b → cond b (refusal-of (told (go opening) (tokens bs))) 14 ≡ 0 → Of-grammar bs
+    pick : (b : Bool) → opens bs ≡ b → refusal-of (cond b (told (go opening) (tokens bs)) (refused 14)) ≡ 0 → Of-grammar bs
     pick true q e =
         let t = not-refused (tokens bs) e in
         record { opened = q; tree = t .tree; within = told-taken (t .tree) (tokens bs) (t .comes); spells = sym (taken-spelled (t .tree) (tokens bs) (t .comes)) }
-    pick false q e = absurd (omega (arith, e))
+    pick false q e = absurd (opened-not e)
 
 pub taken-exactly : Taken-exactly
 unfolding Taken-exactly
 taken-exactly bs = (taken-grammar bs, grammar-taken bs)
 
 spelled-by : (bs : List ℕ) (g : Of-grammar bs) → claim-in bs ≡ claim-of (g .tree)
-unfolding claim-in tree-of
-spelled-by bs g = rw (g .spells, taken-read (g .tree) (g .within)) refl
+unfolding claim-in claim-told tree-of
+spelled-by bs g = rw (g .opened, g .spells, taken-read (g .tree) (g .within)) refl
 
 pub claims-right : Claims-right
 unfolding Claims-right

@@ -8,10 +8,9 @@ use lib.Dec.{ltb, eqb}
 use lib.ListN.{length, getD}
 use Rattle.text.specs.Ascii.{line-feed}
 use Rattle.model.specs.Run.{member}
-use Rattle.model.specs.ClaimTokens.{tokens}
 use Rattle.model.specs.ClaimLabels.{truth}
 use Rattle.model.specs.ClaimGrammar.{Edge, State, Syntax, count-in, propositions-in, start-state, most-states, most-propositions, longest-title}
-use Rattle.model.specs.ClaimTable.{bare, go, opening, Told, taken-as, refused, told}
+use Rattle.model.specs.ClaimTable.{bare, Told, taken-as, refused, claim-told}
 
 -- an edge leads to its target on the flag values of which its label holds
 pub record Claim-edge : Type 0 where
@@ -78,13 +77,13 @@ claim-of a =
       states = states-from (count-in (a .items)) 0 (a .states);
     }
 
--- THE CLAIM in a text, if it is taken
+-- THE CLAIM in a text; one without states where the text is refused
 unfoldable pub tree-of : Told → Syntax
 tree-of (taken-as a) = a
 tree-of (refused k) = record { items = []; states = [] }
 
 unfoldable pub claim-in : (text : List ℕ) → Claim
-claim-in bs = claim-of (tree-of (told (go opening) (tokens bs)))
+claim-in bs = claim-of (tree-of (claim-told bs))
 
 -- SOUND: what every claim has that is taken
 pub record Claim-sound (k : Claim) : Type 0 where

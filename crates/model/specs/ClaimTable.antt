@@ -284,5 +284,9 @@ unfoldable pub refusal-of : Told → ℕ
 refusal-of (taken-as a) = 0
 refusal-of (refused k) = k
 
+-- "14, the text does not open with the tokens `HOA:` and v1, blanks aside, first"
+unfoldable pub claim-told : (text : List ℕ) → Told
+claim-told bs = cond (opens bs) (told (go opening) (tokens bs)) (refused 14)
+
 unfoldable pub claim-refusal : (text : List ℕ) → ℕ
-claim-refusal bs = cond (opens bs) (refusal-of (told (go opening) (tokens bs))) 14
+claim-refusal bs = refusal-of (claim-told bs)

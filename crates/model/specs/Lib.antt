@@ -11,6 +11,7 @@ pub mod ClaimLabels
 pub mod ClaimGrammar
 pub mod ClaimTable
 pub mod Claim
+pub mod ClaimEntry
 pub mod ClaimPromise
 pub mod Promise
 pub mod KeptRuns

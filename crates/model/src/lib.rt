@@ -28,3 +28,16 @@ pub struct Checked {
     pub refusal: u32,
     pub verdict: u32,
 }
+
+// Of a claim: refusal 0 or its number; how many states, the start and how many propositions; of each state 1 where it is
+// accepting, and the place and length of its name in the text, 0 and 0 where it has none. Of a refused claim all else is 0.
+#[repr(C)]
+pub struct Claimed {
+    pub refusal: u32,
+    pub states: u32,
+    pub start: u32,
+    pub propositions: u32,
+    pub accepting: [u32; 15],
+    pub name_at: [u32; 15],
+    pub name_length: [u32; 15],
+}

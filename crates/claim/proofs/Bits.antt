@@ -1,0 +1,138 @@
+-- The bits of words under &, |, ^ and <<, and with them sets of flag values. Assumes nothing.
+use mathlib.Core.Path.{_≡_, refl, sym, ap, _∙_}
+use mathlib.Core.Bool.{Bool, true, false, _&&_, _||_, not, cond}
+use Prim.Native.Nat.{ℕ, zero, suc, _-_, _*_, _/_, _%_, _^_, _<_}
+use native.Mathlib.Nat.{mod-lt, zero-lt-suc, le-refl, zero-div, div-one}
+use native.Mathlib.Numerals.{one-add}
+use native.Mathlib.Omega.{arith}
+use lib.Dec.{ltb, eqb, eqb·zero-suc, eqb·suc-zero, eqb·suc-suc}
+use lib.Bits.{bitAnd, bitOr, bitXor, and-shr, or-shr, xor-shr, and-mod, or-mod, xor-mod, shifted-half, shifted-even}
+use lib.Pow.{shr-shr, shl-exact}
+use Rattle.text.proofs.Tests.{clash, and-both, Same, same, other, same?}
+use Rattle.model.specs.ClaimLabels.{Level, Label, always, never, proposition, bit, truth}
+use Rattle.claim.specs.LabelSays.{most-values, holds, Truth-of, everything, nothing, word-by-word, complement-of, intersection-of, union-of}
+use Rattle.claim.specs.declared.labels.Values.{Values}
+
+-- A TABLE, entry by entry
+all-below : (n : ℕ) → (ℕ → Bool) → Bool
+all-below zero p = true
+all-below (suc n) p = p n && all-below n p
+
+below : (n : ℕ) (p : ℕ → Bool) → all-below n p ≡ true → (v : ℕ) → v < n → p v ≡ true
+unfolding all-below
+below zero p e v h = absurd (omega (arith, h))
+below (suc n) p e v h = go (and-both (p n) (all-below n p) e) (same? v n) (λ f q. below n p f v q)
+  where
+    go : (p n ≡ true) × (all-below n p ≡ true) → Same v n → (all-below n p ≡ true → v < n → p v ≡ true) → p v ≡ true
+    go (d, f) (same q) less = ap p q ∙ d
+    go (d, f) (other q) less = less f (omega (arith, h, q))
+
+-- WORDS: an operation digit by digit
+on-digits : (P : ℕ → ℕ → Type 0) → P 0 0 → P 0 1 → P 1 0 → P 1 1 → (x y : ℕ) → x < 2 → y < 2 → P x y
+on-digits P p q r s zero zero h k = p
+on-digits P p q r s zero (suc zero) h k = q
+on-digits P p q r s (suc zero) zero h k = r
+on-digits P p q r s (suc zero) (suc zero) h k = s
+on-digits P p q r s (suc (suc x)) y h k = absurd (omega (arith, h))
+on-digits P p q r s zero (suc (suc y)) h k = absurd (omega (arith, k))
+on-digits P p q r s (suc zero) (suc (suc y)) h k = absurd (omega (arith, k))
+
+module _ (op : ℕ → ℕ → ℕ) (f : Bool → Bool → Bool) (shifted : (a b k : ℕ) → op a b / 2 ^ k ≡ op (a / 2 ^ k) (b / 2 ^ k)) (lowest : (a b k : ℕ) → op a b % 2 ^ k ≡ op (a % 2 ^ k) (b % 2 ^ k)) (digits : (x y : ℕ) → x < 2 → y < 2 → eqb (op x y) 1 ≡ f (eqb x 1) (eqb y 1)) where
+  bit-by : (a b i : ℕ) → bit (op a b) i ≡ f (bit a i) (bit b i)
+  unfolding bit
+  bit-by a b i =
+      ap (λ (x : ℕ). eqb (x % 2) 1) (shifted a b i)
+      ∙ (ap (λ (x : ℕ). eqb x 1) (lowest (a / 2 ^ i) (b / 2 ^ i) 1) ∙ digits (a / 2 ^ i % 2) (b / 2 ^ i % 2) (mod-lt _ (zero-lt-suc 1)) (mod-lt _ (zero-lt-suc 1)))
+
+pub bit-and : (a b i : ℕ) → bit (bitAnd a b) i ≡ (bit a i && bit b i)
+bit-and = bit-by bitAnd _&&_ and-shr and-mod (on-digits (λ (x y : ℕ). eqb (bitAnd x y) 1 ≡ (eqb x 1 && eqb y 1)) refl refl refl refl)
+
+pub bit-or : (a b i : ℕ) → bit (bitOr a b) i ≡ (bit a i || bit b i)
+bit-or = bit-by bitOr _||_ or-shr or-mod (on-digits (λ (x y : ℕ). eqb (bitOr x y) 1 ≡ (eqb x 1 || eqb y 1)) refl refl refl refl)
+
+abbrev flip-if : Bool → Bool → Bool
+flip-if a b = cond b (not a) a
+
+pub bit-xor : (a b i : ℕ) → bit (bitXor a b) i ≡ cond (bit b i) (not (bit a i)) (bit a i)
+bit-xor = bit-by bitXor flip-if xor-shr xor-mod (on-digits (λ (x y : ℕ). eqb (bitXor x y) 1 ≡ flip-if (eqb x 1) (eqb y 1)) refl refl refl refl)
+
+-- `1 << t`
+bit-half : (x d : ℕ) → bit x (suc d) ≡ bit (x / 2) d
+unfolding bit
+bit-half x d = ap (λ (y : ℕ). eqb (y % 2) 1) (ap (λ (k : ℕ). x / 2 ^ k) (sym (one-add d)) ∙ sym (shr-shr x 1 d))
+
+bit-one : (t d : ℕ) → bit (1 * 2 ^ t) d ≡ eqb d t
+unfolding bit
+bit-one zero zero = refl
+bit-one zero (suc d) = bit-half 1 d ∙ rw (zero-div (2 ^ d), eqb·suc-zero d) refl
+bit-one (suc t) zero = rw (div-one (1 * 2 ^ suc t), shifted-even 1 t, eqb·zero-suc t) refl
+bit-one (suc t) (suc d) = bit-half (1 * 2 ^ suc t) d ∙ (ap (λ (y : ℕ). bit y d) (shifted-half 1 t) ∙ (bit-one t d ∙ sym (eqb·suc-suc d t)))
+
+pub bit-shifted : (t d : ℕ) → t < 32 → bit (1 * 2 ^ t % 2 ^ 32) d ≡ eqb d t
+bit-shifted t d h = rw (shl-exact 1 t 32 (le-refl 2) (omega (arith, h))) (bit-one t d)
+
+pub bit-zero : (d : ℕ) → bit 0 d ≡ false
+unfolding bit
+bit-zero d = rw (zero-div (2 ^ d)) refl
+
+-- `m | 1 << t`
+pub bit-set : (m t d : ℕ) → t < 32 → bit (bitOr m (1 * 2 ^ t % 2 ^ 32)) d ≡ (bit m d || eqb d t)
+bit-set m t d h = bit-or m (1 * 2 ^ t % 2 ^ 32) d ∙ ap (λ (b : Bool). bit m d || b) (bit-shifted t d h)
+
+-- SETS OF FLAG VALUES
+abbrev in-word : (first second third : Bool) → Values → (x : ℕ) → Bool
+in-word p q r w x = cond p (bit (w .a) x) (cond q (bit (w .b) (x - 64)) (cond r (bit (w .c) (x - 128)) (bit (w .d) (x - 192))))
+
+module _ (op : ℕ → ℕ → ℕ) (f : Bool → Bool → Bool) (law : (a b i : ℕ) → bit (op a b) i ≡ f (bit a i) (bit b i)) where
+  holds-by : (v w : Values) (x : ℕ) → holds (word-by-word op v w) x ≡ f (holds v x) (holds w x)
+  unfolding holds
+  holds-by v w x = go (ltb x 64) (ltb x 128) (ltb x 192)
+    where
+      go : (p q r : Bool) → in-word p q r (word-by-word op v w) x ≡ f (in-word p q r v x) (in-word p q r w x)
+      go true q r = law (v .a) (w .a) x
+      go false true r = law (v .b) (w .b) (x - 64)
+      go false false true = law (v .c) (w .c) (x - 128)
+      go false false false = law (v .d) (w .d) (x - 192)
+
+pub holds-intersection : (v w : Values) (x : ℕ) → holds (intersection-of v w) x ≡ (holds v x && holds w x)
+holds-intersection = holds-by bitAnd _&&_ bit-and
+
+pub holds-union : (v w : Values) (x : ℕ) → holds (union-of v w) x ≡ (holds v x || holds w x)
+holds-union = holds-by bitOr _||_ bit-or
+
+-- whether a label is true on just these values, by one computed test
+abbrev agree : Bool → Bool → Bool
+agree true b = b
+agree false b = not b
+
+agree-same : (a b : Bool) → agree a b ≡ true → a ≡ b
+agree-same true true e = refl
+agree-same true false e = clash false e refl
+agree-same false true e = clash false e refl
+agree-same false false e = refl
+
+unfoldable pub true-on : {l : Level} → Label l → Values → Bool
+unfolding all-below truth bit holds
+true-on x w = all-below most-values (λ v. agree (truth x v) (holds w v))
+
+tabled : {l : Level} (x : Label l) (w : Values) → true-on x w ≡ true → Truth-of x w
+unfolding true-on
+tabled x w e = record { agrees = λ v h. agree-same (truth x v) (holds w v) (below most-values (λ v. agree (truth x v) (holds w v)) e v h) }
+
+pub always-everything : Truth-of always everything
+unfolding true-on
+always-everything = tabled always everything refl
+
+pub never-nothing : Truth-of never nothing
+unfolding true-on
+never-nothing = tabled never nothing refl
+
+pub proposition-tabled : (i j : ℕ) (r w : Values) → i ≡ j → r ≡ w → true-on (proposition j) w ≡ true → Truth-of (proposition i) r
+proposition-tabled i j r w p q e = rw (p, q) (tabled (proposition j) w e)
+
+holds-everything : (x : ℕ) → x < most-values → holds everything x ≡ true
+unfolding truth
+holds-everything x h = sym (always-everything .agrees x h)
+
+pub holds-complement : (w : Values) (x : ℕ) → x < most-values → holds (complement-of w) x ≡ not (holds w x)
+holds-complement w x h = holds-by bitXor flip-if bit-xor w everything x ∙ rw (holds-everything x h) refl

@@ -1,0 +1,289 @@
+-- How the readers of propositions and of skipped headers in src/header.rt meet their contracts. Assumes nothing.
+use Rattle.model.specs.Run.{is-some}
+use mathlib.Core.Path.{_≡_, refl, sym, ap, subst, _∙_}
+use mathlib.Core.Bool.{Bool, true, false, _||_, cond}
+use mathlib.Core.List.{List, [], _∷_}
+use mathlib.Core.Option.{Option, none, some, Option·getD}
+use Prim.Native.Nat.{ℕ, suc, _+_, _-_, _≤_, _<_}
+use native.Mathlib.Omega.{arith}
+use types.Run.{OneOf, miss}
+use denote.Enum.Declared.{tagOf}
+use lib.Dec.{leb}
+use lib.ListN.{length, length-append}
+use borrow.Author.Tests.{le-leb, lt-leb}
+use Rattle.text.proofs.Tests.{clash}
+use Rattle.model.specs.ClaimTokens as T
+use Rattle.model.specs.ClaimGrammar.{Item, propositions, skipped, state-count, start-state, proposition-names, propositions-in, has-acceptance, most-propositions, is-plain}
+use Rattle.model.specs.ClaimTable.{otherwise, on-string, whole, Place, in-items, in-skipped, wants-propositions, wants-names, named, go, fault, snoc, step, ended, told, refused}
+use Rattle.claim.specs.Reads.{part, claim-tokens, spelt, reads-on, fault-of, Sees, Ahead}
+use Rattle.claim.specs.HeaderSays.{Wants-number, Number-says, String-says, Gives, Item-says, Item-on, Skips, plain-of}
+use Rattle.claim.specs.Reads.{Onward}
+use Rattle.claim.specs.declared.tokens.Token.{Token}
+use Rattle.claim.specs.declared.tokens.Token.the-variants.{Name, Header, Number, Text, Symbol, Body, End, Alias, Comment, Stray, Done}
+use Rattle.claim.specs.declared.tokens.Seen.{Seen}
+use Rattle.claim.specs.declared.header.Found.{Found}
+use Rattle.claim.specs.declared.header.Found.the-variants.{Is, Fault as Not}
+use Rattle.claim.specs.declared.header.Given.{Given}
+use Rattle.claim.specs.declared.header.Past.{Past}
+use Rattle.claim.specs.declared.header.Past.the-variants.{To, Fault as Torn}
+use Rattle.claim.specs.declared.header.Header.{Header as Answer}
+use Rattle.claim.specs.declared.header.Header.the-variants.{Read, Fault}
+use Rattle.claim.proofs.Places.{stays, onto, onward, ahead-onward}
+use Rattle.claim.proofs.tokens.Token.{the-type}
+use Rattle.claim.proofs.Seeing.{reads-as, goes-past}
+use Rattle.claim.proofs.HeaderCode.{told-end, told-fault, stepped, refuses, number-taken, or-first, count-snoc, start-snoc, names-snoc, acceptance-snoc, first-none, or-no}
+
+-- PLACES
+-- STRINGS
+abbrev but-text : List ℕ
+but-text = 0 ∷ 1 ∷ 2 ∷ 4 ∷ 5 ∷ 6 ∷ 7 ∷ 8 ∷ 9 ∷ 10 ∷ []
+
+module _ (is : List Item) (l : ℕ) (ns : List (List ℕ)) where
+  no-name : (s : List ℕ) (r : List T.Token) (t : Token) → OneOf but-text (tagOf the-type t) → told (go (wants-names is l ns)) (spelt s t r) ≡ refused (fault-of t)
+  unfolding step on-string otherwise ended
+  no-name s r (Text a e) h = absurd (miss but-text 3 tt h)
+  no-name s r (Name a e) h = refuses (wants-names is l ns) _ r 15 refl
+  no-name s r (Header a e) h = refuses (wants-names is l ns) _ r 15 refl
+  no-name s r (Number v) h = refuses (wants-names is l ns) _ r 15 refl
+  no-name s r (Symbol b) h = refuses (wants-names is l ns) _ r 15 refl
+  no-name s r Body h = refuses (wants-names is l ns) _ r 15 refl
+  no-name s r End h = refuses (wants-names is l ns) _ r 15 refl
+  no-name s r Alias h = refuses (wants-names is l ns) _ r 15 refl
+  no-name s r Comment h = refuses (wants-names is l ns) _ r 16 refl
+  no-name s r Stray h = refuses (wants-names is l ns) _ r 15 refl
+  no-name s r Done h = told-end (wants-names is l ns)
+
+  name-taken : (w : List ℕ) (r : List T.Token) → told (go (wants-names is l ns)) (T.string w ∷ r) ≡ told (go (named is l (snoc ns w))) r
+  unfolding step on-string
+  name-taken w r = stepped (wants-names is l ns) _ r (go (named is l (snoc ns w))) refl
+
+module _ {s : List ℕ} {at : ℕ} {r : Seen} (n : Sees s T.longest-claim at (claim-tokens s at) r) where
+  pub string-is : (a e : ℕ) → r .token ≡ Text a e → String-says s at (To (r .next))
+  string-is a e q = (_, reads-as n (Text a e) q refl, goes-past n (Text a e) q refl)
+
+  pub string-not : OneOf but-text (tagOf the-type (r .token)) → (j : ℕ) → j ≡ fault-of (r .token) → String-says s at (Torn j)
+  string-not h j e is l ns = ap (λ (ts : List T.Token). told (go (wants-names is l ns)) ts) (n .reads) ∙ (no-name is l ns s (n .rest) (r .token) h ∙ ap refused (sym e))
+
+-- NAMES: so many are left of so many
+pub record Names-so-far (s : List ℕ) (at k left here : ℕ) : Type 0 where
+  pub names : List (List ℕ)
+  pub counted : length names + left ≡ k
+  pub same : (is : List Item) → told (go (named is k [])) (claim-tokens s at) ≡ told (go (named is left names)) (claim-tokens s here)
+  pub past : Onward s at here
+
+pub names-begun : (s : List ℕ) (at k : ℕ) → Names-so-far s at k k at
+names-begun s at k = record { names = []; counted = omega arith; same = λ is. refl; past = stays }
+
+-- one is wanted
+named-more : (is : List Item) (left : ℕ) (ns : List (List ℕ)) → 0 < left → named is left ns ≡ wants-names is (left - 1) ns
+unfolding named
+named-more is left ns h = let e : left ≡ suc (left - 1) = omega arith in ap (λ (l : ℕ). named is l ns) e
+
+named-none : (is : List Item) (left : ℕ) (ns : List (List ℕ)) → left ≤ 0 → named is left ns ≡ in-items whole (snoc is (propositions ns))
+unfolding named
+named-none is left ns h = let e : left ≡ 0 = omega arith in ap (λ (l : ℕ). named is l ns) e
+
+module _ {s : List ℕ} {at k left here : ℕ} (a : Names-so-far s at k left here) where
+  wanted : 0 < left → (is : List Item) → told (go (named is k [])) (claim-tokens s at) ≡ told (go (wants-names is (left - 1) (a .names))) (claim-tokens s here)
+  wanted h is = a .same is ∙ ap (λ (p : Place). told (go p) (claim-tokens s here)) (named-more is left (a .names) h)
+
+  pub names-again : 0 < left → (l : Past) (z : ℕ) → l ≡ To z → String-says s here l → Names-so-far s at k (left - 1) z
+  names-again h l z q b = go′ (rw q at b)
+    where
+      go′ : String-says s here (To z) → Names-so-far s at k (left - 1) z
+      go′ (w, e, past) =
+          record {
+            names = snoc (a .names) w;
+            counted = omega (arith, length-append (a .names) (w ∷ []), a .counted);
+            same = λ is. wanted h is ∙ (ap (λ (ts : List T.Token). told (go (wants-names is (left - 1) (a .names))) ts) e ∙ name-taken is (left - 1) (a .names) w _);
+            past = onward (a .past) (onto past);
+          }
+
+  pub names-torn : 0 < left → (g : Given) (l : Past) (j : ℕ) → l ≡ Torn j → String-says s here l → Item-on s (λ is. go (named is k [])) whole at g (Fault j)
+  names-torn h g l j q b is x = go′ (rw q at b)
+    where
+      go′ : String-says s here (Torn j) → told (go (named is k [])) (claim-tokens s at) ≡ refused j
+      go′ c = wanted h is ∙ c is (left - 1) (a .names)
+
+-- PROPOSITIONS: what the item gives
+abbrev with-names : Given → ℕ → Given
+with-names g k = record { states = g .states; start = g .start; count = k; named = true; acceptance = g .acceptance }
+
+names-gives : (ns : List (List ℕ)) → (state-count (propositions ns ∷ []) ≡ none) × (start-state (propositions ns ∷ []) ≡ none) × (proposition-names (propositions ns ∷ []) ≡ some ns) × (has-acceptance (propositions ns ∷ []) ≡ false)
+unfolding state-count start-state proposition-names has-acceptance
+names-gives ns = (refl, refl, refl, refl)
+
+unnamed : (o : Option (List (List ℕ))) → is-some o ≡ false → o ≡ none
+unfolding is-some
+unnamed none e = refl
+unnamed (some ns) e = clash true refl e
+
+is-some-some : (ns : List (List ℕ)) → is-some (some ns) ≡ true
+unfolding is-some
+is-some-some ns = refl
+
+module _ {is : List Item} {g : Given} (h : Gives is g) (fresh : g .named ≡ false) (ns : List (List ℕ)) where
+  names-now : proposition-names (snoc is (propositions ns)) ≡ some ns
+  names-now = names-snoc (propositions ns) is ∙ (ap (λ (o : Option (List (List ℕ))). or-first o (proposition-names (propositions ns ∷ []))) (unnamed (proposition-names is) (h .named ∙ fresh)) ∙ names-gives ns .2)
+
+  count-now : propositions-in (snoc is (propositions ns)) ≡ length ns
+  unfolding propositions-in
+  count-now = ap (λ (o : Option (List (List ℕ))). length (Option·getD o [])) names-now
+
+  gives-names : (k : ℕ) → length ns ≡ k → k ≤ most-propositions → Gives (snoc is (propositions ns)) (with-names g k)
+  gives-names k e f =
+      record {
+        states = count-snoc (propositions ns) is ∙ (ap (λ (o : Option ℕ). or-first (state-count is) o) (names-gives ns .0) ∙ (first-none (state-count is) ∙ h .states));
+        start = start-snoc (propositions ns) is ∙ (ap (λ (o : Option ℕ). or-first (start-state is) o) (names-gives ns .1) ∙ (first-none (start-state is) ∙ h .start));
+        count = count-now ∙ e;
+        named = ap (λ (o : Option (List (List ℕ))). is-some o) names-now ∙ is-some-some ns;
+        acceptance = acceptance-snoc (propositions ns) is ∙ (ap (λ (b : Bool). has-acceptance is || b) (names-gives ns .3) ∙ (or-no (has-acceptance is) ∙ h .acceptance));
+        few-states = h .few-states;
+        few-propositions = f;
+      }
+
+pub names-read : {s : List ℕ} {at k left here : ℕ} → Names-so-far s at k left here → left ≤ 0 → (g : Given) → g .named ≡ false → k ≤ most-propositions → Item-on s (λ is. go (named is k [])) whole at g (Read (with-names g k) here)
+names-read {s} {at} {k} {left} {here} a h g fresh few = (λ is x. (snoc is (propositions (a .names)), gives-names x fresh (a .names) k (omega (arith, h, a .counted)) few, a .same is ∙ ap (λ (p : Place). told (go p) (claim-tokens s here)) (named-none is left (a .names) h)), a .past)
+
+propositions-wants : (is : List Item) → Wants-number (wants-propositions is) (λ k. cond (leb k most-propositions) (go (named is k [])) (fault 15))
+unfolding step ended
+propositions-wants is = record { steps = λ t. refl; open-ended = refl }
+
+pub propositions-taken : (s : List ℕ) (at : ℕ) (g : Given) (l : Found) (k z : ℕ) → l ≡ Is k z → Number-says s at l → k ≤ most-propositions → (x : Answer) → Item-on s (λ is. go (named is k [])) whole z g x → Item-says s wants-propositions whole at g x
+propositions-taken s at g l k z q a few x b = go′ x (rw q at a) b
+  where
+    one : (is : List Item) → claim-tokens s at ≡ T.number k ∷ claim-tokens s z → told (go (wants-propositions is)) (claim-tokens s at) ≡ told (go (named is k [])) (claim-tokens s z)
+    one is e = ap (λ (ts : List T.Token). told (go (wants-propositions is)) ts) e ∙ (number-taken (propositions-wants is) k _ ∙ rw (le-leb k most-propositions few) refl)
+
+    go′ : (x : Answer) → Number-says s at (Is k z) → Item-on s (λ is. go (named is k [])) whole z g x → Item-says s wants-propositions whole at g x
+    go′ (Read h y) (e, past) (b, more) = (λ is i. (b is i .0, b is i .1, one is e ∙ b is i .2), ahead-onward past more)
+    go′ (Fault j) (e, past) b = λ is i. one is e ∙ b is i
+
+pub propositions-many : (s : List ℕ) (at : ℕ) (g : Given) (l : Found) (k z : ℕ) → l ≡ Is k z → Number-says s at l → most-propositions < k → Item-says s wants-propositions whole at g (Fault 15)
+propositions-many s at g l k z q a many is h = go′ (rw q at a)
+  where
+    go′ : Number-says s at (Is k z) → told (go (wants-propositions is)) (claim-tokens s at) ≡ refused 15
+    go′ (e, past) = ap (λ (ts : List T.Token). told (go (wants-propositions is)) ts) e ∙ (number-taken (propositions-wants is) k _ ∙ rw (lt-leb k most-propositions many) (told-fault 15 _))
+
+pub propositions-none : (s : List ℕ) (at : ℕ) (g : Given) (l : Found) (j : ℕ) → l ≡ Not j → Number-says s at l → Item-says s wants-propositions whole at g (Fault j)
+propositions-none s at g l j q a is h = go′ (rw q at a)
+  where
+    go′ : Number-says s at (Not j) → told (go (wants-propositions is)) (claim-tokens s at) ≡ refused j
+    go′ b = b (wants-propositions is) _ (propositions-wants is)
+
+-- SKIPPED HEADERS: so many plain tokens
+pub record Plain-so-far (s : List ℕ) (at here : ℕ) : Type 0 where
+  pub plain : List T.Token
+  pub same : (is : List Item) (h : List ℕ) → told (go (in-skipped is h [])) (claim-tokens s at) ≡ told (go (in-skipped is h plain)) (claim-tokens s here)
+  pub past : Onward s at here
+
+pub plain-begun : (s : List ℕ) (at : ℕ) → Plain-so-far s at at
+plain-begun s at = record { plain = []; same = λ is h. refl; past = stays }
+
+-- the first token of what a token of the code spells
+abbrev plain-token : (text : List ℕ) → Token → T.Token
+plain-token s (Name a e) = T.name (part s a e)
+plain-token s (Number v) = T.number v
+plain-token s (Text a e) = T.string (part s a e)
+plain-token s (Header a e) = T.stray
+plain-token s (Symbol b) = T.stray
+plain-token s Body = T.stray
+plain-token s End = T.stray
+plain-token s Alias = T.stray
+plain-token s Comment = T.stray
+plain-token s Stray = T.stray
+plain-token s Done = T.stray
+
+module _ (is : List Item) (h : List ℕ) (ts : List T.Token) where
+  plain-step : (s : List ℕ) (r : List T.Token) (t : Token) → plain-of t ≡ true → told (go (in-skipped is h ts)) (spelt s t r) ≡ told (go (in-skipped is h (snoc ts (plain-token s t)))) r
+  unfolding step is-plain
+  plain-step s r (Name a e) q = stepped (in-skipped is h ts) _ r (go (in-skipped is h (snoc ts (plain-token s (Name a e))))) refl
+  plain-step s r (Number v) q = stepped (in-skipped is h ts) _ r (go (in-skipped is h (snoc ts (T.number v)))) refl
+  plain-step s r (Text a e) q = stepped (in-skipped is h ts) _ r (go (in-skipped is h (snoc ts (plain-token s (Text a e))))) refl
+  plain-step s r (Header a e) q = clash false q refl
+  plain-step s r (Symbol b) q = clash false q refl
+  plain-step s r Body q = clash false q refl
+  plain-step s r End q = clash false q refl
+  plain-step s r Alias q = clash false q refl
+  plain-step s r Comment q = clash false q refl
+  plain-step s r Stray q = clash false q refl
+  plain-step s r Done q = clash false q refl
+
+  -- another is read as after a whole item
+  plain-not : (s : List ℕ) (r : List T.Token) (t : Token) → plain-of t ≡ false → told (go (in-skipped is h ts)) (spelt s t r) ≡ told (go (in-items whole (snoc is (skipped h ts)))) (spelt s t r)
+  unfolding told step is-plain ended
+  plain-not s r (Name a e) q = clash true refl q
+  plain-not s r (Number v) q = clash true refl q
+  plain-not s r (Text a e) q = clash true refl q
+  plain-not s r (Header a e) q = refl
+  plain-not s r (Symbol b) q = refl
+  plain-not s r Body q = refl
+  plain-not s r End q = refl
+  plain-not s r Alias q = refl
+  plain-not s r Comment q = refl
+  plain-not s r Stray q = refl
+  plain-not s r Done q = refl
+
+plain-reads : (t : Token) → plain-of t ≡ true → reads-on t ≡ true
+plain-reads (Name a e) q = refl
+plain-reads (Number v) q = refl
+plain-reads (Text a e) q = refl
+plain-reads (Header a e) q = clash false q refl
+plain-reads (Symbol b) q = clash false q refl
+plain-reads Body q = clash false q refl
+plain-reads End q = clash false q refl
+plain-reads Alias q = clash false q refl
+plain-reads Comment q = clash false q refl
+plain-reads Stray q = clash false q refl
+plain-reads Done q = clash false q refl
+
+module _ {s : List ℕ} {at here : ℕ} (a : Plain-so-far s at here) {r : Seen} (n : Sees s T.longest-claim here (claim-tokens s here) r) where
+  pub plain-ahead : plain-of (r .token) ≡ true → Ahead s here (r .next)
+  plain-ahead e = goes-past n (r .token) refl (plain-reads (r .token) e)
+
+  pub plain-again : plain-of (r .token) ≡ true → Plain-so-far s at (r .next)
+  plain-again e =
+      record {
+        plain = snoc (a .plain) (plain-token s (r .token));
+        same = λ is h. a .same is h ∙ (ap (λ (ts : List T.Token). told (go (in-skipped is h (a .plain))) ts) (reads-as n (r .token) refl (plain-reads (r .token) e)) ∙ plain-step is h (a .plain) s _ (r .token) e);
+        past = onward (a .past) (onto (plain-ahead e));
+      }
+
+  pub plain-ended : plain-of (r .token) ≡ false → Skips s at here
+  plain-ended e = record { plain = a .plain; same = λ is h. a .same is h ∙ (at-items is h (claim-tokens s here) (n .reads)); onward = a .past }
+    where
+      at-items : (is : List Item) (h : List ℕ) (ts : List T.Token) → ts ≡ spelt s (r .token) (n .rest) → told (go (in-skipped is h (a .plain))) ts ≡ told (go (in-items whole (snoc is (skipped h (a .plain))))) ts
+      at-items is h ts q = subst (λ (us : List T.Token). told (go (in-skipped is h (a .plain))) us ≡ told (go (in-items whole (snoc is (skipped h (a .plain))))) us) (sym q) (plain-not is h (a .plain) s (n .rest) (r .token) e)
+
+-- what the code tells apart
+abbrev plain-keys : List ℕ
+plain-keys = 0 ∷ 2 ∷ 3 ∷ []
+
+pub plain-named : (t : Token) → OneOf plain-keys (tagOf the-type t) → true ≡ plain-of t
+plain-named (Name a e) h = refl
+plain-named (Number v) h = refl
+plain-named (Text a e) h = refl
+plain-named (Header a e) h = absurd (miss plain-keys 1 tt h)
+plain-named (Symbol b) h = absurd (miss plain-keys 4 tt h)
+plain-named Body h = absurd (miss plain-keys 5 tt h)
+plain-named End h = absurd (miss plain-keys 6 tt h)
+plain-named Alias h = absurd (miss plain-keys 7 tt h)
+plain-named Comment h = absurd (miss plain-keys 8 tt h)
+plain-named Stray h = absurd (miss plain-keys 9 tt h)
+plain-named Done h = absurd (miss plain-keys 10 tt h)
+
+abbrev but-plain : List ℕ
+but-plain = 1 ∷ 4 ∷ 5 ∷ 6 ∷ 7 ∷ 8 ∷ 9 ∷ 10 ∷ []
+
+pub plain-other : (t : Token) → OneOf but-plain (tagOf the-type t) → false ≡ plain-of t
+plain-other (Name a e) h = absurd (miss but-plain 0 tt h)
+plain-other (Number v) h = absurd (miss but-plain 2 tt h)
+plain-other (Text a e) h = absurd (miss but-plain 3 tt h)
+plain-other (Header a e) h = refl
+plain-other (Symbol b) h = refl
+plain-other Body h = refl
+plain-other End h = refl
+plain-other Alias h = refl
+plain-other Comment h = refl
+plain-other Stray h = refl
+plain-other Done h = refl

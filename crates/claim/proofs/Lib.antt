@@ -1,0 +1,19 @@
+-- How the functions of the reader meet their contracts: laws for their returns and loops.
+pub mod Bits
+pub mod Places
+pub mod LabelSteps
+pub mod Lexing
+pub mod Variants
+pub mod Seeing
+pub mod LabelCode
+pub mod HeaderCode
+pub mod HeaderItems
+pub mod HeaderLoop
+pub mod Held
+pub mod BodyCode
+pub mod LineCode
+pub mod MoveCode
+pub mod EdgeCode
+pub mod BodyWhole
+pub mod OpeningCode
+pub mod JudgeCode

@@ -1,0 +1,382 @@
+// The body of a claim, a state line at a time, into cells of the caller's: of each state its mark, the place and length of
+// its name, the states that its edges lead to, and those that it may move to on each flag values.
+ghost use mathlib.Core.Path.{_≡_};
+ghost use mathlib.Core.Bool.{_&&_, not};
+ghost use mathlib.Core.Option.{some};
+ghost use Prim.Native.Nat.{ℕ, _<_, _≤_};
+ghost use lib.Dec.{ltb, eqb};
+ghost use lib.ListN.{length};
+ghost use Rattle.text.specs.Ascii.{line-feed};
+ghost use Rattle.model.specs.Run.{member};
+ghost use Rattle.model.specs.ClaimLabels.{bit};
+ghost use Rattle.model.specs.ClaimGrammar.{title-fits, most-states, most-propositions};
+ghost use Rattle.claim.specs.LabelSays.{most-values, holds};
+ghost use Rattle.claim.specs.Reads.{part, claim-tokens, starts};
+ghost use Rattle.claim.specs.Cells.{claim-cells, Moved, Led};
+ghost use Rattle.claim.specs.BodySays.{Title-says, Marks-say, Mark-says, Edge-says, Edges-say, Number-read, Rest-says, Line-says, End-says, Due-says, Body-says};
+use crate::Counts;
+use crate::header::Found;
+use crate::header::Past;
+use crate::header::number_at;
+use crate::labels::Truth;
+use crate::labels::Values;
+use crate::labels::contains;
+use crate::labels::label;
+use crate::tokens::Token;
+use crate::tokens::claim_token;
+use crate::tokens::fault;
+use crate::tokens::is_symbol;
+use crate::tokens::word;
+
+const LONGEST_TITLE: usize = 32;
+
+const LINE_FEED: u8 = 10;
+
+// Whether a line feed stands from `a` to `e`.
+fn has_line_feed(text: &[u8], a: usize, e: usize) -> bool
+    requires { ⌜ e ≤ length (now text) ⌝ }
+    ensures { λ r. ⌜ r ≡ member line-feed (part (now (text .entry)) a e) ⌝ }
+{
+    let mut i = a;
+    while i < e {
+        if text[i] == LINE_FEED {
+            return true;
+        }
+        i += 1;
+    }
+    false
+}
+
+// Whether the bytes from `a` to `e` can be a state's name.
+fn title_fits(text: &[u8], a: usize, e: usize) -> bool
+    requires { ⌜ a ≤ e ⌝ }
+    requires { ⌜ e ≤ length (now text) ⌝ }
+    ensures { λ r. ⌜ r ≡ title-fits (some (part (now (text .entry)) a e)) ⌝ }
+{
+    if LONGEST_TITLE < e - a {
+        return false;
+    }
+    !has_line_feed(text, a, e)
+}
+
+// The name of state c, if one is at `at`.
+fn title(text: &[u8], at: usize, c: usize, cells: &mut [u32]) -> Past
+    requires { ⌜ c < most-states ⌝ }
+    requires { ⌜ claim-cells ≤ length (now cells) ⌝ }
+    ensures { λ r. ⌜ Title-says (now (text .entry)) c at r (now (cells .entry)) (now (cells .exit)) ⌝ }
+{
+    let seen = claim_token(text, at);
+    let t = seen.token;
+    let next = seen.next;
+    match t {
+        Token::Text(a, e) => {
+            if !title_fits(text, a, e) {
+                return Past::Fault(15);
+            }
+            cells[Counts::NAMES + c] = a as u32;
+            cells[Counts::LENGTHS + c] = (e - a) as u32;
+            Past::To(next)
+        }
+        _ => Past::To(at),
+    }
+}
+
+// Whether the symbol `b` is at `at`.
+fn symbol_at(text: &[u8], at: usize, b: u8) -> bool
+    ensures { λ r. ⌜ r ≡ starts b (claim-tokens (now (text .entry)) at) ⌝ }
+{
+    let seen = claim_token(text, at);
+    let t = seen.token;
+    is_symbol(t, b)
+}
+
+// The numbers of a mark: whether there are any, and the place past its }; or the refusal.
+pub enum Marks {
+    Read(bool, usize),
+    Fault(u32),
+}
+
+// The numbers from `at` on, past the {.
+fn marks_end(text: &[u8], at: usize) -> Marks
+    ensures { λ r. ⌜ Marks-say (now (text .entry)) at r ⌝ }
+{
+    let mut any = false;
+    let mut here = at;
+    loop {
+        let seen = claim_token(text, here);
+        let t = seen.token;
+        let next = seen.next;
+        let Token::Number(v) = t else {
+            if is_symbol(t, b'}') {
+                return Marks::Read(any, next);
+            }
+            return Marks::Fault(fault(t));
+        };
+        if v != 0 {
+            return Marks::Fault(15);
+        }
+        any = true;
+        here = next;
+    }
+}
+
+// The mark of state c, if one is at `at`.
+fn mark(text: &[u8], at: usize, c: usize, cells: &mut [u32]) -> Past
+    requires { ⌜ c < most-states ⌝ }
+    requires { ⌜ claim-cells ≤ length (now cells) ⌝ }
+    ensures { λ r. ⌜ Mark-says (now (text .entry)) c at r (now (cells .entry)) (now (cells .exit)) ⌝ }
+{
+    let seen = claim_token(text, at);
+    let t = seen.token;
+    let next = seen.next;
+    if !is_symbol(t, b'{') {
+        return Past::To(at);
+    }
+    match marks_end(text, next) {
+        Marks::Fault(k) => Past::Fault(k),
+        Marks::Read(any, past) => {
+            cells[c] = any as u32;
+            Past::To(past)
+        }
+    }
+}
+
+// State d, as a bit, where the set has the flag values f.
+fn target_bit(w: Values, f: usize, d: u32) -> u32
+    requires { ⌜ f < most-values ⌝ }
+    requires { ⌜ d < 32 ⌝ }
+    ensures { λ r. ⌜ ((e : ℕ) → bit r e ≡ (holds w f && eqb e d)) ⌝ }
+{
+    if contains(w, f) { 1 << d } else { 0 }
+}
+
+// State c moves to d too, on the flag values of the set.
+fn add_moves(cells: &mut [u32], c: usize, d: u32, w: Values)
+    requires { ⌜ c < most-states ⌝ }
+    requires { ⌜ d < 32 ⌝ }
+    requires { ⌜ claim-cells ≤ length (now cells) ⌝ }
+    ensures { λ r. ⌜ Moved c d w (now (cells .entry)) (now (cells .exit)) ⌝ }
+{
+    let first = Counts::MOVES + Counts::MOST_VALUES * c;
+    let mut f: usize = 0;
+    while f < Counts::MOST_VALUES {
+        cells[first + f] = cells[first + f] | target_bit(w, f, d);
+        f += 1;
+    }
+}
+
+// An edge leads from state c to d, on the flag values of the set.
+fn add_edge(cells: &mut [u32], c: usize, d: u32, w: Values)
+    requires { ⌜ c < most-states ⌝ }
+    requires { ⌜ d < 32 ⌝ }
+    requires { ⌜ claim-cells ≤ length (now cells) ⌝ }
+    ensures { λ r. ⌜ Led c d w (now (cells .entry)) (now (cells .exit)) ⌝ }
+{
+    add_moves(cells, c, d, w);
+    cells[Counts::LEADS + c] = cells[Counts::LEADS + c] | (1 << d);
+}
+
+// An edge of state c, past its [.
+fn edge(text: &[u8], at: usize, states: u32, count: u32, c: usize, cells: &mut [u32]) -> Past
+    requires { ⌜ states ≤ most-states ⌝ }
+    requires { ⌜ count ≤ most-propositions ⌝ }
+    requires { ⌜ c < most-states ⌝ }
+    requires { ⌜ claim-cells ≤ length (now cells) ⌝ }
+    ensures { λ r. ⌜ Edge-says (now (text .entry)) states count c at r (now (cells .entry)) (now (cells .exit)) ⌝ }
+{
+    match label(text, at, count) {
+        Truth::Fault(k) => Past::Fault(k),
+        Truth::Is(w, end) => match number_at(text, end) {
+            Found::Fault(k) => Past::Fault(k),
+            Found::Is(d, next) => {
+                if states <= d {
+                    return Past::Fault(15);
+                }
+                if symbol_at(text, next, b'{') {
+                    return Past::Fault(16);
+                }
+                add_edge(cells, c, d, w);
+                Past::To(next)
+            }
+        },
+    }
+}
+
+// The edges of state c from `at` on.
+fn edges(text: &[u8], at: usize, states: u32, count: u32, c: usize, cells: &mut [u32]) -> Past
+    requires { ⌜ states ≤ most-states ⌝ }
+    requires { ⌜ count ≤ most-propositions ⌝ }
+    requires { ⌜ c < most-states ⌝ }
+    requires { ⌜ claim-cells ≤ length (now cells) ⌝ }
+    ensures { λ r. ⌜ Edges-say (now (text .entry)) states count c at r (now (cells .entry)) (now (cells .exit)) ⌝ }
+{
+    let mut here = at;
+    loop {
+        let seen = claim_token(text, here);
+        let t = seen.token;
+        let next = seen.next;
+        if !is_symbol(t, b'[') {
+            return Past::To(here);
+        }
+        let past = edge(text, next, states, count, c, cells);
+        let Past::To(end) = past else {
+            return past;
+        };
+        here = end;
+    }
+}
+
+// Whether c is a state that is not listed.
+fn unlisted(c: u32, states: u32, listed: u32) -> bool
+    requires { ⌜ states ≤ most-states ⌝ }
+    ensures { λ r. ⌜ r ≡ (ltb c states && not (bit listed c)) ⌝ }
+{
+    if states <= c {
+        return false;
+    }
+    (listed >> c) % 2 != 1
+}
+
+// The number of a state line, past its `State:`.
+fn line_number(text: &[u8], at: usize, states: u32, listed: u32) -> Found
+    requires { ⌜ states ≤ most-states ⌝ }
+    ensures { λ r. ⌜ Number-read (now (text .entry)) states listed at r ⌝ }
+{
+    let seen = claim_token(text, at);
+    let t = seen.token;
+    let next = seen.next;
+    match t {
+        Token::Number(c) => {
+            if unlisted(c, states, listed) {
+                return Found::Is(c, next);
+            }
+            Found::Fault(15)
+        }
+        _ => {
+            if is_symbol(t, b'[') {
+                return Found::Fault(16);
+            }
+            Found::Fault(fault(t))
+        }
+    }
+}
+
+// What follows the number of state c: its name, its mark, its edges.
+fn line_rest(text: &[u8], at: usize, states: u32, count: u32, c: usize, cells: &mut [u32]) -> Past
+    requires { ⌜ states ≤ most-states ⌝ }
+    requires { ⌜ count ≤ most-propositions ⌝ }
+    requires { ⌜ c < most-states ⌝ }
+    requires { ⌜ claim-cells ≤ length (now cells) ⌝ }
+    ensures { λ r. ⌜ Rest-says (now (text .entry)) states count c at r (now (cells .entry)) (now (cells .exit)) ⌝ }
+{
+    let named = title(text, at, c, cells);
+    let Past::To(a) = named else {
+        return named;
+    };
+    let marked = mark(text, a, c, cells);
+    let Past::To(b) = marked else {
+        return marked;
+    };
+    edges(text, b, states, count, c, cells)
+}
+
+// A state line, past its `State:`: its state's number and the place past it.
+fn line(text: &[u8], at: usize, states: u32, count: u32, listed: u32, cells: &mut [u32]) -> Found
+    requires { ⌜ states ≤ most-states ⌝ }
+    requires { ⌜ count ≤ most-propositions ⌝ }
+    requires { ⌜ claim-cells ≤ length (now cells) ⌝ }
+    ensures { λ r. ⌜ Line-says (now (text .entry)) states count listed at r (now (cells .entry)) (now (cells .exit)) ⌝ }
+{
+    let number = line_number(text, at, states, listed);
+    let Found::Is(c, next) = number else {
+        return number;
+    };
+    match line_rest(text, next, states, count, c as usize, cells) {
+        Past::Fault(k) => Found::Fault(k),
+        Past::To(end) => Found::Is(c, end),
+    }
+}
+
+// What is due after whole lines: one more, past its `State:`; nothing, since the claim is whole; or the refusal.
+pub enum Due {
+    Line(usize),
+    Nothing,
+    Fault(u32),
+}
+
+// Whether nothing follows the claim's end.
+fn end_on(text: &[u8], at: usize) -> Due
+    ensures { λ r. ⌜ End-says (now (text .entry)) at r ⌝ }
+{
+    let seen = claim_token(text, at);
+    let t = seen.token;
+    match t {
+        Token::Done => Due::Nothing,
+        _ => Due::Fault(fault(t)),
+    }
+}
+
+// After so many lines.
+fn due_at(text: &[u8], at: usize, states: u32, lines: u32) -> Due
+    requires { ⌜ lines ≤ states ⌝ }
+    ensures { λ r. ⌜ Due-says (now (text .entry)) states lines at r ⌝ }
+{
+    let seen = claim_token(text, at);
+    let t = seen.token;
+    let next = seen.next;
+    match t {
+        Token::Header(a, e) => {
+            if lines < states {
+                if word(text, a, e, b"State") {
+                    return Due::Line(next);
+                }
+            }
+            Due::Fault(15)
+        }
+        Token::End => {
+            if lines < states {
+                return Due::Fault(15);
+            }
+            end_on(text, next)
+        }
+        _ => Due::Fault(fault(t)),
+    }
+}
+
+// The body: it is taken with what the cells then hold; or the refusal.
+pub enum Whole {
+    Taken,
+    Refused(u32),
+}
+
+// The body from `at` on, past its --BODY--.
+pub(crate) fn read_body(text: &[u8], at: usize, states: u32, count: u32, cells: &mut [u32]) -> Whole
+    requires { ⌜ states ≤ most-states ⌝ }
+    requires { ⌜ count ≤ most-propositions ⌝ }
+    requires { ⌜ claim-cells ≤ length (now cells) ⌝ }
+    ensures { λ r. ⌜ Body-says (now (text .entry)) states count at r (now (cells .entry)) (now (cells .exit)) ⌝ }
+{
+    let mut here = at;
+    let mut listed: u32 = 0;
+    let mut lines: u32 = 0;
+    loop {
+        match due_at(text, here, states, lines) {
+            Due::Fault(k) => {
+                return Whole::Refused(k);
+            }
+            Due::Nothing => {
+                return Whole::Taken;
+            }
+            Due::Line(next) => match line(text, next, states, count, listed, cells) {
+                Found::Fault(k) => {
+                    return Whole::Refused(k);
+                }
+                Found::Is(c, end) => {
+                    listed = listed | (1 << c);
+                    lines += 1;
+                    here = end;
+                }
+            },
+        }
+    }
+}
