@@ -1,8 +1,8 @@
 /* Rezkundo's C interface: librezkundo.a, built by `rt staticlib rezkundo`. C99 and C++.
  *
  * Buffers. Every pointer must be valid for its length, and no two buffers may overlap. A buffer of length 0 is neither
- * read nor written, so its pointer may be null: null text is a file of no bytes (2), null acts a list of no acts, null
- * output or work a buffer that is too short (11), a null answer a file of no bytes (12).
+ * read nor written, so its pointer may be null: null text is a file of no bytes (2, as a claim 14), null acts a list of no
+ * acts, null output or work a buffer that is too short (11), a null answer a file of no bytes (12).
  *
  * Calls. Each call returns, for all contents of the buffers. The library takes no memory of its own and keeps nothing
  * between calls, so calls may run side by side on different buffers; what is only read may be shared. A call takes less
@@ -21,8 +21,8 @@
 extern "C" {
 #endif
 
-/* The version that this header goes with, 1.1.0: major x 10,000 + minor x 100 + patch. */
-#define REZKUNDO_VERSION 10100
+/* The version that this header goes with, 1.2.0: major x 10,000 + minor x 100 + patch. */
+#define REZKUNDO_VERSION 10200
 
 /* The version of the linked library. If it is not REZKUNDO_VERSION, header and library do not belong together. */
 uint32_t rezkundo_version(void);
@@ -33,6 +33,10 @@ uint32_t rezkundo_version(void);
 #define REZKUNDO_LEAST_OUTPUT 8192
 #define REZKUNDO_LEAST_WORK 16384
 #define REZKUNDO_STACK 32768
+
+/* A claim's most states and its longest text in bytes. */
+#define REZKUNDO_MOST_STATES 15
+#define REZKUNDO_LONGEST_CLAIM 16384
 
 /* Verdicts. None stands with every refusal. */
 enum {
@@ -55,7 +59,10 @@ enum {
     REZKUNDO_REFUSED_UNENDED = 10,
     REZKUNDO_REFUSED_BUFFER_TOO_SHORT = 11,
     REZKUNDO_REFUSED_ANSWER_LAYOUT = 12,
-    REZKUNDO_REFUSED_ANSWER_FALSE = 13
+    REZKUNDO_REFUSED_ANSWER_FALSE = 13,
+    REZKUNDO_REFUSED_NOT_A_CLAIM = 14,
+    REZKUNDO_REFUSED_CLAIM = 15,
+    REZKUNDO_REFUSED_CLAIM_FEATURE = 16
 };
 
 /* Of a run: refusal or 0; verdict; the acts counted; the answer's length in bytes; and three tallies of its messages:
@@ -91,6 +98,22 @@ rezkundo_outcome rezkundo_run_rounds(const uint8_t *text, size_t text_len, uint8
 
 /* Checks an answer to a case: 1 to 8 for the case, then 1, 3, 12 or 13 for the answer, or its verdict. */
 rezkundo_checked rezkundo_check_answer(const uint8_t *text, size_t text_len, const uint8_t *answer, size_t answer_len);
+
+/* Of a claim: refusal 0, 14, 15 or 16; how many states it has, the start and how many propositions; of each state 1 where it
+ * is accepting, and the place and length of its name in the text, without the quotes, 0 and 0 where it has none (an empty
+ * name has its place and length 0). All but the refusal is 0 where the claim is refused, and so is what belongs to states
+ * that it does not have. */
+typedef struct {
+    uint32_t refusal, states, start, propositions;
+    uint32_t accepting[REZKUNDO_MOST_STATES], name_at[REZKUNDO_MOST_STATES], name_length[REZKUNDO_MOST_STATES];
+} rezkundo_claim;
+
+/* Reads a claim in the Hanoi Omega-Automata format, version 1, as docs/FORMATS.md says what of it is taken. */
+rezkundo_claim rezkundo_read_claim(const uint8_t *text, size_t text_len);
+
+/* The states to which a state of a claim may move on flag values, where bit i is proposition i: bit d stands for state d.
+ * 0 where the claim is refused, and where the state or the values are out of range. Each call reads the text anew. */
+uint32_t rezkundo_claim_moves(const uint8_t *text, size_t text_len, uint32_t state, uint32_t values);
 
 #ifdef __cplusplus
 }

@@ -9,11 +9,14 @@ import os
 from typing import NamedTuple
 
 # The version that this binding goes with, as Library.version tells the library's: major x 10,000 + minor x 100 + patch.
-VERSION = 10100
+VERSION = 10200
 # The longest file in bytes; the least output in bytes and the least work buffer in cells, which suffice for every case.
 LONGEST_FILE = 65536
 LEAST_OUTPUT = 8192
 LEAST_WORK = 16384
+# The most states of a claim, and its longest text in bytes.
+MOST_STATES = 15
+LONGEST_CLAIM = 16384
 
 
 class Verdict(enum.IntEnum):
@@ -37,6 +40,9 @@ class Refusal(enum.IntEnum):
     BUFFER_TOO_SHORT = 11
     ANSWER_LAYOUT = 12
     ANSWER_FALSE = 13
+    NOT_A_CLAIM = 14
+    CLAIM = 15
+    CLAIM_FEATURE = 16
 
 
 class Tallies(NamedTuple):
@@ -80,6 +86,26 @@ class _Checked(ctypes.Structure):
     _fields_ = [(name, ctypes.c_uint32) for name in ('refusal', 'verdict')]
 
 
+class ClaimState(NamedTuple):
+    """A state of a claim: whether it is accepting, and its name as stored, None where it has none."""
+    accepting: bool
+    name: bytes | None
+
+
+class Claim(NamedTuple):
+    """A claim that is taken: its start, how many propositions it has, and its states by number."""
+    start: int
+    propositions: int
+    states: list
+
+
+class _Claim(ctypes.Structure):
+    _fields_ = [
+        *((name, ctypes.c_uint32) for name in ('refusal', 'states', 'start', 'propositions')),
+        *((name, ctypes.c_uint32 * MOST_STATES) for name in ('accepting', 'name_at', 'name_length')),
+    ]
+
+
 class Library:
     """librezkundo.so, loaded from a path, else from the one in REZKUNDO_SO, else by the system's search."""
 
@@ -90,6 +116,8 @@ class Library:
         self._declare('rezkundo_run_list', _Outcome, slices * 4)
         self._declare('rezkundo_run_rounds', _Outcome, slices * 3)
         self._declare('rezkundo_check_answer', _Checked, slices * 2)
+        self._declare('rezkundo_read_claim', _Claim, slices)
+        self._declare('rezkundo_claim_moves', ctypes.c_uint32, slices + [ctypes.c_uint32] * 2)
 
     def _declare(self, name, result, parameters):
         entry = getattr(self._library, name)
@@ -115,6 +143,27 @@ class Library:
         text, answer = _bytes(text), _bytes(answer)
         checked = self._library.rezkundo_check_answer(text, len(text), answer, len(answer))
         return _verdict(_Outcome(checked.refusal, checked.verdict))
+
+    def read_claim(self, text):
+        """Reads a claim: its Claim."""
+        text = _bytes(text)
+        read = self._library.rezkundo_read_claim(text, len(text))
+        if read.refusal:
+            _verdict(_Outcome(read.refusal))
+        states = zip(read.accepting, read.name_at, read.name_length)
+        return Claim(read.start, read.propositions, [_state(text, *state) for state in list(states)[:read.states]])
+
+    def claim_moves(self, text, state, values):
+        """The numbers of the states to which a state of a claim may move on flag values, where bit i is proposition i."""
+        text = _bytes(text)
+        # As for acts: a number that 32 bits do not hold is an error.
+        moves = self._library.rezkundo_claim_moves(text, len(text), *array.array('I', (state, values)))
+        return [d for d in range(MOST_STATES) if moves >> d & 1]
+
+
+def _state(text, accepting, at, length):
+    # A name never stands at the text's front: before it is its quote.
+    return ClaimState(bool(accepting), text[at:at + length] if at else None)
 
 
 def _bytes(lent):

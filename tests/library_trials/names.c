@@ -1,4 +1,4 @@
-/* Prints what the header names, and where a run's outcome has its fields, as the other bindings' trials do. refusals.inc
+/* Prints what the header names, and where a run's outcome and a claim have their fields, as the other bindings' trials do. refusals.inc
  * is made of the header's own names: REFUSAL(name) for each. */
 #include <stdio.h>
 
@@ -6,8 +6,8 @@
 
 #define LIMIT(name) printf(#name " %d\n", REZKUNDO_##name);
 #define VERDICT(name) printf("verdict %d " #name "\n", REZKUNDO_##name);
-#define FIELD(name) \
-    printf("field " #name " at %zu, %zu bytes\n", offsetof(rezkundo_outcome, name), sizeof ((rezkundo_outcome *)0)->name);
+#define FIELD(type, name) \
+    printf("field " #name " at %zu, %zu bytes\n", offsetof(rezkundo_##type, name), sizeof ((rezkundo_##type *)0)->name);
 #define REFUSAL(name) printf("refusal %d " #name "\n", REZKUNDO_REFUSED_##name);
 
 int main(void)
@@ -17,16 +17,26 @@ int main(void)
     LIMIT(LONGEST_FILE)
     LIMIT(LEAST_OUTPUT)
     LIMIT(LEAST_WORK)
+    LIMIT(MOST_STATES)
+    LIMIT(LONGEST_CLAIM)
     VERDICT(LASSO)
     VERDICT(EMPTY)
 #include "refusals.inc"
     printf("outcome of %zu bytes\n", sizeof(rezkundo_outcome));
-    FIELD(refusal)
-    FIELD(verdict)
-    FIELD(acts)
-    FIELD(written)
-    FIELD(sent)
-    FIELD(delivered)
-    FIELD(joined)
+    FIELD(outcome, refusal)
+    FIELD(outcome, verdict)
+    FIELD(outcome, acts)
+    FIELD(outcome, written)
+    FIELD(outcome, sent)
+    FIELD(outcome, delivered)
+    FIELD(outcome, joined)
+    printf("claim of %zu bytes\n", sizeof(rezkundo_claim));
+    FIELD(claim, refusal)
+    FIELD(claim, states)
+    FIELD(claim, start)
+    FIELD(claim, propositions)
+    FIELD(claim, accepting)
+    FIELD(claim, name_at)
+    FIELD(claim, name_length)
     return 0;
 }

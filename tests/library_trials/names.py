@@ -1,17 +1,17 @@
-"""Prints what the Python binding names, and where a run's outcome has its fields, as the other bindings' trials do."""
+"""Prints what the Python binding names, and where a run's outcome and a claim have their fields, as the other bindings' trials do."""
 import ctypes
 
 import rezkundo
 
 print('library', rezkundo.Library().version())
-for limit in ('VERSION', 'LONGEST_FILE', 'LEAST_OUTPUT', 'LEAST_WORK'):
+for limit in ('VERSION', 'LONGEST_FILE', 'LEAST_OUTPUT', 'LEAST_WORK', 'MOST_STATES', 'LONGEST_CLAIM'):
     print(limit, getattr(rezkundo, limit))
 for verdict in rezkundo.Verdict:
     print('verdict', verdict.value, verdict.name)
 for refusal in rezkundo.Refusal:
     print('refusal', refusal.value, refusal.name)
-outcome = rezkundo._Outcome
-print('outcome of', ctypes.sizeof(outcome), 'bytes')
-for name, _ in outcome._fields_:
-    field = getattr(outcome, name)
-    print(f'field {name} at {field.offset}, {field.size} bytes')
+for kind, structure in (('outcome', rezkundo._Outcome), ('claim', rezkundo._Claim)):
+    print(kind, 'of', ctypes.sizeof(structure), 'bytes')
+    for name, _ in structure._fields_:
+        field = getattr(structure, name)
+        print(f'field {name} at {field.offset}, {field.size} bytes')

@@ -1,15 +1,17 @@
-//! Prints what the Rust binding names, and where a run's outcome has its fields, as the other bindings' trials do.
+//! Prints what the Rust binding names, and where a run's outcome and a claim have their fields, as the other bindings' trials do.
 
 use std::mem::{offset_of, size_of, size_of_val};
 
 use rezkundo::{
-    LEAST_OUTPUT, LEAST_WORK, LONGEST_FILE, Outcome, Refusal, VERSION, Verdict, version,
+    Claim, LEAST_OUTPUT, LEAST_WORK, LONGEST_CLAIM, LONGEST_FILE, MOST_STATES, Outcome, Refusal,
+    VERSION, Verdict, version,
 };
 
 fn main() {
     println!("library {}", version());
     println!("VERSION {VERSION}\nLONGEST_FILE {LONGEST_FILE}");
     println!("LEAST_OUTPUT {LEAST_OUTPUT}\nLEAST_WORK {LEAST_WORK}");
+    println!("MOST_STATES {MOST_STATES}\nLONGEST_CLAIM {LONGEST_CLAIM}");
     for verdict in [Verdict::Lasso, Verdict::Empty] {
         println!("verdict {} {}", verdict.number(), in_capitals(&verdict));
     }
@@ -20,15 +22,17 @@ fn main() {
 }
 
 macro_rules! print_fields {
-    ($($name:ident)*) => {$(
-        let size = size_of_val(&Outcome::default().$name);
-        println!("field {} at {}, {size} bytes", stringify!($name), offset_of!(Outcome, $name));
+    ($kind:ident: $($name:ident)*) => {$(
+        let size = size_of_val(&$kind::default().$name);
+        println!("field {} at {}, {size} bytes", stringify!($name), offset_of!($kind, $name));
     )*};
 }
 
 fn print_layout() {
     println!("outcome of {} bytes", size_of::<Outcome>());
-    print_fields! { refusal verdict acts written sent delivered joined }
+    print_fields! { Outcome: refusal verdict acts written sent delivered joined }
+    println!("claim of {} bytes", size_of::<Claim>());
+    print_fields! { Claim: refusal states start propositions accepting name_at name_length }
 }
 
 /// `TooLong` as `TOO_LONG`.

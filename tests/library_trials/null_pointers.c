@@ -56,6 +56,14 @@ static void checked(const char *name, rezkundo_checked check, uint32_t expected)
     judge(name, check.refusal, expected, check.verdict == REZKUNDO_NONE);
 }
 
+/* A refused claim: all but the refusal is 0. */
+static void unread(const char *name, rezkundo_claim claim, uint32_t expected)
+{
+    uint32_t refusal = claim.refusal;
+    claim.refusal = 0;
+    judge(name, refusal, expected, all(&claim, sizeof claim, 0));
+}
+
 #define TEXT (const uint8_t *)text, sizeof text - 1
 #define LIST acts, sizeof acts / sizeof *acts
 #define OUTPUT output, sizeof output
@@ -78,6 +86,8 @@ int main(void)
     checked("check, text", rezkundo_check_answer(NOTHING, TEXT), REZKUNDO_REFUSED_NOT_A_CASE);
     checked("check, answer", rezkundo_check_answer(TEXT, NOTHING), REZKUNDO_REFUSED_ANSWER_LAYOUT);
     checked("check, both", rezkundo_check_answer(NOTHING, NOTHING), REZKUNDO_REFUSED_NOT_A_CASE);
+    unread("claim", rezkundo_read_claim(NOTHING), REZKUNDO_REFUSED_NOT_A_CLAIM);
+    judge("moves", rezkundo_claim_moves(NOTHING, 0, 0), 0, 1);
     printf("null pointers: %d trials, %d faults\n", trials, faults);
     return faults != 0;
 }

@@ -4,7 +4,7 @@ import pathlib
 import sys
 
 import rezkundo
-from rezkundo import Finding, Library, Refusal, Refused, Tallies, Unknown, Verdict
+from rezkundo import Claim, ClaimState, Finding, Library, Refusal, Refused, Tallies, Unknown, Verdict
 
 case, answer, listed, joining = (pathlib.Path(name).read_bytes() for name in sys.argv[1:5])
 acts = [int(line) for line in listed.split()]
@@ -41,6 +41,22 @@ assert refused(library.run_list, case, [2 ** 32 - 1]) == (Refusal.NO_SUCH_ACT, 0
 assert refused(library.run_rounds, b'') == (Refusal.NOT_A_CASE, 0, none)
 assert refused(library.run_rounds, bytes(rezkundo.LONGEST_FILE + 1)) == (Refusal.TOO_LONG, 0, none)
 assert refused(library.check_answer, case, b'') == (Refusal.ANSWER_LAYOUT, 0, none)
+# A claim: a state with a name, one with an empty name, one without.
+claim = (b'HOA: v1 States: 3 Start: 1 AP: 2 "p" "q" Acceptance: 1 Inf(0) --BODY-- State: 2 {0} [t] 2 [0 & !1] 0 '
+         b'State: 0 "a \\"b" [f] 1 State: 1 "" [1] 0 [1] 2 --END--')
+states = [ClaimState(False, b'a \\"b'), ClaimState(False, b''), ClaimState(True, None)]
+assert library.read_claim(claim) == Claim(1, 2, states)
+assert [library.claim_moves(claim, 2, values) for values in range(5)] == [[2], [0, 2], [2], [2], []]
+assert library.claim_moves(claim, 1, 2) == [0, 2]
+assert library.claim_moves(claim, 0, 0) == library.claim_moves(claim, 3, 0) == []
+assert refused(library.read_claim, b'') == (Refusal.NOT_A_CLAIM, 0, none)
+assert refused(library.read_claim, claim + b'0') == (Refusal.CLAIM, 0, none)
+assert refused(library.read_claim, claim + b'/**/') == (Refusal.CLAIM_FEATURE, 0, none)
+assert library.claim_moves(b'', 0, 0) == []
+raised(OverflowError, library.claim_moves, claim, -1, 0)
+raised(OverflowError, library.claim_moves, claim, 0, 2 ** 32)
+raised(TypeError, library.read_claim, 'HOA: v1')
+raised(Unknown, other.read_claim, claim)
 # Numbers that would be cut to other acts, and what has no bytes.
 raised(OverflowError, library.run_list, case, [2 ** 32])
 raised(OverflowError, library.run_list, case, [-1])

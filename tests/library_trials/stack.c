@@ -21,6 +21,8 @@ static int32_t work[REZKUNDO_LEAST_WORK];
 static rezkundo_outcome run;
 static rezkundo_checked check;
 static uint32_t version;
+static rezkundo_claim claim;
+static uint32_t moves;
 
 static void by_list(void)
 {
@@ -37,6 +39,14 @@ static void checking(void)
 {
     check = rezkundo_check_answer((uint8_t *)text.bytes, text.size, (uint8_t *)answer.bytes, answer.size);
 }
+
+/* The deepest label there is. */
+static const char deepest[] = "HOA: v1 States: 1 Start: 0 AP: 1 \"p\" Acceptance: 1 Inf(0) --BODY-- State: 0 \"name\" {0} "
+                              "[((((((((((((((((0))))))))))))))))] 0 [!!!!!!!!!!!!!!!!0 & 0 | 0] 0 --END--";
+
+static void reading(void) { claim = rezkundo_read_claim((const uint8_t *)deepest, sizeof deepest - 1); }
+
+static void moving(void) { moves = rezkundo_claim_moves((const uint8_t *)deepest, sizeof deepest - 1, 0, 1); }
 
 static void asking(void) { version = rezkundo_version(); }
 
@@ -79,7 +89,7 @@ static size_t check_used(void)
 
 int main(void)
 {
-    size_t list = 0, rounds = 0, checks = 0, asked = used(asking), longest = 0;
+    size_t list = 0, rounds = 0, checks = 0, asked = used(asking), read = used(reading), moved = used(moving), longest = 0;
     for (int shape = 0; shape < SHAPES; shape++) {
         write_case(&text, (enum shape)shape);
         write_acts(acts, (enum shape)shape);
@@ -91,11 +101,16 @@ int main(void)
     write_case(&text, KNOT);
     write_longest_lasso(&answer);
     checks = larger(checks, check_used());
-    printf("stack: run_list %zu, run_rounds %zu, check_answer %zu, version %zu of %d bytes; longest answer %zu\n", list,
-           rounds, checks, asked, REZKUNDO_STACK, longest);
+    printf("stack: run_list %zu, run_rounds %zu, check_answer %zu, read_claim %zu, claim_moves %zu, version %zu of %d bytes; "
+           "longest answer %zu\n",
+           list, rounds, checks, read, moved, asked, REZKUNDO_STACK, longest);
+    if (claim.states != 1 || moves != 1) {
+        printf("stack: the claim was not taken\n");
+        return 1;
+    }
     if (verdicts != 3 * SHAPES + 1) {
         printf("stack: only %d trials ended in a verdict\n", verdicts);
         return 1;
     }
-    return larger(larger(list, rounds), larger(checks, asked)) >= REZKUNDO_STACK;
+    return larger(larger(larger(list, rounds), larger(checks, asked)), larger(read, moved)) >= REZKUNDO_STACK;
 }

@@ -2,18 +2,23 @@
 //! entry.
 //!
 //! A run or a check either gives a verdict or an [`Error`]. Numbers that this binding does not know are an error too, so
-//! nothing is ever taken for "empty" that is not.
+//! nothing is ever taken for "empty" that is not. Of a claim the numbers come back as they are: it is taken where its
+//! refusal is 0.
 
 use std::fmt;
 
 /// The version that this binding goes with, as [`version`] tells the library's: major × 10,000 + minor × 100 + patch.
-pub const VERSION: u32 = 10_100;
+pub const VERSION: u32 = 10_200;
 /// The longest file, in bytes.
 pub const LONGEST_FILE: usize = 65_536;
 /// The least output, in bytes; it suffices for every case.
 pub const LEAST_OUTPUT: usize = 8_192;
 /// The least work buffer, in cells; it suffices for every case.
 pub const LEAST_WORK: usize = 16_384;
+/// The most states of a claim.
+pub const MOST_STATES: usize = 15;
+/// The longest claim, in bytes.
+pub const LONGEST_CLAIM: usize = 16_384;
 
 /// What was found, or what an answer shows.
 #[derive(Clone, Copy, Debug, PartialEq, Eq)]
@@ -59,11 +64,14 @@ pub enum Refusal {
     BufferTooShort = 11,
     AnswerLayout = 12,
     AnswerFalse = 13,
+    NotAClaim = 14,
+    Claim = 15,
+    ClaimFeature = 16,
 }
 
 impl Refusal {
     /// Every refusal, by rising number.
-    pub const ALL: [Refusal; 13] = [
+    pub const ALL: [Refusal; 16] = [
         Refusal::TooLong,
         Refusal::NotACase,
         Refusal::OtherVersion,
@@ -77,6 +85,9 @@ impl Refusal {
         Refusal::BufferTooShort,
         Refusal::AnswerLayout,
         Refusal::AnswerFalse,
+        Refusal::NotAClaim,
+        Refusal::Claim,
+        Refusal::ClaimFeature,
     ];
 
     /// Its number.
@@ -166,6 +177,24 @@ struct Checked {
     verdict: u32,
 }
 
+/// The numbers that the library returns of a claim: `rezkundo_claim` in C. Where the claim is refused, all others are 0;
+/// so are those of the states that it does not have.
+#[derive(Clone, Copy, Debug, Default, PartialEq, Eq)]
+#[repr(C)]
+pub struct Claim {
+    /// 0, 14, 15 or 16.
+    pub refusal: u32,
+    pub states: u32,
+    pub start: u32,
+    pub propositions: u32,
+    /// Of each state 1 where it is accepting.
+    pub accepting: [u32; MOST_STATES],
+    /// Of each state the place of its name in the text, without the quotes; 0 where it has none.
+    pub name_at: [u32; MOST_STATES],
+    /// Of each state the length of its name.
+    pub name_length: [u32; MOST_STATES],
+}
+
 // The archive becomes part of this crate, so that a program needs no shared object.
 #[link(name = "rezkundo", kind = "static")]
 unsafe extern "C" {
@@ -197,6 +226,10 @@ unsafe extern "C" {
         answer: *const u8,
         answer_len: usize,
     ) -> Checked;
+
+    fn rezkundo_read_claim(text: *const u8, text_len: usize) -> Claim;
+
+    fn rezkundo_claim_moves(text: *const u8, text_len: usize, state: u32, values: u32) -> u32;
 }
 
 /// The version of the linked library.
@@ -254,6 +287,19 @@ pub fn check_answer(text: &[u8], answer: &[u8]) -> Result<Verdict, Error> {
         ..Outcome::default()
     };
     finding(numbers).map(|found| found.verdict)
+}
+
+/// Reads a claim.
+pub fn read_claim(text: &[u8]) -> Claim {
+    // SAFETY: as above; the call only reads.
+    unsafe { rezkundo_read_claim(text.as_ptr(), text.len()) }
+}
+
+/// The states to which a state of a claim may move on these flag values, bit d for state d; none for a refused claim, a
+/// state or values out of range.
+pub fn claim_moves(text: &[u8], state: u32, values: u32) -> u32 {
+    // SAFETY: as above; the call only reads.
+    unsafe { rezkundo_claim_moves(text.as_ptr(), text.len(), state, values) }
 }
 
 /// What the numbers mean. A refusal has no verdict and no answer, and only `Unended` counts acts and messages; whatever
@@ -362,13 +408,13 @@ mod tests {
         for numbers in [
             outcome(0, 0, 0, 0),
             outcome(0, 3, 8, 60),
-            outcome(14, 0, 0, 0),
+            outcome(17, 0, 0, 0),
             outcome(9, 0, 1, 0),
             outcome(9, 0, 1 << 32, 0),
             tallied(outcome(9, 0, 0, 0)),
             outcome(2, 0, 0, 1),
             outcome(2, 2, 0, 0),
-            outcome(14, 2, 8, 60),
+            outcome(17, 2, 8, 60),
         ] {
             assert_eq!(finding(numbers), Err(Error::Unknown(numbers)));
         }

@@ -1,7 +1,7 @@
 -- How the readers of src/header.rt meet their contracts: a law for each return. Assumes nothing.
 use Rattle.model.specs.Run.{is-some}
 use mathlib.Core.Path.{_≡_, refl, sym, ap, subst, _∙_}
-use mathlib.Core.Bool.{Bool, true, false, _&&_, _||_, cond}
+use mathlib.Core.Bool.{Bool, true, false, _&&_, _||_, cond, or-false}
 use mathlib.Core.List.{List, [], _∷_}
 use mathlib.Core.Option.{Option, none, some, Option·getD}
 use Prim.Native.Nat.{ℕ, _≤_, _<_}
@@ -18,6 +18,7 @@ use Rattle.model.specs.ClaimTokens as T
 use Rattle.model.specs.ClaimTokens.{is-name}
 use Rattle.model.specs.ClaimGrammar.{Item, states, start, propositions, acceptance, skipped, state-count, start-state, proposition-names, propositions-in, has-acceptance, below-given, item-fits, most-states}
 use Rattle.model.specs.ClaimTable.{is-sign, otherwise, wants-sets, wants-inf, wants-open, wants-set, wants-close, is-any-name, Last, whole, after-start, after-acceptance, Place, in-items, wants-count, wants-start, Next, go, fault, on-number, snoc, with-item, step, ended, told, refused}
+use Rattle.model.proofs.ClaimItems.{first-given, given-none, count-append, start-append, names-append, acceptance-append}
 use Rattle.claim.specs.Reads.{part, claim-tokens, spelt, reads-on, is-symbol-of, fault-of, Sees, Ahead}
 use Rattle.claim.specs.HeaderSays.{Wants-number, Number-says, shown, Gives, Item-says, Step-says, accepted, most-states-of}
 use Rattle.claim.specs.declared.tokens.Token.{Token}
@@ -92,55 +93,6 @@ unfolding step ended
 start-wants is = record { steps = λ t. refl; open-ended = refl }
 
 -- ITEMS: what one more gives
-abbrev pub or-first : {A : Type 0} → Option A → Option A → Option A
-or-first none o = o
-or-first (some a) o = some a
-
-module _ (i : Item) where
-  pub count-snoc : (is : List Item) → state-count (snoc is i) ≡ or-first (state-count is) (state-count (i ∷ []))
-  unfolding state-count
-  count-snoc [] = refl
-  count-snoc (states n ∷ is) = refl
-  count-snoc (start n ∷ is) = count-snoc is
-  count-snoc (propositions n ∷ is) = count-snoc is
-  count-snoc (acceptance ∷ is) = count-snoc is
-  count-snoc (skipped h ts ∷ is) = count-snoc is
-
-  pub start-snoc : (is : List Item) → start-state (snoc is i) ≡ or-first (start-state is) (start-state (i ∷ []))
-  unfolding start-state
-  start-snoc [] = refl
-  start-snoc (states n ∷ is) = start-snoc is
-  start-snoc (start n ∷ is) = refl
-  start-snoc (propositions n ∷ is) = start-snoc is
-  start-snoc (acceptance ∷ is) = start-snoc is
-  start-snoc (skipped h ts ∷ is) = start-snoc is
-
-  pub names-snoc : (is : List Item) → proposition-names (snoc is i) ≡ or-first (proposition-names is) (proposition-names (i ∷ []))
-  unfolding proposition-names
-  names-snoc [] = refl
-  names-snoc (states n ∷ is) = names-snoc is
-  names-snoc (start n ∷ is) = names-snoc is
-  names-snoc (propositions n ∷ is) = refl
-  names-snoc (acceptance ∷ is) = names-snoc is
-  names-snoc (skipped h ts ∷ is) = names-snoc is
-
-  pub acceptance-snoc : (is : List Item) → has-acceptance (snoc is i) ≡ (has-acceptance is || has-acceptance (i ∷ []))
-  unfolding has-acceptance
-  acceptance-snoc [] = refl
-  acceptance-snoc (states n ∷ is) = acceptance-snoc is
-  acceptance-snoc (start n ∷ is) = acceptance-snoc is
-  acceptance-snoc (propositions n ∷ is) = acceptance-snoc is
-  acceptance-snoc (acceptance ∷ is) = refl
-  acceptance-snoc (skipped h ts ∷ is) = acceptance-snoc is
-
-pub first-none : {A : Type 0} (o : Option A) → or-first o none ≡ o
-first-none none = refl
-first-none (some a) = refl
-
-pub or-no : (b : Bool) → (b || false) ≡ b
-or-no true = refl
-or-no false = refl
-
 -- an item that gives no propositions and no acceptance
 pub record Plain-item (i : Item) : Type 0 where
   pub unnamed : proposition-names (i ∷ []) ≡ none
@@ -148,7 +100,7 @@ pub record Plain-item (i : Item) : Type 0 where
 
 module _ {is : List Item} {g : Given} (h : Gives is g) {i : Item} (p : Plain-item i) where
   names-kept : proposition-names (snoc is i) ≡ proposition-names is
-  names-kept = names-snoc i is ∙ (ap (λ (o : Option (List (List ℕ))). or-first (proposition-names is) o) (p .unnamed) ∙ first-none (proposition-names is))
+  names-kept = names-append is (i ∷ []) ∙ (ap (λ (o : Option (List (List ℕ))). first-given (proposition-names is) o) (p .unnamed) ∙ given-none (proposition-names is))
 
   pub count-kept : propositions-in (snoc is i) ≡ g .count
   unfolding propositions-in
@@ -158,7 +110,7 @@ module _ {is : List Item} {g : Given} (h : Gives is g) {i : Item} (p : Plain-ite
   named-kept = ap (λ (o : Option (List (List ℕ))). is-some o) names-kept ∙ h .named
 
   pub acceptance-kept : has-acceptance (snoc is i) ≡ g .acceptance
-  acceptance-kept = acceptance-snoc i is ∙ (ap (λ (b : Bool). has-acceptance is || b) (p .unaccepting) ∙ (or-no (has-acceptance is) ∙ h .acceptance))
+  acceptance-kept = acceptance-append is (i ∷ []) ∙ (ap (λ (b : Bool). has-acceptance is || b) (p .unaccepting) ∙ (or-false (has-acceptance is) ∙ h .acceptance))
 
 -- an item that fits is taken, another refused
 with-taken : (l : Last) (is : List Item) (i : Item) (r : List T.Token) → item-fits is i ≡ true → told (with-item l is i) r ≡ told (go (in-items l (snoc is i))) r
@@ -200,8 +152,8 @@ module _ {is : List Item} {g : Given} (h : Gives is g) (fresh : g .states ≡ 0)
   gives-states : 1 ≤ n → n ≤ most-states → Gives (snoc is (states n)) (with-states g n)
   gives-states m k =
       record {
-        states = count-snoc (states n) is ∙ (ap (λ (o : Option ℕ). or-first o (state-count (states n ∷ []))) none-yet ∙ (states-one n ∙ sym (ap (λ (b : Bool). shown b n) (lt-ltb 0 n (omega arith)))));
-        start = start-snoc (states n) is ∙ (ap (λ (o : Option ℕ). or-first (start-state is) o) (states-no-start n) ∙ (first-none (start-state is) ∙ h .start));
+        states = count-append is (states n ∷ []) ∙ (ap (λ (o : Option ℕ). first-given o (state-count (states n ∷ []))) none-yet ∙ (states-one n ∙ sym (ap (λ (b : Bool). shown b n) (lt-ltb 0 n (omega arith)))));
+        start = start-append is (states n ∷ []) ∙ (ap (λ (o : Option ℕ). first-given (start-state is) o) (states-no-start n) ∙ (given-none (start-state is) ∙ h .start));
         count = count-kept h (states-plain n);
         named = named-kept h (states-plain n);
         acceptance = acceptance-kept h (states-plain n);
@@ -271,8 +223,8 @@ module _ {is : List Item} {g : Given} (h : Gives is g) (fresh : most-states ≤ 
   gives-start : n < 15 → Gives (snoc is (start n)) (with-start g n)
   gives-start m =
       record {
-        states = count-snoc (start n) is ∙ (ap (λ (o : Option ℕ). or-first (state-count is) o) (start-no-count n) ∙ (first-none (state-count is) ∙ h .states));
-        start = start-snoc (start n) is ∙ (ap (λ (o : Option ℕ). or-first o (start-state (start n ∷ []))) no-start-yet ∙ (start-one n ∙ sym (ap (λ (b : Bool). shown b n) (lt-ltb n 15 m))));
+        states = count-append is (start n ∷ []) ∙ (ap (λ (o : Option ℕ). first-given (state-count is) o) (start-no-count n) ∙ (given-none (state-count is) ∙ h .states));
+        start = start-append is (start n ∷ []) ∙ (ap (λ (o : Option ℕ). first-given o (start-state (start n ∷ []))) no-start-yet ∙ (start-one n ∙ sym (ap (λ (b : Bool). shown b n) (lt-ltb n 15 m))));
         count = count-kept h (start-plain n);
         named = named-kept h (start-plain n);
         acceptance = acceptance-kept h (start-plain n);
@@ -489,7 +441,7 @@ or-yes false = refl
 
 module _ {is : List Item} {g : Given} (h : Gives is g) where
   acceptance-names : proposition-names (snoc is acceptance) ≡ proposition-names is
-  acceptance-names = names-snoc acceptance is ∙ (ap (λ (o : Option (List (List ℕ))). or-first (proposition-names is) o) (acceptance-gives .2) ∙ first-none (proposition-names is))
+  acceptance-names = names-append is (acceptance ∷ []) ∙ (ap (λ (o : Option (List (List ℕ))). first-given (proposition-names is) o) (acceptance-gives .2) ∙ given-none (proposition-names is))
 
   acceptance-count : propositions-in (snoc is acceptance) ≡ g .count
   unfolding propositions-in
@@ -498,11 +450,11 @@ module _ {is : List Item} {g : Given} (h : Gives is g) where
   gives-acceptance : Gives (snoc is acceptance) (with-acceptance g)
   gives-acceptance =
       record {
-        states = count-snoc acceptance is ∙ (ap (λ (o : Option ℕ). or-first (state-count is) o) (acceptance-gives .0) ∙ (first-none (state-count is) ∙ h .states));
-        start = start-snoc acceptance is ∙ (ap (λ (o : Option ℕ). or-first (start-state is) o) (acceptance-gives .1) ∙ (first-none (start-state is) ∙ h .start));
+        states = count-append is (acceptance ∷ []) ∙ (ap (λ (o : Option ℕ). first-given (state-count is) o) (acceptance-gives .0) ∙ (given-none (state-count is) ∙ h .states));
+        start = start-append is (acceptance ∷ []) ∙ (ap (λ (o : Option ℕ). first-given (start-state is) o) (acceptance-gives .1) ∙ (given-none (start-state is) ∙ h .start));
         count = acceptance-count;
         named = ap (λ (o : Option (List (List ℕ))). is-some o) acceptance-names ∙ h .named;
-        acceptance = acceptance-snoc acceptance is ∙ (ap (λ (b : Bool). has-acceptance is || b) (acceptance-gives .3) ∙ or-yes (has-acceptance is));
+        acceptance = acceptance-append is (acceptance ∷ []) ∙ (ap (λ (b : Bool). has-acceptance is || b) (acceptance-gives .3) ∙ or-yes (has-acceptance is));
         few-states = h .few-states;
         few-propositions = h .few-propositions;
       }

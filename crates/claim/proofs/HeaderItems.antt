@@ -1,7 +1,7 @@
 -- How the readers of propositions and of skipped headers in src/header.rt meet their contracts. Assumes nothing.
 use Rattle.model.specs.Run.{is-some}
 use mathlib.Core.Path.{_≡_, refl, sym, ap, subst, _∙_}
-use mathlib.Core.Bool.{Bool, true, false, _||_, cond}
+use mathlib.Core.Bool.{Bool, true, false, _||_, cond, or-false}
 use mathlib.Core.List.{List, [], _∷_}
 use mathlib.Core.Option.{Option, none, some, Option·getD}
 use Prim.Native.Nat.{ℕ, suc, _+_, _-_, _≤_, _<_}
@@ -15,6 +15,7 @@ use Rattle.text.proofs.Tests.{clash}
 use Rattle.model.specs.ClaimTokens as T
 use Rattle.model.specs.ClaimGrammar.{Item, propositions, skipped, state-count, start-state, proposition-names, propositions-in, has-acceptance, most-propositions, is-plain}
 use Rattle.model.specs.ClaimTable.{otherwise, on-string, whole, Place, in-items, in-skipped, wants-propositions, wants-names, named, go, fault, snoc, step, ended, told, refused}
+use Rattle.model.proofs.ClaimItems.{first-given, given-none, count-append, start-append, names-append, acceptance-append}
 use Rattle.claim.specs.Reads.{part, claim-tokens, spelt, reads-on, fault-of, Sees, Ahead}
 use Rattle.claim.specs.HeaderSays.{Wants-number, Number-says, String-says, Gives, Item-says, Item-on, Skips, plain-of}
 use Rattle.claim.specs.Reads.{Onward}
@@ -31,7 +32,7 @@ use Rattle.claim.specs.declared.header.Header.the-variants.{Read, Fault}
 use Rattle.claim.proofs.Places.{stays, onto, onward, ahead-onward}
 use Rattle.claim.proofs.tokens.Token.{the-type}
 use Rattle.claim.proofs.Seeing.{reads-as, goes-past}
-use Rattle.claim.proofs.HeaderCode.{told-end, told-fault, stepped, refuses, number-taken, or-first, count-snoc, start-snoc, names-snoc, acceptance-snoc, first-none, or-no}
+use Rattle.claim.proofs.HeaderCode.{told-end, told-fault, stepped, refuses, number-taken}
 
 -- PLACES
 -- STRINGS
@@ -124,7 +125,7 @@ is-some-some ns = refl
 
 module _ {is : List Item} {g : Given} (h : Gives is g) (fresh : g .named ≡ false) (ns : List (List ℕ)) where
   names-now : proposition-names (snoc is (propositions ns)) ≡ some ns
-  names-now = names-snoc (propositions ns) is ∙ (ap (λ (o : Option (List (List ℕ))). or-first o (proposition-names (propositions ns ∷ []))) (unnamed (proposition-names is) (h .named ∙ fresh)) ∙ names-gives ns .2)
+  names-now = names-append is (propositions ns ∷ []) ∙ (ap (λ (o : Option (List (List ℕ))). first-given o (proposition-names (propositions ns ∷ []))) (unnamed (proposition-names is) (h .named ∙ fresh)) ∙ names-gives ns .2)
 
   count-now : propositions-in (snoc is (propositions ns)) ≡ length ns
   unfolding propositions-in
@@ -133,11 +134,11 @@ module _ {is : List Item} {g : Given} (h : Gives is g) (fresh : g .named ≡ fal
   gives-names : (k : ℕ) → length ns ≡ k → k ≤ most-propositions → Gives (snoc is (propositions ns)) (with-names g k)
   gives-names k e f =
       record {
-        states = count-snoc (propositions ns) is ∙ (ap (λ (o : Option ℕ). or-first (state-count is) o) (names-gives ns .0) ∙ (first-none (state-count is) ∙ h .states));
-        start = start-snoc (propositions ns) is ∙ (ap (λ (o : Option ℕ). or-first (start-state is) o) (names-gives ns .1) ∙ (first-none (start-state is) ∙ h .start));
+        states = count-append is (propositions ns ∷ []) ∙ (ap (λ (o : Option ℕ). first-given (state-count is) o) (names-gives ns .0) ∙ (given-none (state-count is) ∙ h .states));
+        start = start-append is (propositions ns ∷ []) ∙ (ap (λ (o : Option ℕ). first-given (start-state is) o) (names-gives ns .1) ∙ (given-none (start-state is) ∙ h .start));
         count = count-now ∙ e;
         named = ap (λ (o : Option (List (List ℕ))). is-some o) names-now ∙ is-some-some ns;
-        acceptance = acceptance-snoc (propositions ns) is ∙ (ap (λ (b : Bool). has-acceptance is || b) (names-gives ns .3) ∙ (or-no (has-acceptance is) ∙ h .acceptance));
+        acceptance = acceptance-append is (propositions ns ∷ []) ∙ (ap (λ (b : Bool). has-acceptance is || b) (names-gives ns .3) ∙ (or-false (has-acceptance is) ∙ h .acceptance));
         few-states = h .few-states;
         few-propositions = f;
       }

@@ -16,6 +16,7 @@ use Rattle.text.specs.Lines.{equal}
 use Rattle.model.specs.ClaimTokens as T
 use Rattle.model.specs.ClaimGrammar.{Item, skipped, state-count, start-state, proposition-names, propositions-in, has-acceptance, header-whole, small-first, most-states}
 use Rattle.model.specs.ClaimTable.{is-sign, Last, whole, after-start, after-acceptance, Place, in-items, in-lines, wants-count, wants-start, wants-propositions, wants-sets, go, fault, snoc, unless, capital-first, on-header, header-step, step, ended, told, refused}
+use Rattle.model.proofs.ClaimItems.{first-given, given-none, count-append, start-append}
 use Rattle.claim.specs.Reads.{part, claim-tokens, spelt, is-symbol-of, fault-of, starts, Sees, Ahead}
 use Rattle.claim.specs.HeaderSays.{shown, Gives, Item-says, Item-on, Skips, kind-of, on-kind, last-of, Kind-says, continues, no-item, items-end, Header-says}
 use Rattle.claim.specs.Reads.{Onward}
@@ -33,7 +34,7 @@ use Rattle.claim.proofs.header.Kind.{the-type as kind-type}
 use Rattle.claim.proofs.header.Header.{the-type as header-type}
 use Rattle.claim.proofs.Lexing.{part-cons, part-past, part-cut}
 use Rattle.claim.proofs.Seeing.{reads-as, goes-past, ends-as, starts-as}
-use Rattle.claim.proofs.HeaderCode.{told-end, told-fault, stepped, refuses, or-first, count-snoc, start-snoc, first-none, Plain-item, count-kept, named-kept, acceptance-kept}
+use Rattle.claim.proofs.HeaderCode.{told-end, told-fault, stepped, refuses, Plain-item, count-kept, named-kept, acceptance-kept}
 
 -- THE FIRST BYTE of a name
 module _ (s : List ℕ) (a e : ℕ) where
@@ -114,8 +115,8 @@ skipped-gives w ts = (refl, refl)
 gives-skipped : {is : List Item} {g : Given} → Gives is g → (w : List ℕ) (ts : List T.Token) → Gives (snoc is (skipped w ts)) g
 gives-skipped {is} {g} h w ts =
     record {
-      states = count-snoc (skipped w ts) is ∙ (ap (λ (o : Option ℕ). or-first (state-count is) o) (skipped-gives w ts .0) ∙ (first-none (state-count is) ∙ h .states));
-      start = start-snoc (skipped w ts) is ∙ (ap (λ (o : Option ℕ). or-first (start-state is) o) (skipped-gives w ts .1) ∙ (first-none (start-state is) ∙ h .start));
+      states = count-append is (skipped w ts ∷ []) ∙ (ap (λ (o : Option ℕ). first-given (state-count is) o) (skipped-gives w ts .0) ∙ (given-none (state-count is) ∙ h .states));
+      start = start-append is (skipped w ts ∷ []) ∙ (ap (λ (o : Option ℕ). first-given (start-state is) o) (skipped-gives w ts .1) ∙ (given-none (start-state is) ∙ h .start));
       count = count-kept h (skipped-plain w ts);
       named = named-kept h (skipped-plain w ts);
       acceptance = acceptance-kept h (skipped-plain w ts);

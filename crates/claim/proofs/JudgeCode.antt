@@ -1,15 +1,16 @@
 -- How the reader of a whole claim in src/lib.rt meets its contract: a law for each return. Assumes nothing.
 use mathlib.Core.Path.{_≡_, refl, sym, ap, subst, _∙_}
 use mathlib.Core.Bool.{Bool, true, false, _&&_}
-use mathlib.Core.List.{List, [], _∷_}
+use mathlib.Core.List.{List, [], _∷_, _++_}
 use mathlib.Core.Option.{Option, Option·getD}
-use Prim.Native.Nat.{ℕ, _<_, _≤_}
+use Prim.Native.Nat.{ℕ, _+_, _-_, _<_, _≤_}
 use native.Mathlib.Nat.{sub-zero}
 use native.Mathlib.Omega.{arith}
 use types.Run.{OneOf, miss}
 use denote.Enum.Declared.{tagOf}
 use lib.Dec.{ltb}
-use lib.ListN.{length, getD, replicate}
+use lib.ListN.{length, getD, take, drop, replicate, length-replicate, List·getD-append}
+use lib.Seq.{length-take-le, getD-take, getD-drop, getD-append-add, ext-getD}
 use borrow.Author.Tests.{ltb-false, ne-eqb}
 use Rattle.text.specs.Ascii.{ascii}
 use Rattle.text.specs.Lines.{equal}
@@ -166,7 +167,7 @@ lines-claim s k ls w by held =
     }
 
 -- a text that is refused has a claim without states
-no-claim : (s : List ℕ) (k : ℕ) → claim-told s ≡ refused k → (c : ℕ) → state (claim-in s) c ≡ state-of-line (line-of c [])
+pub no-claim : (s : List ℕ) (k : ℕ) → claim-told s ≡ refused k → (c : ℕ) → state (claim-in s) c ≡ state-of-line (line-of c [])
 unfolding claim-in tree-of claim-of state states-from count-in state-count state-of-line line-of is-marked edges-of
 no-claim s k e c = rw e refl
 
@@ -221,9 +222,44 @@ pub into-kept : (s : List ℕ) (r : Judged) (w v : List ℕ) → OneOf (1 ∷ []
 into-kept s (Refused k) w v h read n e = absurd (miss (1 ∷ []) 0 tt h)
 into-kept s (Accepted c) w v h read n e = into-accepted s c w v read (subst (λ (x : List ℕ). Lines-held s [] x) (sym e) (zeros-hold s n))
 
--- ANY CELLS: those without room stay all zeros
+-- ANY CELLS: those without room, and those behind a claim, are zeros
 pub read-short : (s : List ℕ) (r : Judged) (w v : List ℕ) → Into-says s r v → length w < claim-cells → Claim-read s r w (replicate (length w) 0)
-read-short s r w v i h = record { answer = i .answer; held = λ k. absurd (omega (arith, h, k)); short = λ k. refl }
+read-short s r w v i h = record { answer = i .answer; held = λ k. absurd (omega (arith, h, k)); rest = λ j k. zero-cell (length w) j; short = λ k. refl }
 
-pub read-whole : (s : List ℕ) (r : Judged) (w v : List ℕ) → Into-says s r v → claim-cells ≤ length w → Claim-read s r w v
-read-whole s r w v i h = record { answer = i .answer; held = λ k. i .held; short = λ k. absurd (omega (arith, h, k)) }
+pub zeros-front : (n k : ℕ) → k ≤ n → (k ≤ length (take k (replicate {A = ℕ} n 0))) × (take k (replicate {A = ℕ} n 0) ≡ replicate (length (take k (replicate {A = ℕ} n 0))) 0)
+zeros-front n k h =
+    let e : length (take k (replicate {A = ℕ} n 0)) ≡ k = length-take-le k (replicate {A = ℕ} n 0) (subst (λ (m : ℕ). k ≤ m) (sym (length-replicate n 0)) h) in
+    (omega (arith, e), rw e (take-replicate k n h))
+  where
+    take-replicate : (k n : ℕ) → k ≤ n → take k (replicate {A = ℕ} n 0) ≡ replicate k 0
+    take-replicate k n h =
+        ext-getD 0 (take k (replicate {A = ℕ} n 0)) (replicate k 0) (length-take-le k (replicate {A = ℕ} n 0) (subst (λ (m : ℕ). k ≤ m) (sym (length-replicate n 0)) h) ∙ sym (length-replicate k 0))
+        (λ j g. getD-take k (replicate {A = ℕ} n 0) j 0 (subst (λ (m : ℕ). j < m) (length-take-le k (replicate {A = ℕ} n 0) (subst (λ (m : ℕ). k ≤ m) (sym (length-replicate n 0)) h)) g) ∙ (zero-cell n j ∙ sym (zero-cell k j)))
+
+-- a claim held in front is held in the whole
+front-held : (s : List ℕ) (k : Claim) (v z : List ℕ) → length v ≡ claim-cells → Claim-held s k v → Claim-held s k (v ++ z)
+front-held s k v z e held =
+    record {
+      marks = λ c h. front c (omega (arith, h, e)) ∙ held .marks c h;
+      names = λ c h. rw (front (name-cell c) (omega (arith, h, e)), front (length-cell c) (omega (arith, h, e))) (held .names c h);
+      leads = λ c d h. ap (λ (x : ℕ). bit x d) (front (lead-cell c) (omega (arith, h, e))) ∙ held .leads c d h;
+      moves = λ c f d h g. ap (λ (x : ℕ). bit x d) (front (move-cell c f) (omega (arith, h, g, e))) ∙ held .moves c f d h g;
+    }
+  where
+    front : (i : ℕ) → i < length v → getD (v ++ z) i 0 ≡ getD v i 0
+    front i h = List·getD-append v z 0 i h
+
+pub read-whole : (s : List ℕ) (r : Judged) (w v : List ℕ) (n : ℕ) → Into-says s r v → length v ≡ claim-cells → claim-cells ≤ length w → Claim-read s r w (v ++ drop claim-cells (replicate n 0))
+read-whole s r w v n i e h =
+    record {
+      answer = i .answer;
+      held = λ k. front-held s (claim-in s) v (drop claim-cells (replicate n 0)) e (i .held);
+      rest = λ j k. behind j k;
+      short = λ k. absurd (omega (arith, h, k));
+    }
+  where
+    behind : (j : ℕ) → claim-cells ≤ j → getD (v ++ drop claim-cells (replicate n 0)) j 0 ≡ 0
+    behind j k =
+        let q : j ≡ length v + (j - length v) = omega (arith, e, k) in
+        ap (λ (i : ℕ). getD (v ++ drop claim-cells (replicate n 0)) i 0) q
+        ∙ (getD-append-add v (drop claim-cells (replicate n 0)) (j - length v) 0 ∙ (getD-drop claim-cells (replicate n 0) (j - length v) 0 ∙ zero-cell n (claim-cells + (j - length v))))

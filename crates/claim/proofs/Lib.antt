@@ -17,3 +17,4 @@ pub mod EdgeCode
 pub mod BodyWhole
 pub mod OpeningCode
 pub mod JudgeCode
+pub mod EntryCode

@@ -3,9 +3,9 @@
 use mathlib.Core.Path.{_≡_}
 use mathlib.Core.Bool.{false, cond}
 use mathlib.Core.List.{List, [], _∷_}
-use Prim.Native.Nat.{ℕ, _<_, _≤_}
+use Prim.Native.Nat.{ℕ, _+_, _<_, _≤_}
 use lib.Dec.{eqb}
-use lib.ListN.{length, replicate}
+use lib.ListN.{length, getD, replicate}
 use Rattle.text.specs.Ascii.{ascii}
 use Rattle.model.specs.ClaimTokens as T
 use Rattle.model.specs.ClaimTokens.{opens-so}
@@ -58,8 +58,14 @@ pub record Into-says (bs : List ℕ) (r : Judged) (cells-now : List ℕ) : Type 
   pub answer : r ≡ judged-claim bs
   pub held : Claim-held bs (claim-in bs) cells-now
 
--- the claim stands in cells that have room for it; other cells are all zeros, and so are all after a refusal
+-- the claim stands in the first cells, if they have room for it, and all others are 0; of a refused text no cell holds
+-- anything
 pub record Claim-read (bs : List ℕ) (r : Judged) (cells cells-now : List ℕ) : Type 0 where
   pub answer : r ≡ judged-claim bs
   pub held : claim-cells ≤ length cells → Claim-held bs (claim-in bs) cells-now
+  pub rest : (i : ℕ) → claim-cells ≤ i → getD cells-now i 0 ≡ 0
   pub short : length cells < claim-cells → cells-now ≡ replicate (length cells) 0
+
+-- a part of the cells, cell by cell
+pub record Copied (cells : List ℕ) (at : ℕ) (part : List ℕ) : Type 0 where
+  pub same : (i : ℕ) → i < length part → getD part i 0 ≡ getD cells (at + i) 0

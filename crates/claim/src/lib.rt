@@ -2,11 +2,12 @@
 // into cells of the caller's. Contracts cite specs/Judging.antt and specs/Cells.antt.
 ghost use mathlib.Core.Path.{_≡_};
 ghost use mathlib.Core.Bool.{true};
-ghost use Prim.Native.Nat.{_≤_};
+ghost use Prim.Native.Nat.{_+_, _≤_};
 ghost use lib.ListN.{length, replicate};
 ghost use Rattle.model.specs.ClaimTokens.{opens};
+ghost use Rattle.model.specs.ClaimEntry.{Claim-says, Moves-say};
 ghost use Rattle.claim.specs.Cells.{claim-cells};
-ghost use Rattle.claim.specs.Judging.{Version-says, Opening-says, Text-read, Into-says, Claim-read};
+ghost use Rattle.claim.specs.Judging.{Version-says, Opening-says, Text-read, Into-says, Claim-read, Copied};
 
 mod body;
 mod header;
@@ -22,6 +23,7 @@ use crate::tokens::Token;
 use crate::tokens::fault;
 use crate::tokens::token_at;
 use crate::tokens::word;
+use model::Claimed;
 
 // The counts of a claim.
 pub struct Counts {
@@ -151,7 +153,7 @@ fn read_into(text: &[u8], cells: &mut [u32]) -> Judged
     judged
 }
 
-// Judges a whole text as a claim, and puts the claim into the cells, if they have room for it.
+// Judges a whole text as a claim, and puts the claim into the first cells, if they have room for it; the rest are zeros.
 pub fn read_claim(text: &[u8], cells: &mut [u32]) -> Judged
     ensures { λ r. ⌜ Claim-read (now (text .entry)) r (now (cells .entry)) (now (cells .exit)) ⌝ }
 {
@@ -160,5 +162,71 @@ pub fn read_claim(text: &[u8], cells: &mut [u32]) -> Judged
         let mut own = [0u32; 3900];
         return read_into(text, &mut own);
     }
-    read_into(text, cells)
+    read_into(text, &mut cells[..Counts::CELLS])
+}
+
+// A part of the cells, from `at` on.
+fn copy(cells: &[u32], at: usize, part: &mut [u32])
+    requires { ⌜ at + length (now part) ≤ length (now cells) ⌝ }
+    ensures { λ r. ⌜ Copied (now (cells .entry)) at (now (part .exit)) ⌝ }
+{
+    let mut i: usize = 0;
+    while i < part.len() {
+        part[i] = cells[at + i];
+        i += 1;
+    }
+}
+
+// A text as a claim: its refusal or its counts, and of each state its mark and its name's place and length.
+pub fn describe_claim(text: &[u8]) -> Claimed
+    ensures { λ r. ⌜ Claim-says (now (text .entry)) r ⌝ }
+{
+    let mut cells = [0u32; 3900];
+    let mut accepting = [0u32; 15];
+    let mut name_at = [0u32; 15];
+    let mut name_length = [0u32; 15];
+    let judged = read_into(text, &mut cells);
+    copy(&cells, 0, &mut accepting);
+    copy(&cells, Counts::NAMES, &mut name_at);
+    copy(&cells, Counts::LENGTHS, &mut name_length);
+    match judged {
+        Judged::Refused(k) => Claimed {
+            refusal: k,
+            states: 0,
+            start: 0,
+            propositions: 0,
+            accepting: accepting,
+            name_at: name_at,
+            name_length: name_length,
+        },
+        Judged::Accepted(c) => Claimed {
+            refusal: 0,
+            states: c.states,
+            start: c.start,
+            propositions: c.propositions,
+            accepting: accepting,
+            name_at: name_at,
+            name_length: name_length,
+        },
+    }
+}
+
+// Where a state of a claim may move on flag values, a bit for each state: nowhere where the text is refused, or the state
+// or the values are out of range.
+pub fn claim_moves(text: &[u8], state: u32, values: u32) -> u32
+    ensures { λ r. ⌜ Moves-say (now (text .entry)) state values r ⌝ }
+{
+    let mut cells = [0u32; 3900];
+    match read_into(text, &mut cells) {
+        Judged::Refused(_) => 0,
+        Judged::Accepted(c) => {
+            if c.states <= state {
+                return 0;
+            }
+            if 1 << c.propositions <= values {
+                return 0;
+            }
+            cells[Counts::MOVES + Counts::MOST_VALUES * state as usize + values as usize]
+        }
+    }
 }

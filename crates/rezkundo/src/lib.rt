@@ -1,9 +1,11 @@
-// The C interface: the three entries under their exported names, and the version. include/rezkundo.h declares them; a
-// slice crosses as a pointer and a length. The entries' contracts are `model`'s Entry definitions.
+// The C interface: the entries under their exported names, and the version. include/rezkundo.h declares them; a
+// slice crosses as a pointer and a length. The entries' contracts are `model`'s Entry and ClaimEntry definitions.
 ghost use mathlib.Core.Path.{_≡_};
 ghost use Rattle.model.specs.Entry.{Check-says, List-says, Rounds-say};
+ghost use Rattle.model.specs.ClaimEntry.{Claim-says, Moves-say};
 ghost use Rattle.rezkundo.specs.Version.{product-version};
 use model::Checked;
+use model::Claimed;
 use model::Outcome;
 
 #[no_mangle]
@@ -32,8 +34,22 @@ pub extern "C" fn rezkundo_check_answer(text: &[u8], answer: &[u8]) -> Checked
     checker::check_answer(text, answer)
 }
 
+#[no_mangle]
+pub extern "C" fn rezkundo_read_claim(text: &[u8]) -> Claimed
+    ensures { λ r. ⌜ Claim-says (now (text .entry)) r ⌝ }
+{
+    claim::describe_claim(text)
+}
+
+#[no_mangle]
+pub extern "C" fn rezkundo_claim_moves(text: &[u8], state: u32, values: u32) -> u32
+    ensures { λ r. ⌜ Moves-say (now (text .entry)) state values r ⌝ }
+{
+    claim::claim_moves(text, state, values)
+}
+
 // `REZKUNDO_VERSION` in the header that goes with this library.
-const VERSION: u32 = 10100;
+const VERSION: u32 = 10200;
 
 // The product's version as one number.
 #[no_mangle]

@@ -3,7 +3,9 @@
 use std::fmt::{self, Debug, Display, Formatter};
 use std::sync::LazyLock;
 
-use reference::entries::{Checked, OUTPUT_BYTES, Outcome, Reference, Tool, WORK_CELLS};
+use reference::claim::{self, Claim};
+use reference::entries::{Checked, ClaimRead, OUTPUT_BYTES, Outcome, Reference, Tool, WORK_CELLS};
+use reference::refusal::Refusal;
 
 /// Items of the larger vector before the lent part, and after it.
 const GUARD: usize = 64;
@@ -29,6 +31,26 @@ pub const LEAST: Lengths = Lengths {
     output: OUTPUT_BYTES,
     work: WORK_CELLS,
 };
+
+/// Which moves of a claim are asked for.
+#[derive(Clone, Copy)]
+pub enum Asked {
+    Every,
+    /// All of a small claim, else some.
+    Few,
+}
+
+/// How many moves in range are asked for where not all are.
+const MOST_ASKED: u32 = 32;
+/// States and flag values of which one or both are out of range in every claim.
+const NOWHERE: [(u32, u32); 6] = [
+    (15, 0),
+    (16, 0),
+    (1 << 24, 0),
+    (0, 256),
+    (0, 1 << 31),
+    (u32::MAX, u32::MAX),
+];
 
 /// A call on which tool and reference differ.
 pub struct Mismatch {
@@ -112,30 +134,44 @@ fn difference(got: &Left, want: &Left) -> Option<String> {
     output.or_else(|| got.work.difference(&want.work, "work"))
 }
 
+/// One more than the greatest refusal.
+const REFUSALS: usize = 17;
+
 /// How many calls came out in each way: place 0 counts results and passes,
 /// the others the refusals of that number.
 #[derive(Default)]
 pub struct Tally {
-    runs: [u64; 14],
-    checks: [u64; 14],
+    runs: [u64; REFUSALS],
+    checks: [u64; REFUSALS],
+    claims: [u64; REFUSALS],
+    /// Calls for the moves of a claim.
+    moves: u64,
     /// Lists by which offers meet in a cell.
     pub meetings: u64,
 }
 
 impl Tally {
     pub fn calls(&self) -> u64 {
-        self.runs.iter().chain(&self.checks).sum()
+        let reads = self.runs.iter().chain(&self.checks).chain(&self.claims);
+        reads.sum::<u64>() + self.moves
     }
 }
 
 impl Display for Tally {
     fn fmt(&self, formatter: &mut Formatter) -> fmt::Result {
-        for (name, counts) in [("runs", &self.runs), ("checks", &self.checks)] {
+        for (name, counts) in [
+            ("runs", &self.runs),
+            ("checks", &self.checks),
+            ("claims", &self.claims),
+        ] {
             write!(formatter, "{name} by refusal:")?;
             for (refusal, count) in counts.iter().enumerate().filter(|(_, count)| **count > 0) {
                 write!(formatter, " {refusal}: {count}")?;
             }
             writeln!(formatter)?;
+        }
+        if self.moves > 0 {
+            writeln!(formatter, "moves of claims: {}", self.moves)?;
         }
         if self.meetings > 0 {
             writeln!(formatter, "lists by which offers meet: {}", self.meetings)?;
@@ -216,6 +252,75 @@ impl<'a> Comparison<'a> {
             inputs: format!("case:\n{}\nanswer:\n{}", shown(text), shown(answer)),
         })
     }
+
+    /// Compares the reading of a claim, and its moves as far as they are asked
+    /// for.
+    pub fn claim(&mut self, text: &[u8], asked: Asked) -> Result<(), Mismatch> {
+        let claim = claim::read(text);
+        let want = ClaimRead::of(&claim);
+        self.tally.claims[want.refusal as usize] += 1;
+        let got = self.tool.read_claim(text);
+        if let Some(difference) = claim_difference(&got, &want) {
+            return Err(Mismatch {
+                summary: format!("read_claim {difference}"),
+                inputs: format!("claim:\n{}", shown(text)),
+            });
+        }
+        for (state, values) in questions(&want, asked) {
+            self.moves(text, &claim, state, values)?;
+        }
+        Ok(())
+    }
+
+    fn moves(
+        &mut self,
+        text: &[u8],
+        claim: &Result<Claim, Refusal>,
+        state: u32,
+        values: u32,
+    ) -> Result<(), Mismatch> {
+        let want = claim.as_ref().map_or(0, |claim| claim.moves(state, values));
+        self.tally.moves += 1;
+        let got = self.tool.claim_moves(text, state, values);
+        if got == want {
+            return Ok(());
+        }
+        Err(Mismatch {
+            summary: format!("claim_moves should return {want:#b} and returns {got:#b}"),
+            inputs: format!("state {state}, values {values}, claim:\n{}", shown(text)),
+        })
+    }
+}
+
+/// The refusals where they differ, else all numbers.
+fn claim_difference(got: &ClaimRead, want: &ClaimRead) -> Option<String> {
+    if got.refusal != want.refusal {
+        let (want, got) = (want.refusal, got.refusal);
+        return Some(format!("should return refusal {want} and returns {got}"));
+    }
+    (got != want).then(|| format!("should return {want:?} and returns {got:?}"))
+}
+
+/// States and flag values to ask for the moves of: those in range, or some of
+/// them, and some out of range.
+fn questions(read: &ClaimRead, asked: Asked) -> Vec<(u32, u32)> {
+    if read.refusal != 0 {
+        return vec![(0, 0)];
+    }
+    let (states, values) = (read.states, 1 << read.propositions);
+    let pairs = states * values;
+    // An odd step, so that no flag has the same value in all of them.
+    let (step, nowhere) = match asked {
+        Asked::Every => (1, &NOWHERE[..]),
+        Asked::Few => (pairs.div_ceil(MOST_ASKED) | 1, &[][..]),
+    };
+    let in_range = (0..pairs).step_by(step as usize);
+    let mut questions: Vec<_> = in_range
+        .map(|pair| (pair / values, pair % values))
+        .collect();
+    questions.extend([(states, 0), (0, values)]);
+    questions.extend(nowhere);
+    questions
 }
 
 fn run_inputs(entry: Entry, text: &[u8], lengths: Lengths) -> String {

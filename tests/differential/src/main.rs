@@ -4,6 +4,8 @@
 //! comparison finds faults. Status 0 is success, 1 a mismatch or a mutant
 //! that survived, 2 a command line that means nothing here.
 
+mod claim_mutants;
+mod claims;
 mod compare;
 mod fixed;
 mod mutants;
@@ -96,24 +98,55 @@ impl Found {
     }
 }
 
-/// All comparisons of a tool; returns how many calls came out in which way.
-fn compare(tool: &dyn Tool, length: &Length) -> Result<Tally, Found> {
+/// A part of the comparison: the entries that take a case, or those that take
+/// a claim.
+#[derive(Clone, Copy)]
+pub enum Part {
+    Cases,
+    Claims,
+}
+
+impl Part {
+    fn compare_fixed(self, comparison: &mut Comparison) -> Result<(), Mismatch> {
+        match self {
+            Part::Cases => fixed::compare_all(comparison),
+            Part::Claims => claims::compare_all(comparison),
+        }
+    }
+
+    fn compare_round(self, comparison: &mut Comparison, rng: &mut Rng) -> Result<(), Mismatch> {
+        match self {
+            Part::Cases => random::compare_round(comparison, rng),
+            Part::Claims => claims::compare_round(comparison, rng),
+        }
+    }
+}
+
+/// Both parts.
+const WHOLE: [Part; 2] = [Part::Cases, Part::Claims];
+
+/// Compares a tool by these parts; returns how many calls came out in which way.
+fn compare(tool: &dyn Tool, parts: &[Part], length: &Length) -> Result<Tally, Found> {
     let mut comparison = Comparison::new(tool);
     let found = |place: String| |mismatch| Found { place, mismatch };
-    if length.fixed {
-        fixed::compare_all(&mut comparison).map_err(found("fixed inputs".to_owned()))?;
-    }
-    for round in 0..length.rounds {
-        let mut rng = Rng::for_round(length.seed, round);
-        let place = format!("seed {} round {round}", length.seed);
-        random::compare_round(&mut comparison, &mut rng).map_err(found(place))?;
+    for part in parts {
+        if length.fixed {
+            let place = "fixed inputs".to_owned();
+            part.compare_fixed(&mut comparison).map_err(found(place))?;
+        }
+        for round in 0..length.rounds {
+            let mut rng = Rng::for_round(length.seed, round);
+            let place = format!("seed {} round {round}", length.seed);
+            part.compare_round(&mut comparison, &mut rng)
+                .map_err(found(place))?;
+        }
     }
     Ok(comparison.tally)
 }
 
 /// Compares a tool that should be right.
 fn compare_right(name: &str, tool: &dyn Tool, length: &Length) -> ExitCode {
-    match compare(tool, length) {
+    match compare(tool, &WHOLE, length) {
         Ok(tally) => {
             println!("{name}: no mismatch in {} calls\n{tally}", tally.calls());
             ExitCode::SUCCESS
@@ -143,7 +176,7 @@ fn compare_every_mutant(length: &Length) -> ExitCode {
     let mut result = compare_right("no fault", &faultless(), length);
     let mut caught = 0;
     for mutant in mutants() {
-        match compare(&mutant, length) {
+        match compare(&mutant, &[mutant.part], length) {
             Ok(tally) => {
                 println!("{}: SURVIVED {} calls", mutant.name, tally.calls());
                 result = ExitCode::FAILURE;
@@ -165,7 +198,7 @@ fn compare_one_mutant(name: &str, length: &Length) -> ExitCode {
         eprintln!("no mutant {name:?}; there are:\n{}", names.join("\n"));
         return ExitCode::from(2);
     };
-    match compare(&mutant, length) {
+    match compare(&mutant, &[mutant.part], length) {
         Ok(tally) => {
             println!("{name}: SURVIVED {} calls", tally.calls());
             ExitCode::FAILURE

@@ -1,19 +1,26 @@
 //! The reference with one fault each: the comparison must find every one.
 //!
-//! A mutant takes over one hook of a run or a check and leaves the rest as
-//! the reference has it.
+//! A mutant takes over one hook of a run, a check or the reading of a claim and
+//! leaves the rest as the reference has it.
 
 use std::borrow::Cow;
 
 use reference::answer::{Answer, EMPTY_NAMES, cycle, fewest_edges_to};
 use reference::case::{self, Case};
 use reference::checker::{self, is_lasso_shaped, leaves_accepting};
-use reference::entries::{Checked, Outcome, Report, Tool, WORK_CELLS, check_with, run_with};
+use reference::claim::{Claim, LIMITS, read_tokens};
+use reference::claim_tokens::{Fault, Limits, Token, tokens};
+use reference::entries::{
+    Checked, ClaimRead, Outcome, Report, Tool, WORK_CELLS, check_with, run_with,
+};
 use reference::refusal::Refusal;
 use reference::run::{Finding, Run, Tallies, by_list, judge_acts};
 
+use crate::Part;
+use crate::claim_mutants::claim_mutants;
+
 /// A faulty tool: each hook is right unless a mutant takes it over.
-trait Faulty {
+pub trait Faulty {
     /// The case text that is read in place of the one given.
     fn case_text<'a>(&self, text: &'a [u8]) -> Cow<'a, [u8]> {
         text.into()
@@ -49,10 +56,28 @@ trait Faulty {
     fn check(&self, case: &Case, answer: &[u8]) -> Result<Answer, Refusal> {
         checker::check(case, answer)
     }
+
+    /// The text of a claim that is read in place of the one given.
+    fn claim_text<'a>(&self, text: &'a [u8]) -> Cow<'a, [u8]> {
+        text.into()
+    }
+
+    /// The limits that a claim is held to.
+    fn claim_limits(&self) -> Limits {
+        LIMITS
+    }
+
+    /// Changes the tokens of a refused claim, which is then read once more.
+    fn forgive(&self, _tokens: &mut Vec<Token>) {}
+
+    /// What comes of a claim.
+    fn judge(&self, _tokens: &[Token], read: Result<Claim, Fault>) -> Result<Claim, Refusal> {
+        read.map_err(|fault| fault.refusal)
+    }
 }
 
 /// Copies of both buffers, made before a run.
-struct Buffers {
+pub struct Buffers {
     output: Vec<u8>,
     work: Vec<i32>,
 }
@@ -69,9 +94,10 @@ fn answer_at_any_rate(run: &Run) -> Option<Answer> {
     }
 }
 
-/// A mutant with its name.
+/// A mutant with its name, and the part of the comparison that must catch it.
 pub struct Mutant {
     pub name: &'static str,
+    pub part: Part,
     fault: Box<dyn Faulty>,
 }
 
@@ -107,6 +133,17 @@ impl Mutant {
         self.fault.leave(outcome, &before, output, work);
         outcome
     }
+
+    fn claim(&self, text: &[u8]) -> Result<Claim, Refusal> {
+        let text = self.fault.claim_text(text);
+        let limits = self.fault.claim_limits();
+        let mut tokens = tokens(&text);
+        let read = read_tokens(&tokens, limits).or_else(|_| {
+            self.fault.forgive(&mut tokens);
+            read_tokens(&tokens, limits)
+        });
+        self.fault.judge(&tokens, read)
+    }
 }
 
 impl Tool for Mutant {
@@ -131,11 +168,31 @@ impl Tool for Mutant {
             self.fault.check(case, answer)
         })
     }
+
+    fn read_claim(&self, text: &[u8]) -> ClaimRead {
+        ClaimRead::of(&self.claim(text))
+    }
+
+    fn claim_moves(&self, text: &[u8], state: u32, values: u32) -> u32 {
+        let claim = self.claim(text);
+        claim.map_or(0, |claim| claim.moves(state, values))
+    }
 }
 
 fn mutant(name: &'static str, fault: impl Faulty + 'static) -> Mutant {
-    let fault = Box::new(fault);
-    Mutant { name, fault }
+    Mutant {
+        name,
+        part: Part::Cases,
+        fault: Box::new(fault),
+    }
+}
+
+/// A mutant that reads claims.
+pub fn claim_mutant(name: &'static str, fault: impl Faulty + 'static) -> Mutant {
+    Mutant {
+        part: Part::Claims,
+        ..mutant(name, fault)
+    }
 }
 
 /// The tool without any fault: the comparison must not find anything.
@@ -145,6 +202,13 @@ pub fn faultless() -> Mutant {
 
 /// Every mutant.
 pub fn mutants() -> Vec<Mutant> {
+    let mut mutants = case_mutants();
+    mutants.extend(claim_mutants());
+    mutants
+}
+
+/// The mutants that run and check cases.
+fn case_mutants() -> Vec<Mutant> {
     vec![
         mutant("floor at -A", FloorAtMinusA),
         mutant("ended while a message waits", EndedWhileMessageWaits),

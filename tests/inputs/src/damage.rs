@@ -257,17 +257,22 @@ fn fields(text: &[u8]) -> Vec<Range<usize>> {
 /// Every file that comes of one small change at one place: a cut, a byte
 /// left out, and each odd byte put before or in place of the one there.
 pub fn every_small_change(text: &[u8]) -> Vec<Vec<u8>> {
+    every_change_by(text, ODD_BYTES)
+}
+
+/// The same by other odd bytes.
+pub fn every_change_by(text: &[u8], odd_bytes: &[u8]) -> Vec<Vec<u8>> {
     let mut changed = Vec::new();
     for place in 0..text.len() {
         let (before, after) = (&text[..place], &text[place + 1..]);
         changed.push(before.to_vec());
         changed.push([before, after].concat());
-        for &odd in ODD_BYTES {
+        for &odd in odd_bytes {
             changed.push([before, &[odd], after].concat());
             changed.push([before, &[odd], &text[place..]].concat());
         }
     }
-    for &odd in ODD_BYTES {
+    for &odd in odd_bytes {
         changed.push([text, &[odd]].concat());
     }
     changed

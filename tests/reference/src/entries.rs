@@ -1,8 +1,9 @@
-//! The three entries, with the buffers that a caller lends.
+//! The entries, with the buffers that a caller lends.
 
 use crate::answer::Answer;
 use crate::case::{self, Case};
 use crate::checker;
+use crate::claim::{self, Claim, MOST_STATES};
 use crate::refusal::Refusal;
 use crate::run::{Run, Tallies, by_list, by_rounds};
 
@@ -38,13 +39,60 @@ pub struct Checked {
     pub verdict: u32,
 }
 
-/// Anything that offers the three entries.
+/// What the reading of a claim returns, by state as far as there are states.
+/// A refusal has zeros for the rest.
+#[derive(Clone, Copy, Debug, Default, PartialEq, Eq)]
+pub struct ClaimRead {
+    pub refusal: u32,
+    pub states: u32,
+    pub start: u32,
+    pub propositions: u32,
+    pub accepting: [u32; MOST_STATES],
+    /// Where the bytes of a name begin in the text, counted from 0; 0 where
+    /// there is no name.
+    pub name_at: [u32; MOST_STATES],
+    pub name_length: [u32; MOST_STATES],
+}
+
+impl ClaimRead {
+    pub fn of(read: &Result<Claim, Refusal>) -> Self {
+        match read {
+            Ok(claim) => ClaimRead::taken(claim),
+            Err(refusal) => ClaimRead {
+                refusal: refusal.number(),
+                ..ClaimRead::default()
+            },
+        }
+    }
+
+    fn taken(claim: &Claim) -> Self {
+        let mut taken = ClaimRead {
+            states: claim.states.len() as u32,
+            start: claim.start,
+            propositions: claim.propositions,
+            ..ClaimRead::default()
+        };
+        for (number, state) in claim.states.iter().enumerate() {
+            let name = state.name.clone().unwrap_or_default();
+            taken.accepting[number] = state.accepting.into();
+            taken.name_at[number] = name.start as u32;
+            taken.name_length[number] = name.len() as u32;
+        }
+        taken
+    }
+}
+
+/// Anything that offers the five entries.
 pub trait Tool {
     fn run_list(&self, text: &[u8], acts: &[u32], output: &mut [u8], work: &mut [i32]) -> Outcome;
 
     fn run_rounds(&self, text: &[u8], output: &mut [u8], work: &mut [i32]) -> Outcome;
 
     fn check_answer(&self, text: &[u8], answer: &[u8]) -> Checked;
+
+    fn read_claim(&self, text: &[u8]) -> ClaimRead;
+
+    fn claim_moves(&self, text: &[u8], state: u32, values: u32) -> u32;
 }
 
 /// What a begun run leaves to report.
@@ -129,5 +177,13 @@ impl Tool for Reference {
 
     fn check_answer(&self, text: &[u8], answer: &[u8]) -> Checked {
         check_with(text, |case| checker::check(case, answer))
+    }
+
+    fn read_claim(&self, text: &[u8]) -> ClaimRead {
+        ClaimRead::of(&claim::read(text))
+    }
+
+    fn claim_moves(&self, text: &[u8], state: u32, values: u32) -> u32 {
+        claim::read(text).map_or(0, |claim| claim.moves(state, values))
     }
 }

@@ -1,4 +1,5 @@
-//! An independent, plain implementation of the scope paper's rules.
+//! An independent, plain implementation of the scope paper's rules, and of the
+//! change requests that have landed.
 //!
 //! It is meant to be read beside the paper: every rule stands where the paper
 //! puts it, and nothing is made fast at the price of being less plain. The
@@ -8,6 +9,9 @@
 pub mod answer;
 pub mod case;
 pub mod checker;
+pub mod claim;
+pub mod claim_label;
+pub mod claim_tokens;
 pub mod entries;
 pub mod plain;
 pub mod refusal;

@@ -17,6 +17,9 @@ pub enum Refusal {
     BufferTooSmall = 11,
     AnswerLayout = 12,
     AnswerWrong = 13,
+    NotAClaim = 14,
+    ClaimWrong = 15,
+    ClaimNotTaken = 16,
 }
 
 impl Refusal {

@@ -2,9 +2,9 @@
 //! bindings/rust. The binding keeps every number that the library returns, so
 //! nothing that the comparison looks at is lost on the way.
 
-use reference::entries::{Checked, Outcome, Tool};
+use reference::entries::{Checked, ClaimRead, Outcome, Tool};
 use reference::run::Tallies;
-use rezkundo::{Error, Finding, check_answer, run_list, run_rounds};
+use rezkundo::{Error, Finding, check_answer, claim_moves, read_claim, run_list, run_rounds};
 
 /// The proved library.
 pub struct Library;
@@ -31,6 +31,23 @@ impl Tool for Library {
                 Checked { refusal, verdict }
             }
         }
+    }
+
+    fn read_claim(&self, text: &[u8]) -> ClaimRead {
+        let read = read_claim(text);
+        ClaimRead {
+            refusal: read.refusal,
+            states: read.states,
+            start: read.start,
+            propositions: read.propositions,
+            accepting: read.accepting,
+            name_at: read.name_at,
+            name_length: read.name_length,
+        }
+    }
+
+    fn claim_moves(&self, text: &[u8], state: u32, values: u32) -> u32 {
+        claim_moves(text, state, values)
     }
 }
 
