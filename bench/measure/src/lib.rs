@@ -1,4 +1,5 @@
-//! What both measuring programs share: the graphs and the clock.
+//! What the measuring programs share: the graphs, the claims and the clock.
 
+pub mod claims;
 pub mod clock;
 pub mod graphs;

@@ -1,0 +1,57 @@
+//! Measures the reading of claims: the library's reader beside one in plain
+//! Rust that makes the same checks and fills the same tables.
+
+use std::hint::black_box;
+
+use measure::claims::{Example, examples};
+use measure::clock::median_seconds;
+use plain::claims::{self, Tables};
+
+fn main() {
+    println!(
+        "{:<34}{:>7}{:>9}{:>12}{:>11}{:>10}",
+        "claim", "bytes", "refusal", "library/us", "plain/us", "l/plain"
+    );
+    for example in examples() {
+        println!("{}", row(&example));
+    }
+}
+
+fn row(example: &Example) -> String {
+    let read = claims::read(&example.text, &mut Tables::empty());
+    let refusal = read.err().unwrap_or(0);
+    let (library, plain) = times(&example.text, refusal);
+    let ratio = library.map_or("-".to_owned(), |library| format!("{:.2}", library / plain));
+    let library = library.map_or("-".to_owned(), |library| format!("{library:.1}"));
+    let bytes = example.text.len();
+    format!(
+        "{:<34}{bytes:>7}{refusal:>9}{library:>12}{plain:>11.1}{ratio:>10}",
+        example.name
+    )
+}
+
+/// The tables are the caller's, as the library's cells are.
+fn plain_way(text: &[u8]) -> impl FnMut() {
+    let mut tables = Tables::empty();
+    move || {
+        black_box(claims::read(black_box(text), &mut tables)).ok();
+        black_box(&tables);
+    }
+}
+
+/// Microseconds of both readers, once they have agreed on the claim.
+#[cfg(library)]
+fn times(text: &[u8], refusal: u32) -> (Option<f64>, f64) {
+    assert_eq!(judge_wrapper::judge_claim(text), refusal);
+    let mut library = || {
+        black_box(judge_wrapper::judge_claim(black_box(text)));
+    };
+    let [library, plain] = median_seconds([&mut library, &mut plain_way(text)]);
+    (Some(library * 1e6), plain * 1e6)
+}
+
+#[cfg(not(library))]
+fn times(text: &[u8], _refusal: u32) -> (Option<f64>, f64) {
+    let [plain] = median_seconds([&mut plain_way(text)]);
+    (None, plain * 1e6)
+}
