@@ -27,6 +27,12 @@ list_fails() { # NAME ERRORS ARGUMENT...
     trial "looplist, $name" '' "$errors" "$programs/looplist" "$@"
 }
 
+claim_in() { # NAME OUTPUT CLAIM: what claimcheck prints of the file
+    input=$3
+    trial "claimcheck, $1" "$2" '' "$programs/claimcheck"
+    input=/dev/null
+}
+
 find_in K1 "$lasso_1" k1
 find_in K2 "$empty_2" k2
 find_in K3 "$lasso_3" k3
@@ -218,3 +224,55 @@ list_fails 'three arguments' "$usage" k1 whole whole
 list_fails 'no such case' $'missing: No such file or directory\n' missing whole
 list_fails 'no such list' $'missing: No such file or directory\n' k1 missing
 list_fails 'a folder for the list' $'folder: Is a directory\n' k1 folder
+
+# ---- claimcheck
+
+counts=$'states start propositions\n' states=$'state accepting name\n'
+file claim $'HOA: v1\nStates: 2\nStart: 0\nAP: 2 "low" "late"\nAcceptance: 1 Inf(0)\n--BODY--\nState: 0 "hold" {0}\n[0 & !1] 0\n[1] 1\nState: 1\n[t] 1\n--END--\n'
+shown_claim=$counts$'2 0 2\n'$states$'0 1 hold\n1 0\n'
+claim_in 'a named state and one without a name' "$shown_claim" claim
+one_state() { # NAME: a claim of one state, by what stands between its number and its edge
+    file named "HOA: v1 States: 1 Start: 0 Acceptance: 1 Inf(0) --BODY-- State: 0 $1 [t] 0 --END--"
+}
+one_state ''
+claim_in 'no name' "${counts}1 0 0"$'\n'"$states"$'0 0\n' named
+one_state '""'
+claim_in 'an empty name' "${counts}1 0 0"$'\n'"$states"$'0 0 \n' named
+one_state '"a\"b c" {0 0}'
+claim_in 'a name as stored' "${counts}1 0 0"$'\n'"$states"$'0 1 a\\"b c\n' named
+one_state '"'"$(printf '%032d' 0)"'" {}'
+claim_in 'a name of 32 bytes' "${counts}1 0 0"$'\n'"$states"'0 0 '"$(printf '%032d' 0)"$'\n' named
+one_state '"'"$(printf '%033d' 0)"'"'
+claim_in 'a name of 33 bytes' $'refused 15\n' named
+
+# The states from the last to the first, each with a name of 32 bytes; the odd ones accept.
+largest() { # STATES
+    printf 'HOA: v1\nAP: 8 "a" "b" "c" "d" "e" "f" "g" "h"\nStates: %d\nStart: %d\nAcceptance: 1 Inf(0)\n--BODY--\n' "$1" $(($1 - 1))
+    awk -v n="$1" 'BEGIN { for (c = n - 1; c >= 0; c--) printf "State: %d \"%032d\" %s\n[t] 0\n", c, c, c % 2 ? "{0}" : "" }'
+    echo '--END--'
+}
+largest 15 >states.15
+largest 16 >states.16
+claim_in '15 states and 8 propositions' "${counts}15 14 8"$'\n'"$states$(awk 'BEGIN { for (c = 0; c < 15; c++) printf "%d %d %032d\n", c, c % 2, c }')"$'\n' states.15
+claim_in '16 states' $'refused 15\n' states.16
+
+{ cat claim; head -c 16384 /dev/zero | tr '\0' ' '; } >spaced
+head -c 16384 spaced >spaced.16384
+head -c 16385 spaced >spaced.16385
+head -n 11 claim >torn.claim
+file comment 'HOA: v1 /* */'
+claim_in 'an empty file' $'refused 14\n' torn.0
+claim_in 'a case' $'refused 14\n' k1
+claim_in 'torn before its last line' $'refused 15\n' torn.claim
+claim_in '16,384 bytes' "$shown_claim" spaced.16384
+claim_in '16,385 bytes' $'refused 15\n' spaced.16385
+claim_in 'a million bytes' $'refused 14\n' long.1000000
+claim_in 'a comment' $'refused 16\n' comment
+
+trial 'claimcheck, an argument' '' $'usage: claimcheck < CLAIM\n' "$programs/claimcheck" claim
+trial 'claimcheck, no input' '' $'standard input: Bad file descriptor\n' without_input "$programs/claimcheck"
+input=folder
+trial 'claimcheck, a folder' '' $'standard input: Is a directory\n' "$programs/claimcheck"
+input=claim
+trial 'claimcheck, no room' '' $'standard output: No space left on device\n' into_full "$programs/claimcheck"
+input=/dev/null

@@ -13,7 +13,7 @@ rule() { awk -F '\t' -v number="$1" '$1 == number { print $3 }' "$root/share/rez
 
 # ---- a result
 
-find=$scripts/loopfind check=$scripts/loopcheck list=$scripts/looplist
+find=$scripts/loopfind check=$scripts/loopcheck list=$scripts/looplist claims=$scripts/claimcheck
 input=k1
 ends 0 'bin/loopfind' "$lasso_1" '' "$find"
 ends 0 'bin/loopfind -' "$lasso_1" '' "$find" -
@@ -22,6 +22,10 @@ ends 0 'bin/loopfind, a file' "$empty_2" '' "$find" k2
 ends 0 'bin/loopcheck' $'pass lasso\n' '' "$check" k1 a1
 ends 0 'bin/loopcheck, empty' $'pass empty\n' '' "$check" k2 a2
 ends 0 'bin/looplist' "$done_1" '' "$list" k1 whole
+ends 0 'bin/claimcheck, a file' "$shown_claim" '' "$claims" claim
+input=claim
+ends 0 'bin/claimcheck -' "$shown_claim" '' "$claims" -
+input=/dev/null
 
 # ---- a refusal: which file, and the rule in plain words
 
@@ -48,12 +52,14 @@ ends 1 'bin/loopcheck, an answer torn' $'refused 12\n' "loopcheck: answer: $(rul
 ends 1 'bin/loopcheck, a false answer' $'refused 13\n' "loopcheck: answer: $(rule 13)"$'\n' "$check" k2 a1
 ends 1 'bin/looplist, an act too many' $'refusal 9\n'"$undone" "looplist: acts: $(rule 9)"$'\n' "$list" k1 out
 ends 1 'bin/looplist, unended' $'refusal 10\nverdict none\nacts 7\nsent 4\ndelivered 3\njoined 0\n' "looplist: acts: $(rule 10)"$'\n' "$list" k1 short
+words=$(rule 14)
+ends 1 'bin/claimcheck, refused' $'refused 14\n' "claimcheck: claim: ${words:-refusal 14, see docs/REFUSALS.md}"$'\n' "$claims" torn.0
 
 # The table has each refusal once, in order, and docs/REFUSALS.md has a row for each.
 in_table() { cut -f 1 "$root/share/rezkundo/refusals"; }
 in_document() { sed -n 's/^| \([0-9][0-9]*\) | .*/\1/p' "$root/docs/REFUSALS.md"; }
-trial 'the words of each refusal' "$(seq 13)"$'\n' '' in_table
-trial 'the document of each refusal' "$(seq 13)"$'\n' '' in_document
+trial 'the words of each refusal' "$(seq 16)"$'\n' '' in_table
+trial 'the document of each refusal' "$(seq 16)"$'\n' '' in_document
 
 # ---- trouble
 
@@ -66,6 +72,9 @@ ends 2 'bin/loopfind, no input' '' $'standard input: Bad file descriptor\n' with
 ends 2 'bin/loopfind, no room' '' "loopfind$unwritten" into_full "$find" k1
 ends 2 'bin/loopfind, refused and no room' '' "loopfind$unwritten" into_full "$find" k10
 ends 2 'bin/loopfind, output closed' '' "loopfind$unwritten" closed "$find" k1
+ends 2 'bin/claimcheck, no such file' '' $'claimcheck: missing: No such file or directory\n' "$claims" missing
+ends 2 'bin/claimcheck, two files' '' $'usage: claimcheck [CLAIM]\n' "$claims" claim claim
+ends 2 'bin/claimcheck, no room' '' "claimcheck$unwritten" into_full "$claims" claim
 ends 2 'bin/loopcheck, no such file' '' $'missing: No such file or directory\n' "$check" k1 missing
 ends 2 'bin/loopcheck, one file' '' $'usage: loopcheck CASE ANSWER\n' "$check" k1
 ends 2 'bin/loopcheck, - twice' '' $'loopcheck: only one of the two files can be standard input\n' "$check" - -
@@ -120,11 +129,13 @@ ends 0 'bin/rezkundo' "\
   rezkundo check  checks that an answer file shows what it says of a case
   rezkundo list   replays a recorded order of the bus on a mission
   rezkundo draw   draws a mission, and a finding in it, as Graphviz text
+  rezkundo claim  judges a claim in the Hanoi format, and prints its states
 " '' listed "$door"
 ends 0 'bin/rezkundo find' "$lasso_1" '' "$door" find k1
 ends 0 'bin/rezkundo check' $'pass lasso\n' '' "$door" check k1 a1
 ends 0 'bin/rezkundo list' "$done_1" '' "$door" list k1 whole
-ends 2 'bin/rezkundo, another word' '' $'usage: rezkundo [find | check | list | draw] [ARGUMENT]...\n' "$door" seek k1
+ends 0 'bin/rezkundo claim' "$shown_claim" '' "$door" claim claim
+ends 2 'bin/rezkundo, another word' '' $'usage: rezkundo [find | check | list | draw | claim] [ARGUMENT]...\n' "$door" seek k1
 
 # ---- help and version, from a tree in which nothing is built and on a machine without the kit
 
@@ -139,10 +150,10 @@ rm -f without_rt/rt
 kitless() { PATH=$work/without_rt "$@"; }
 kit=$(rt version)
 about=$(head -n 1 "$root/share/rezkundo/version")$'\n'$(tail -n +2 "$root/share/rezkundo/version")$'\n'kit:
-for name in find check list draw; do
-    trial "loop$name --help" "$(cat "$root/share/rezkundo/help/loop$name")"$'\n' '' kitless "bare tree/bin/loop$name" --help
-    trial "loop$name --version" "loop$name (Rezkundo) $about none on this machine"$'\n' '' kitless "bare tree/bin/loop$name" --version
-    trial "loop$name --version, the kit" "loop$name (Rezkundo) $about $kit"$'\n' '' "bare tree/bin/loop$name" --version
+for name in loopfind loopcheck looplist loopdraw claimcheck; do
+    trial "$name --help" "$(cat "$root/share/rezkundo/help/$name")"$'\n' '' kitless "bare tree/bin/$name" --help
+    trial "$name --version" "$name (Rezkundo) $about none on this machine"$'\n' '' kitless "bare tree/bin/$name" --version
+    trial "$name --version, the kit" "$name (Rezkundo) $about $kit"$'\n' '' "bare tree/bin/$name" --version
 done
 trial 'rezkundo --version' "rezkundo (Rezkundo) $about $kit"$'\n' '' "$door" --version
 in_help() { grep -c '400,000' "$root/share/rezkundo/help/looplist"; }

@@ -12,7 +12,7 @@ use Rattle.model.specs.Claim.{state, some-edge, claim-moves, some-target
 use Rattle.model.specs.ClaimRows.{all-so, rows, same-bool, all-move, moves, is-named, is-unnamed, means, watched}
 
 -- to name this on an `unfolding` line is to let every definition compute
-unfoldable computed : Bool → Bool
+unfoldable pub computed : Bool → Bool
 unfolding equal begins is-digit member is-some is-blank is-capital is-small is-letter is-name-byte is-symbol begin digit-more mark-more byte at-end lex tokens is-header is-name opens-so opens bit truth state-count start-state proposition-names has-acceptance below-given is-plain all-plain small-first item-fits header-whole title-fits has-line count-in propositions-in otherwise on-number on-string is-sign is-any-name with-item unless capital-first on-header header-step named line-step edge-step marks-step part-step from-label depth-of negations extend close-or with-atom deeper on-name atom-step close-step operator-step label-step step ended told refusal-of claim-told claim-refusal state some-edge claim-moves some-target claim-leads is-marked edges-of state-of-line line-of states-from claim-of tree-of claim-in all-so same-bool all-move is-named is-unnamed means
 computed b = b
 

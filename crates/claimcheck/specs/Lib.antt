@@ -1,0 +1,3 @@
+-- What `claimcheck` prints.
+pub mod Printing
+pub mod Rows
