@@ -13,9 +13,9 @@ use borrow.Author.Tests.{le-ltb, ne-eqb}
 use Rattle.text.specs.Ascii.{ascii}
 use Rattle.model.specs.ClaimTokens as T
 use Rattle.text.specs.Lines.{equal}
-use Rattle.model.specs.ClaimLabels.{or-level, and-level, atom, Label, always, never, proposition, term, either, deepest, Under, Reading, due, stands, Label-next, on, broken, depth-of, with-atom, deeper, on-name, atom-step, close-step, operator-step, label-step, label-told, label-is, no-label, label-start}
+use Rattle.model.specs.ClaimLabels.{or-level, and-level, atom, Label, always, never, proposition, term, either, deepest, Under, Reading, due, stands, Label-next, on, broken, depth-of, with-atom, deeper, on-name, atom-step, close-step, operator-step, label-step, label-told, label-is, no-label, label-start, whole-or}
 use Rattle.model.specs.ClaimTable.{is-sign}
-use Rattle.claim.specs.LabelSays.{Truth-of, everything, nothing, complement-of, intersection-of, union-of, Read, Got, No, Atom-says, And-says, Or-says, whole-or}
+use Rattle.claim.specs.LabelSays.{Truth-of, everything, nothing, complement-of, intersection-of, union-of, Read, Got, No, Atom-says, And-says, Or-says}
 use Rattle.claim.specs.Reads.{part, claim-tokens, spelt, Sees, Ahead, starts, first-fault, is-symbol-of, Atom-read, And-read, Or-read, flipped, Closed, Label-says, constant-of, Proposition-read, no-atom-of}
 use Rattle.claim.specs.declared.tokens.Token.{Token}
 use Rattle.claim.specs.declared.tokens.Token.the-variants.{Name, Header, Number, Text, Symbol, Body, End, Alias, Comment, Stray, Done}
@@ -28,7 +28,8 @@ use Rattle.claim.proofs.tokens.Token.{the-type}
 use Rattle.claim.proofs.labels.Truth.{the-type as truth-type}
 use Rattle.claim.proofs.Seeing.{reads-as, goes-past, starts-as, symbol-next, symbol-past}
 use Rattle.claim.proofs.Bits.{always-everything, never-nothing}
-use Rattle.claim.proofs.LabelSteps.{atom-not, atom-bracket, atom-bracket-fault, step-open, one-deeper, and-first, and-more, and-fault, or-first, or-more, or-fault, label-whole}
+use Rattle.model.proofs.ClaimLabels.{step-open}
+use Rattle.claim.proofs.LabelSteps.{atom-not, atom-bracket, atom-bracket-fault, one-deeper, and-first, and-more, and-fault, or-first, or-more, or-fault, label-whole}
 
 -- ONE TOKEN
 module _ (k : ℕ) where

@@ -6,10 +6,10 @@ use mathlib.Core.List.{List, [], _∷_}
 use mathlib.Core.Option.{Option, none, some}
 use Prim.Native.Nat.{ℕ, suc, _+_, _<_}
 use native.Mathlib.Omega.{arith}
-use borrow.Author.Tests.{lt-ltb}
 use Rattle.model.specs.ClaimTokens.{Token, symbol}
-use Rattle.claim.specs.LabelSays.{Truth-of, complement-of, intersection-of, union-of, Read, Got, No, Atom-says, And-says, Or-says, fresh-term, whole-or}
-use Rattle.model.specs.ClaimLabels.{or-level, and-level, atom, Label, negated, bracketed, one, both, term, either, truth, deepest, Under, no-under, Reading, due, stands, on, label-ends, depth-of, negations, extend, close-or, with-atom, deeper, atom-step, close-step, operator-step, label-step, label-told, label-is}
+use Rattle.claim.specs.LabelSays.{Truth-of, complement-of, intersection-of, union-of, Read, Got, No, Atom-says, And-says, Or-says}
+use Rattle.model.specs.ClaimLabels.{or-level, and-level, atom, Label, negated, bracketed, one, both, term, either, truth, deepest, Under, no-under, Reading, due, stands, on, depth-of, negations, extend, with-atom, label-told, label-is, fresh-term}
+use Rattle.model.proofs.ClaimLabels.{more-nots, step-not, step-open, step-close, step-and, step-or, step-end, stays}
 use Rattle.claim.specs.declared.labels.Values.{Values}
 use Rattle.claim.proofs.Bits.{holds-complement, holds-intersection, holds-union}
 
@@ -17,13 +17,6 @@ use Rattle.claim.proofs.Bits.{holds-complement, holds-intersection, hol
 abbrev flipped : Read → Read
 flipped (Got w r) = Got (complement-of w) r
 flipped (No n) = No n
-
-abbrev more-nots : Under → Under
-more-nots u = record { ors = u .ors; ands = u .ands; nots = suc (u .nots) }
-
-step-not : (k : ℕ) (us : List Under) (u : Under) (ts : List Token) → u .nots + depth-of us < deepest → label-told k (on (due us u)) (symbol 33 ∷ ts) ≡ label-told k (on (due us (more-nots u))) ts
-unfolding label-told label-step atom-step deeper
-step-not k us u ts h = rw (lt-ltb (u .nots + depth-of us) deepest h) refl
 
 not-truth : (a : Label atom) (w : Values) → Truth-of a w → Truth-of (negated a) (complement-of w)
 unfolding truth
@@ -38,18 +31,9 @@ atom-not k d ts (No n) h s = λ us u e. step-not k us u ts (omega (arith, h, e))
 atom-not k d ts (Got w r) h (a, t, s) =
     (negated a, not-truth a w t, λ us u e. step-not k us u ts (omega (arith, h, e)) ∙ (s us (more-nots u) (omega (arith, e)) ∙ ap (λ (y : Reading). label-told k (on y) r) (with-not us u a)))
 
-pub step-open : (k : ℕ) (us : List Under) (u : Under) (ts : List Token) → u .nots + depth-of us < deepest → label-told k (on (due us u)) (symbol 40 ∷ ts) ≡ label-told k (on (due (u ∷ us) no-under)) ts
-unfolding label-told label-step atom-step deeper
-step-open k us u ts h = rw (lt-ltb (u .nots + depth-of us) deepest h) refl
-
 pub one-deeper : (us : List Under) (u : Under) (d : ℕ) → u .nots + depth-of us ≡ d → depth-of (u ∷ us) ≡ suc d
 unfolding depth-of
 one-deeper us u d e = omega (arith, e)
-
-step-close : (k : ℕ) (us : List Under) (u : Under) (o : Label or-level) (ts : List Token) → label-told k (on (whole-or (u ∷ us) o)) (symbol 41 ∷ ts) ≡ label-told k (on (with-atom us u (bracketed o))) ts
-unfolding label-told label-step operator-step close-step close-or
-step-close k us u (term c) ts = refl
-step-close k us u (either o c) ts = refl
 
 bracket-truth : (o : Label or-level) (w : Values) → Truth-of o w → Truth-of (bracketed o) w
 unfolding truth
@@ -64,10 +48,6 @@ pub atom-bracket-fault : (k d : ℕ) (ts : List Token) (n : ℕ) → d < deepest
 atom-bracket-fault k d ts n h s us u e = step-open k us u ts (omega (arith, h, e)) ∙ s (u ∷ us) (one-deeper us u d e)
 
 -- TERMS: an atom, and while & follows another
-step-and : (k : ℕ) (us : List Under) (o : Option (Label or-level)) (c : Label and-level) (ts : List Token) → label-told k (on (stands us o c)) (symbol 38 ∷ ts) ≡ label-told k (on (due us (record { ors = o; ands = some c; nots = 0 }))) ts
-unfolding label-told label-step operator-step
-step-and k us o c ts = refl
-
 first-truth : (a : Label atom) (w : Values) → Truth-of a w → Truth-of (one a) w
 unfolding truth
 first-truth a w t = record { agrees = t .agrees }
@@ -100,11 +80,6 @@ pub and-fault : (k d : ℕ) (ts r : List Token) (w : Values) (n : ℕ) → And-s
 and-fault k d ts r w n (c, t, s) s′ us o e = s us o e ∙ (step-and k us o c r ∙ s′ us (record { ors = o; ands = some c; nots = 0 }) (omega (arith, e)))
 
 -- EXPRESSIONS: a term, and while | follows another
-step-or : (k : ℕ) (us : List Under) (o : Label or-level) (ts : List Token) → label-told k (on (whole-or us o)) (symbol 124 ∷ ts) ≡ label-told k (on (due us (fresh-term (some o)))) ts
-unfolding label-told label-step operator-step close-or
-step-or k us (term c) ts = refl
-step-or k us (either o c) ts = refl
-
 term-truth : (c : Label and-level) (w : Values) → Truth-of c w → Truth-of (term c) w
 unfolding truth
 term-truth c w t = record { agrees = t .agrees }
@@ -124,16 +99,6 @@ pub or-fault : (k d : ℕ) (ts r : List Token) (w : Values) (n : ℕ) → Or-say
 or-fault k d ts r w n (o, t, s) s′ us e = s us e ∙ (step-or k us o r ∙ s′ us (some o) e)
 
 -- THE WHOLE LABEL: up to its ]
-step-end : (k : ℕ) (o : Label or-level) (ts : List Token) → label-told k (on (whole-or [] o)) (symbol 93 ∷ ts) ≡ label-told k (label-ends o) ts
-unfolding label-told label-step operator-step close-step close-or
-step-end k (term c) ts = refl
-step-end k (either o c) ts = refl
-
-stays : (k : ℕ) (o : Label or-level) (ts : List Token) → label-told k (label-ends o) ts ≡ label-is o ts
-unfolding label-told
-stays k o [] = refl
-stays k o (t ∷ ts) = refl
-
 pub label-whole : (k : ℕ) (ts r : List Token) (w : Values) → Or-says k 0 ts (Got w (symbol 93 ∷ r)) → (o : Label or-level) × Truth-of o w × (label-told k (on (due [] no-under)) ts ≡ label-is o r)
 unfolding depth-of
 label-whole k ts r w (o, t, s) = (o, t, s [] refl ∙ (step-end k o r ∙ stays k o r))

@@ -2,12 +2,12 @@
 use mathlib.Core.Path.{_≡_}
 use mathlib.Core.Bool.{Bool, cond}
 use mathlib.Core.List.{List}
-use mathlib.Core.Option.{Option, none, some}
+use mathlib.Core.Option.{Option}
 use Prim.Native.Nat.{ℕ, _+_, _-_, _^_, _<_}
 use lib.Dec.{ltb}
 use lib.Bits.{bitAnd, bitOr, bitXor}
 use Rattle.model.specs.ClaimTokens.{Token}
-use Rattle.model.specs.ClaimLabels.{Level, or-level, and-level, atom, Label, term, either, bit, truth, Under, no-under, Reading, due, stands, on, depth-of, with-atom, label-told, no-label}
+use Rattle.model.specs.ClaimLabels.{Level, or-level, and-level, atom, Label, bit, truth, Under, no-under, due, stands, on, depth-of, with-atom, label-told, no-label, fresh-term, whole-or}
 use Rattle.claim.specs.declared.labels.Values.{Values}
 
 -- SETS OF FLAG VALUES
@@ -53,17 +53,10 @@ abbrev pub Atom-says : (k deep : ℕ) → List Token → Read → Type 0
 Atom-says k d ts (No n) = (us : List Under) (u : Under) → u .nots + depth-of us ≡ d → label-told k (on (due us u)) ts ≡ no-label n
 Atom-says k d ts (Got w r) = (a : Label atom) × Truth-of a w × ((us : List Under) (u : Under) → u .nots + depth-of us ≡ d → label-told k (on (due us u)) ts ≡ label-told k (on (with-atom us u a)) r)
 
-abbrev pub fresh-term : Option (Label or-level) → Under
-fresh-term o = record { ors = o; ands = none; nots = 0 }
-
 -- from where a term is due; what follows it is no &
 abbrev pub And-says : (k deep : ℕ) → List Token → Read → Type 0
 And-says k d ts (No n) = (us : List Under) (o : Option (Label or-level)) → depth-of us ≡ d → label-told k (on (due us (fresh-term o))) ts ≡ no-label n
 And-says k d ts (Got w r) = (c : Label and-level) × Truth-of c w × ((us : List Under) (o : Option (Label or-level)) → depth-of us ≡ d → label-told k (on (due us (fresh-term o))) ts ≡ label-told k (on (stands us o c)) r)
-
-abbrev pub whole-or : List Under → Label or-level → Reading
-whole-or us (term c) = stands us none c
-whole-or us (either o c) = stands us (some o) c
 
 abbrev pub Or-says : (k deep : ℕ) → List Token → Read → Type 0
 Or-says k d ts (No n) = (us : List Under) → depth-of us ≡ d → label-told k (on (due us no-under)) ts ≡ no-label n

@@ -329,7 +329,7 @@ fn token_from(text: &[u8], at: usize, limit: usize) -> Seen
 }
 
 // The token at `at`, after the blanks there, in a text of which `limit` bytes are looked at.
-pub fn token_at(text: &[u8], at: usize, limit: usize) -> Seen
+pub(crate) fn token_at(text: &[u8], at: usize, limit: usize) -> Seen
     ensures { λ r. ⌜ Sees (now (text .entry)) limit at (tokens-at (now (text .entry)) limit at) r ⌝ }
 {
     let e = blanks_end(text, at, limit);
@@ -349,14 +349,14 @@ pub fn token_at(text: &[u8], at: usize, limit: usize) -> Seen
 }
 
 // The token at `at` of a claim.
-pub fn claim_token(text: &[u8], at: usize) -> Seen
+pub(crate) fn claim_token(text: &[u8], at: usize) -> Seen
     ensures { λ r. ⌜ Sees (now (text .entry)) longest-claim at (claim-tokens (now (text .entry)) at) r ⌝ }
 {
     token_at(text, at, Counts::LONGEST)
 }
 
 // Whether a token is this symbol.
-pub fn is_symbol(t: Token, b: u8) -> bool
+pub(crate) fn is_symbol(t: Token, b: u8) -> bool
     ensures { λ r. ⌜ r ≡ is-symbol-of t b ⌝ }
 {
     match t {
@@ -366,7 +366,7 @@ pub fn is_symbol(t: Token, b: u8) -> bool
 }
 
 // The refusal for a token that is not taken.
-pub fn fault(t: Token) -> u32
+pub(crate) fn fault(t: Token) -> u32
     ensures { λ r. ⌜ r ≡ fault-of t ⌝ }
 {
     match t {
@@ -376,7 +376,7 @@ pub fn fault(t: Token) -> u32
 }
 
 // Whether the bytes from `a` to `e` are `w`.
-pub fn word(text: &[u8], a: usize, e: usize, w: &[u8]) -> bool
+pub(crate) fn word(text: &[u8], a: usize, e: usize, w: &[u8]) -> bool
     requires { ⌜ 0 < length (now w) ⌝ }
     ensures { λ r. ⌜ r ≡ equal (part (now (text .entry)) a e) (now (w .entry)) ⌝ }
 {

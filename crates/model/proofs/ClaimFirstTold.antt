@@ -19,7 +19,7 @@ use Rattle.model.specs.ClaimGrammar.{Item, states, start, propositions, 
 use Rattle.model.specs.ClaimTable.{Last, whole, after-start, after-acceptance, Part, numbered, marked, edged, bare, state-of, Line, Place, opening, version, in-items, in-skipped, wants-count, wants-start, wants-propositions, wants-names, wants-sets, wants-inf, wants-open, wants-set, wants-close, in-lines, wants-state, in-line, in-marks, in-label, wants-target, complete, Next, go, fault, on-number, on-string, is-sign, snoc, with-item, named, with-edge, from-label, step, ended, told, Told, taken-as, refused}
 use Rattle.model.proofs.ClaimSpelling.{taken-spelled}
 use Rattle.model.proofs.ClaimComplete.{head-read, Boundary, at-body, items-boundary, skipped-boundary, item-read, item-begins, line-read, Line-end, at-state, at-end, part-end, finish, through-label, state-read, body-read, lines-read, end-read, taken-read}
-use Rattle.model.proofs.ClaimLabels.{Fits}
+use Rattle.model.proofs.ClaimLabels.{Fits, stays}
 use Rattle.model.specs.ClaimPromise.{reached, Faults-first}
 use Rattle.model.proofs.ClaimItems.{first-given, count-append, start-append, acceptance-append, Count-sane, Start-sane, Sane, sane}
 use Rattle.model.proofs.ClaimGood.{Label-good, good-label, Good, Good-next, good-step, told-taken, Items-good, Body-good, Line-good, item-more, line-more, fresh-fits, accepts}
@@ -140,14 +140,9 @@ record Label-goes (k : ℕ) (r : Reading) : Type 0 where
   label : Label or-level
   comes : (ts : List Token) → label-told k (on r) (rest ++ ts) ≡ label-is label ts
 
-label-stays : (k : ℕ) (o : Label or-level) (ts : List Token) → label-told k (label-ends o) ts ≡ label-is o ts
-unfolding label-told
-label-stays k o [] = refl
-label-stays k o (t ∷ ts) = refl
-
 stands-goes : (k : ℕ) (us : List Under) (o : Option (Label or-level)) (c : Label and-level) → Label-goes k (stands us o c)
 unfolding label-told label-step operator-step close-step with-atom
-stands-goes k [] o c = record { rest = close-label ∷ []; label = close-or o c; comes = λ ts. label-stays k (close-or o c) ts }
+stands-goes k [] o c = record { rest = close-label ∷ []; label = close-or o c; comes = λ ts. stays k (close-or o c) ts }
 stands-goes k (u ∷ us) o c =
     let r = stands-goes k us (u .ors) (extend (u .ands) (negations (u .nots) (bracketed (close-or o c)))) in
     record { rest = close-bracket ∷ r .rest; label = r .label; comes = λ ts. r .comes ts }

@@ -10,15 +10,7 @@ use Rattle.text.specs.Lines.{equal}
 use Rattle.text.proofs.Tests.{and-both}
 use Rattle.model.specs.ClaimTokens.{Token, symbol}
 use Rattle.model.specs.ClaimLabels.{Level, or-level, and-level, atom, Label, always, never, proposition, negated, bracketed, one, both, term, either, label-tokens, label-depth, label-within, deepest, close-bracket, and-sign, or-sign}
-use Rattle.model.specs.ClaimLabels.{Under, Reading, due, stands, on, label-ends, label-step, label-told, label-is, atom-step, operator-step, close-step, deeper, depth-of, negations, extend, close-or, with-atom, on-name, no-under}
-
--- where a label of each level stands whole
-abbrev whole-or : List Under → Label or-level → Reading
-whole-or us (term c) = stands us none c
-whole-or us (either o c) = stands us (some o) c
-
-abbrev fresh-term : Option (Label or-level) → Under
-fresh-term o = record { ors = o; ands = none; nots = 0 }
+use Rattle.model.specs.ClaimLabels.{Under, Reading, due, stands, on, label-ends, label-step, label-told, label-is, atom-step, operator-step, close-step, deeper, depth-of, negations, extend, close-or, with-atom, on-name, no-under, fresh-term, whole-or}
 
 -- it fits: not too deep here, propositions in range
 pub record Fits {j : Level} (k : ℕ) (deep : ℕ) (x : Label j) : Type 0 where
@@ -43,22 +35,22 @@ unfolding label-tokens label-told label-step atom-step label-within
 reads-proposition i k us u ts f = rw (f .within) refl
 
 -- one negation more
-abbrev more-nots : Under → Under
+abbrev pub more-nots : Under → Under
 more-nots u = record { ors = u .ors; ands = u .ands; nots = suc (u .nots) }
 
 room : (k : ℕ) (us : List Under) (u : Under) (p : Reading) → u .nots + depth-of us < deepest → deeper us u p ≡ on p
 unfolding deeper
 room k us u p h = rw (lt-ltb (u .nots + depth-of us) deepest h) refl
 
-step-not : (k : ℕ) (us : List Under) (u : Under) (ts : List Token) → u .nots + depth-of us < deepest → label-told k (on (due us u)) (symbol 33 ∷ ts) ≡ label-told k (on (due us (more-nots u))) ts
+pub step-not : (k : ℕ) (us : List Under) (u : Under) (ts : List Token) → u .nots + depth-of us < deepest → label-told k (on (due us u)) (symbol 33 ∷ ts) ≡ label-told k (on (due us (more-nots u))) ts
 unfolding label-told label-step atom-step
 step-not k us u ts h = rw (room k us u (due us (more-nots u)) h) refl
 
-step-open : (k : ℕ) (us : List Under) (u : Under) (ts : List Token) → u .nots + depth-of us < deepest → label-told k (on (due us u)) (symbol 40 ∷ ts) ≡ label-told k (on (due (u ∷ us) no-under)) ts
+pub step-open : (k : ℕ) (us : List Under) (u : Under) (ts : List Token) → u .nots + depth-of us < deepest → label-told k (on (due us u)) (symbol 40 ∷ ts) ≡ label-told k (on (due (u ∷ us) no-under)) ts
 unfolding label-told label-step atom-step
 step-open k us u ts h = rw (room k us u (due (u ∷ us) no-under) h) refl
 
-step-close : (k : ℕ) (us : List Under) (u : Under) (o : Label or-level) (ts : List Token) → label-told k (on (whole-or (u ∷ us) o)) (symbol 41 ∷ ts) ≡ label-told k (on (with-atom us u (bracketed o))) ts
+pub step-close : (k : ℕ) (us : List Under) (u : Under) (o : Label or-level) (ts : List Token) → label-told k (on (whole-or (u ∷ us) o)) (symbol 41 ∷ ts) ≡ label-told k (on (with-atom us u (bracketed o))) ts
 unfolding label-told label-step operator-step close-step close-or
 step-close k us u (term c) ts = refl
 step-close k us u (either o c) ts = refl
@@ -87,11 +79,11 @@ fits-left {k = k} {d = d} x y h w = record { depth = omega (arith, h); within = 
 fits-right : {i j : Level} {k : ℕ} {d : ℕ} (x : Label i) (y : Label j) → d + max (label-depth x) (label-depth y) ≤ deepest → (label-within k x && label-within k y) ≡ true → Fits k d y
 fits-right {k = k} {d = d} x y h w = record { depth = omega (arith, h); within = and-both (label-within k x) (label-within k y) w .1 }
 
-step-and : (k : ℕ) (us : List Under) (o : Option (Label or-level)) (c : Label and-level) (ts : List Token) → label-told k (on (stands us o c)) (symbol 38 ∷ ts) ≡ label-told k (on (due us (record { ors = o; ands = some c; nots = 0 }))) ts
+pub step-and : (k : ℕ) (us : List Under) (o : Option (Label or-level)) (c : Label and-level) (ts : List Token) → label-told k (on (stands us o c)) (symbol 38 ∷ ts) ≡ label-told k (on (due us (record { ors = o; ands = some c; nots = 0 }))) ts
 unfolding label-told label-step operator-step
 step-and k us o c ts = refl
 
-step-or : (k : ℕ) (us : List Under) (o : Label or-level) (ts : List Token) → label-told k (on (whole-or us o)) (symbol 124 ∷ ts) ≡ label-told k (on (due us (fresh-term (some o)))) ts
+pub step-or : (k : ℕ) (us : List Under) (o : Label or-level) (ts : List Token) → label-told k (on (whole-or us o)) (symbol 124 ∷ ts) ≡ label-told k (on (due us (fresh-term (some o)))) ts
 unfolding label-told label-step operator-step close-or
 step-or k us (term c) ts = refl
 step-or k us (either o c) ts = refl
@@ -128,12 +120,12 @@ reads (both c a) = reads-both c a (reads c) (reads a)
 reads (term c) = reads-term c (reads c)
 reads (either o c) = reads-either o c (reads o) (reads c)
 
-step-end : (k : ℕ) (o : Label or-level) (ts : List Token) → label-told k (on (whole-or [] o)) (symbol 93 ∷ ts) ≡ label-told k (label-ends o) ts
+pub step-end : (k : ℕ) (o : Label or-level) (ts : List Token) → label-told k (on (whole-or [] o)) (symbol 93 ∷ ts) ≡ label-told k (label-ends o) ts
 unfolding label-told label-step operator-step close-step close-or
 step-end k (term c) ts = refl
 step-end k (either o c) ts = refl
 
-stays : (k : ℕ) (o : Label or-level) (ts : List Token) → label-told k (label-ends o) ts ≡ label-is o ts
+pub stays : (k : ℕ) (o : Label or-level) (ts : List Token) → label-told k (label-ends o) ts ≡ label-is o ts
 unfolding label-told
 stays k o [] = refl
 stays k o (t ∷ ts) = refl

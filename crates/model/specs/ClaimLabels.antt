@@ -228,6 +228,14 @@ unfoldable pub label-step : (count : ℕ) → Reading → Token → Label-next
 label-step k (due us u) t = atom-step k us u t
 label-step k (stands us o c) t = operator-step us o c t
 
+-- where an and-level is due after what stands before |; where an or-level stands whole
+abbrev pub fresh-term : Option (Label or-level) → Under
+fresh-term o = record { ors = o; ands = none; nots = 0 }
+
+abbrev pub whole-or : (outer : List Under) → Label or-level → Reading
+whole-or us (term c) = stands us none c
+whole-or us (either o c) = stands us (some o) c
+
 -- what the tokens from a place in a label on come to: the label and the tokens past its ], or the refusal
 pub data Label-read : Type 0 where
   label-is : Label or-level → (rest : List Token) → Label-read
