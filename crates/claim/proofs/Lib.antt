@@ -4,6 +4,7 @@ pub mod Places
 pub mod LabelSteps
 pub mod Lexing
 pub mod Variants
+pub mod Signs
 pub mod Seeing
 pub mod LabelCode
 pub mod HeaderCode

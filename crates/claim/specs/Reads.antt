@@ -2,14 +2,14 @@
 use mathlib.Core.Path.{_≡_}
 use mathlib.Core.Bool.{Bool, true, false, cond}
 use mathlib.Core.List.{List, [], _∷_}
-use Prim.Native.Nat.{ℕ, _+_, _-_, _<_, _≤_}
+use Prim.Native.Nat.{ℕ, _+_, _-_, _<_, _≤_, min}
 use lib.Dec.{ltb, eqb}
 use lib.ListN.{length, getD, take, drop}
 use Rattle.text.specs.Ascii.{ascii}
 use Rattle.text.specs.Lines.{equal}
 use Rattle.model.specs.ClaimTokens as T
 use Rattle.model.specs.ClaimLabels.{Label, or-level, proposition, on, label-start, label-told, label-is, no-label}
-use Rattle.model.specs.ClaimTokens.{Mode, between, lex, is-blank, is-name-byte}
+use Rattle.model.specs.ClaimTokens.{Mode, between, lex, is-blank, is-name-byte, is-symbol}
 use Rattle.claim.specs.declared.tokens.Token.{Token}
 use Rattle.claim.specs.declared.tokens.Token.the-variants.{Name, Header, Number, Text, Symbol, Body, End, Alias, Comment, Stray, Done}
 use Rattle.claim.specs.declared.tokens.Seen.{Seen}
@@ -36,7 +36,20 @@ claim-tokens s at = tokens-at s T.longest-claim at
 pub record Blanks-end (s : List ℕ) (limit at e : ℕ) : Type 0 where
   pub same : tokens-at s limit at ≡ tokens-at s limit e
   pub ahead : at ≤ e
+  pub inside : at ≤ length s → e ≤ length s
   pub stops : e < length s → e < limit → is-blank (getD s e 0) ≡ false
+
+-- no blank stands at a place of a claim
+abbrev pub Past-blanks : (text : List ℕ) → (at : ℕ) → Type 0
+Past-blanks s e = e < length s → e < T.longest-claim → is-blank (getD s e 0) ≡ false
+
+-- the byte at a place of a claim, 0 where none is looked at
+abbrev pub byte-of : (text : List ℕ) → (at : ℕ) → ℕ
+byte-of s at = cond (ltb at (min T.longest-claim (length s))) (getD s at 0) 0
+
+-- a byte that is a token by itself
+abbrev pub Sign : (byte : ℕ) → Type 0
+Sign b = is-symbol b ≡ true
 
 -- a name that begins at a place ends at another
 pub record Name-end (s : List ℕ) (limit at e : ℕ) : Type 0 where

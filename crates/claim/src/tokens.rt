@@ -8,7 +8,7 @@ ghost use lib.ListN.{length, getD};
 ghost use Rattle.text.specs.Lines.{equal, begins};
 ghost use Rattle.text.specs.Numbers.{is-digit};
 ghost use Rattle.model.specs.ClaimTokens.{longest-claim, is-blank, is-letter, is-name-byte, is-symbol, at-sign, slash, in-name, in-number, in-string, in-mark};
-ghost use Rattle.claim.specs.Reads.{part, lexed, tokens-at, claim-tokens, Blanks-end, Name-end, Sees, is-symbol-of, fault-of};
+ghost use Rattle.claim.specs.Reads.{part, lexed, tokens-at, claim-tokens, byte-of, Blanks-end, Name-end, Sees, is-symbol-of, fault-of};
 use crate::Counts;
 
 // A token: names, headers and strings by where their bytes begin and end. Done is the text's end.
@@ -353,6 +353,24 @@ pub(crate) fn claim_token(text: &[u8], at: usize) -> Seen
     ensures { λ r. ⌜ Sees (now (text .entry)) longest-claim at (claim-tokens (now (text .entry)) at) r ⌝ }
 {
     token_at(text, at, Counts::LONGEST)
+}
+
+// The place of the first byte of a claim from `at` on that is no blank.
+pub(crate) fn past_blanks(text: &[u8], at: usize) -> usize
+    ensures { λ r. ⌜ Blanks-end (now (text .entry)) longest-claim at r ⌝ }
+{
+    blanks_end(text, at, Counts::LONGEST)
+}
+
+// The byte at `at` of a claim, 0 where none is looked at: no sign, digit or letter.
+pub(crate) fn byte_at(text: &[u8], at: usize) -> u8
+    ensures { λ r. ⌜ r ≡ byte-of (now (text .entry)) at ⌝ }
+{
+    if at < smaller(Counts::LONGEST, text.len()) {
+        text[at]
+    } else {
+        0
+    }
 }
 
 // Whether a token is this symbol.
