@@ -130,9 +130,13 @@ never-nothing = tabled never nothing refl
 pub proposition-tabled : (i j : ℕ) (r w : Values) → i ≡ j → r ≡ w → true-on (proposition j) w ≡ true → Truth-of (proposition i) r
 proposition-tabled i j r w p q e = rw (p, q) (tabled (proposition j) w e)
 
-holds-everything : (x : ℕ) → x < most-values → holds everything x ≡ true
+pub holds-everything : (x : ℕ) → x < most-values → holds everything x ≡ true
 unfolding truth
 holds-everything x h = sym (always-everything .agrees x h)
+
+pub holds-nothing : (x : ℕ) → x < most-values → holds nothing x ≡ false
+unfolding truth
+holds-nothing x h = sym (never-nothing .agrees x h)
 
 pub holds-complement : (w : Values) (x : ℕ) → x < most-values → holds (complement-of w) x ≡ not (holds w x)
 holds-complement w x h = holds-by bitXor flip-if bit-xor w everything x ∙ rw (holds-everything x h) refl

@@ -1,20 +1,24 @@
 -- What the three label readers say of the tokens from where they stand, and how the says of one follow from the other's.
 -- `Read` stands for the code's enum. Each law is one return, or one turn of a loop.
 use mathlib.Core.Path.{_≡_, refl, sym, ap, ap₂, _∙_}
-use mathlib.Core.Bool.{not, _&&_, _||_}
+use mathlib.Core.Bool.{Bool, true, false, not, _&&_, _||_}
 use mathlib.Core.List.{List, [], _∷_}
 use mathlib.Core.Option.{Option, none, some}
 use Prim.Native.Nat.{ℕ, suc, _+_, _<_}
 use native.Mathlib.Omega.{arith}
 use Rattle.model.specs.ClaimTokens.{Token, symbol}
-use Rattle.claim.specs.LabelSays.{Truth-of, complement-of, intersection-of, union-of, Read, Got, No, Atom-says, And-says, Or-says}
-use Rattle.model.specs.ClaimLabels.{or-level, and-level, atom, Label, negated, bracketed, one, both, term, either, truth, deepest, Under, no-under, Reading, due, stands, on, depth-of, negations, extend, with-atom, label-told, label-is, fresh-term}
+use Rattle.claim.specs.LabelSays.{most-values, holds, everything, nothing, Truth-of, complement-of, intersection-of, union-of, Read, Got, No, Atom-says, And-says, Or-says}
+use Rattle.model.specs.ClaimLabels.{Level, or-level, and-level, atom, Label, negated, bracketed, one, both, term, either, truth, deepest, Under, no-under, Reading, due, stands, on, depth-of, negations, extend, with-atom, label-told, label-is, fresh-term}
 use Rattle.model.proofs.ClaimLabels.{more-nots, step-not, step-open, step-close, step-and, step-or, step-end, stays}
 use Rattle.claim.specs.declared.labels.Values.{Values}
-use Rattle.claim.proofs.Bits.{holds-complement, holds-intersection, holds-union}
+use Rattle.claim.proofs.Bits.{holds-everything, holds-nothing, holds-complement, holds-intersection, holds-union}
+
+-- sets with the same values
+same-values : {l : Level} {x : Label l} {w v : Values} → Truth-of x w → ((f : ℕ) → f < most-values → holds w f ≡ holds v f) → Truth-of x v
+same-values t e = record { agrees = λ f h. t .agrees f h ∙ e f h }
 
 -- ATOMS
-abbrev flipped : Read → Read
+abbrev pub flipped : Read → Read
 flipped (Got w r) = Got (complement-of w) r
 flipped (No n) = No n
 
@@ -30,6 +34,15 @@ pub atom-not : (k d : ℕ) (ts : List Token) (r : Read) → d < deepest → Atom
 atom-not k d ts (No n) h s = λ us u e. step-not k us u ts (omega (arith, h, e)) ∙ s us (more-nots u) (omega (arith, e))
 atom-not k d ts (Got w r) h (a, t, s) =
     (negated a, not-truth a w t, λ us u e. step-not k us u ts (omega (arith, h, e)) ∙ (s us (more-nots u) (omega (arith, e)) ∙ ap (λ (y : Reading). label-told k (on y) r) (with-not us u a)))
+
+-- negated twice
+twice : (b : Bool) → not (not b) ≡ b
+twice true = refl
+twice false = refl
+
+pub atom-twice : (k d : ℕ) (ts : List Token) (r : Read) → Atom-says k d ts (flipped (flipped r)) → Atom-says k d ts r
+atom-twice k d ts (No n) s = s
+atom-twice k d ts (Got w r) (a, t, s) = (a, same-values t (λ v h. holds-complement (complement-of w) v h ∙ (ap not (holds-complement w v h) ∙ twice (holds w v))), s)
 
 pub one-deeper : (us : List Under) (u : Under) (d : ℕ) → u .nots + depth-of us ≡ d → depth-of (u ∷ us) ≡ suc d
 unfolding depth-of
@@ -61,6 +74,10 @@ and-first k d ts (No n) s = λ us o e. s us (fresh-term o) (omega (arith, e))
 and-first k d ts (Got w r) (a, t, s) =
     (one a, first-truth a w t, λ us o e. s us (fresh-term o) (omega (arith, e)) ∙ ap (λ (y : Reading). label-told k (on y) r) (first-with us o a))
 
+-- joined to everything it is what it was
+pub and-everything : (k d : ℕ) (ts : List Token) (w : Values) (r : List Token) → And-says k d ts (Got w r) → And-says k d ts (Got (intersection-of everything w) r)
+and-everything k d ts w r (c, t, s) = (c, same-values t (λ v h. sym (holds-intersection everything w v ∙ ap (λ (b : Bool). b && holds w v) (holds-everything v h))), s)
+
 both-truth : (c : Label and-level) (a : Label atom) (v w : Values) → Truth-of c v → Truth-of a w → Truth-of (both c a) (intersection-of v w)
 unfolding truth
 both-truth c a v w s t = record { agrees = λ x h. ap₂ _&&_ (s .agrees x h) (t .agrees x h) ∙ sym (holds-intersection v w x) }
@@ -83,6 +100,9 @@ and-fault k d ts r w n (c, t, s) s′ us o e = s us o e ∙ (step-and k us o c r
 term-truth : (c : Label and-level) (w : Values) → Truth-of c w → Truth-of (term c) w
 unfolding truth
 term-truth c w t = record { agrees = t .agrees }
+
+pub or-nothing : (k d : ℕ) (ts : List Token) (w : Values) (r : List Token) → Or-says k d ts (Got w r) → Or-says k d ts (Got (union-of nothing w) r)
+or-nothing k d ts w r (o, t, s) = (o, same-values t (λ v h. sym (holds-union nothing w v ∙ ap (λ (b : Bool). b || holds w v) (holds-nothing v h))), s)
 
 either-truth : (o : Label or-level) (c : Label and-level) (v w : Values) → Truth-of o v → Truth-of c w → Truth-of (either o c) (union-of v w)
 unfolding truth

@@ -1,8 +1,9 @@
 -- Places in a text that go ahead, or stay. Assumes nothing.
 use mathlib.Core.List.{List}
-use Prim.Native.Nat.{ℕ}
+use Prim.Native.Nat.{ℕ, _≤_}
 use native.Mathlib.Omega.{arith}
-use Rattle.claim.specs.Reads.{Ahead, Onward}
+use Rattle.model.specs.ClaimTokens.{longest-claim}
+use Rattle.claim.specs.Reads.{Ahead, Onward, Blanks-end}
 
 pub ahead : {s : List ℕ} {a b c : ℕ} → Ahead s a b → Ahead s b c → Ahead s a c
 ahead p q = record { more = omega (arith, p .more, q .more); inside = q .inside }
@@ -18,3 +19,11 @@ onward p q = record { more = omega (arith, p .more, q .more); inside = λ h. q .
 
 pub ahead-onward : {s : List ℕ} {a b c : ℕ} → Ahead s a b → Onward s b c → Ahead s a c
 ahead-onward p q = record { more = omega (arith, p .more, q .more); inside = q .inside (p .inside) }
+
+-- from a place before it
+pub from-ahead : {s : List ℕ} {a b c : ℕ} → a ≤ b → Ahead s b c → Ahead s a c
+from-ahead h q = record { more = omega (arith, h, q .more); inside = q .inside }
+
+-- and past the blanks there
+pub past-ahead : {s : List ℕ} {a b c : ℕ} → Blanks-end s longest-claim b c → Ahead s a b → Ahead s a c
+past-ahead n p = record { more = omega (arith, p .more, n .ahead); inside = n .inside (p .inside) }

@@ -2,11 +2,11 @@
 use mathlib.Core.Path.{_≡_, refl, sym, ap, subst, _∙_}
 use mathlib.Core.Bool.{Bool, true, false}
 use mathlib.Core.List.{List, _∷_}
-use Prim.Native.Nat.{ℕ}
+use Prim.Native.Nat.{ℕ, _+_}
 use borrow.Author.Tests.{eqb-true}
 use Rattle.model.specs.ClaimTokens as T
 use Rattle.model.specs.ClaimTable.{is-sign}
-use Rattle.claim.specs.Reads.{tokens-at, claim-tokens, spelt, reads-on, Bounds, Sees, Ahead, is-symbol-of, fault-of, starts, first-fault, Closed}
+use Rattle.claim.specs.Reads.{tokens-at, claim-tokens, spelt, reads-on, Bounds, byte-of, Sign, Blanks-end, Sees, Ahead, is-symbol-of, fault-of, starts, first-fault, Closed}
 use Rattle.claim.specs.declared.tokens.Token.{Token}
 use Rattle.claim.specs.declared.tokens.Token.the-variants.{Name, Header, Number, Text, Symbol, Body, End, Alias, Comment, Stray, Done}
 use Rattle.claim.specs.declared.tokens.Seen.{Seen}
@@ -14,6 +14,8 @@ use Rattle.claim.specs.declared.labels.Values.{Values}
 use Rattle.claim.specs.declared.labels.Truth.{Truth}
 use Rattle.claim.specs.declared.labels.Truth.the-variants.{Is, Fault}
 use Rattle.text.proofs.Tests.{clash}
+use Rattle.claim.proofs.Places.{past-ahead}
+use Rattle.claim.proofs.Signs.{sign-is, sign-past, sign-not}
 
 pub symbol-is : (t : Token) (b : ℕ) → is-symbol-of t b ≡ true → t ≡ Symbol b
 symbol-is (Symbol c) b e = ap Symbol (eqb-true c b e)
@@ -87,9 +89,10 @@ module _ (s : List ℕ) (b : ℕ) (l : Truth) where
   pub closed-fault : (j : ℕ) → l ≡ Fault j → Closed s b l (Fault j)
   closed-fault j q = subst (λ (x : Truth). Closed s b x (Fault j)) (sym q) refl
 
-  module _ (w : Values) (e : ℕ) (q : l ≡ Is w e) {r : Seen} (n : Sees s T.longest-claim e (claim-tokens s e) r) where
-    pub closed-is : is-symbol-of (r .token) b ≡ true → Closed s b l (Is w (r .next))
-    closed-is e = subst (λ (x : Truth). Closed s b x (Is w (r .next))) (sym q) (refl, symbol-next n b e, symbol-past n b e)
+  module _ (w : Values) (e : ℕ) (q : l ≡ Is w e) where
+    pub closed-is : Sign b → byte-of s e ≡ b → {z : ℕ} → Blanks-end s T.longest-claim (e + 1) z → Closed s b l (Is w z)
+    closed-is y p {z} n =
+        subst (λ (x : Truth). Closed s b x (Is w z)) (sym q) (refl, sign-is s e b y p ∙ ap (λ (ts : List T.Token). T.symbol b ∷ ts) (n .same), past-ahead n (sign-past s e b y p), n .stops)
 
-    pub closed-not : (j : ℕ) → is-symbol-of (r .token) b ≡ false → j ≡ fault-of (r .token) → Closed s b l (Fault j)
-    closed-not j e f = subst (λ (x : Truth). Closed s b x (Fault j)) (sym q) (starts-as n b false e, f ∙ fault-as n)
+    pub closed-not : (byte-of s e ≡ b → ⊥) → {r : Seen} → Sees s T.longest-claim e (claim-tokens s e) r → (j : ℕ) → j ≡ fault-of (r .token) → Closed s b l (Fault j)
+    closed-not p n j f = subst (λ (x : Truth). Closed s b x (Fault j)) (sym q) (λ h. (sign-not s e b h p, f ∙ fault-as n))

@@ -14,6 +14,7 @@ use Rattle.text.proofs.Tests.{clash, Same, same, other, same?}
 use Rattle.text.specs.Lines.{equal, begins}
 use Rattle.model.specs.ClaimTokens.{name, header, number, string, symbol, body-mark, end-mark, alias, comment, stray, goes-on, ends, breaks, after, quote, star, slash-byte, colon, at-byte, backslash, Mode, between, lost, at-sign, slash, in-name, in-number, in-string, escaped, in-mark, Lexed, is-blank, is-letter, is-capital, is-small, is-name-byte, is-symbol, begin, digit-more, mark-more, byte, at-end, lex, longest-claim, number-end}
 use Rattle.model.specs.Run.{member}
+use Rattle.model.specs.ClaimLabels.{not-byte, and-byte, or-byte, open-byte, close-byte, label-byte, end-label-byte, mark-byte, end-mark-byte}
 use Rattle.model.specs.ClaimTable.{is-sign}
 use Rattle.claim.proofs.Lexing.{lexed-by, lexed-cut, tokens-end}
 use lib.Seq.{drop-cons}
@@ -160,45 +161,46 @@ sign-some : (b : ℕ) → Sign b → 0 < b
 sign-some = on-signs (λ (b : ℕ). 0 < b) (omega arith) (omega arith) (omega arith) (omega arith) (omega arith) (omega arith) (omega arith) (omega arith) (omega arith)
 
 -- ! & ( ) [ ] { | }
-pub not-sign : Sign 33
+pub not-sign : Sign not-byte
 unfolding is-symbol member
 not-sign = refl
 
-pub and-sign : Sign 38
+pub and-sign : Sign and-byte
 unfolding is-symbol member
 and-sign = refl
 
-pub open-sign : Sign 40
+pub open-sign : Sign open-byte
 unfolding is-symbol member
 open-sign = refl
 
-pub close-sign : Sign 41
+pub close-sign : Sign close-byte
 unfolding is-symbol member
 close-sign = refl
 
-pub label-sign : Sign 91
+pub label-sign : Sign label-byte
 unfolding is-symbol member
 label-sign = refl
 
-pub label-end-sign : Sign 93
+pub label-end-sign : Sign end-label-byte
 unfolding is-symbol member
 label-end-sign = refl
 
-pub mark-sign : Sign 123
+pub mark-sign : Sign mark-byte
 unfolding is-symbol member
 mark-sign = refl
 
-pub or-sign : Sign 124
+pub or-sign : Sign or-byte
 unfolding is-symbol member
 or-sign = refl
 
-pub mark-end-sign : Sign 125
+pub mark-end-sign : Sign end-mark-byte
 unfolding is-symbol member
 mark-end-sign = refl
 
 module _ (s : List ℕ) (e : ℕ) where
   -- where the byte is not 0, it is looked at
   pub sign-inside : (b : ℕ) → Sign b → byte-of s e ≡ b → (e < length s) × (e < longest-claim) × (getD s e 0 ≡ b)
+  unfolding byte-of
   sign-inside b y q = go (ltb e (min longest-claim (length s))) refl q
     where
       go : (p : Bool) → ltb e (min longest-claim (length s)) ≡ p → cond p (getD s e 0) 0 ≡ b → (e < length s) × (e < longest-claim) × (getD s e 0 ≡ b)
@@ -216,7 +218,7 @@ module _ (s : List ℕ) (e : ℕ) where
 
   -- and with no other
   pub sign-not : (b : ℕ) → Past-blanks s e → (byte-of s e ≡ b → ⊥) → starts b (claim-tokens s e) ≡ false
-  unfolding starts is-sign
+  unfolding starts is-sign byte-of
   sign-not b p n = go (ltb e (length s)) refl (ltb e longest-claim) refl
     where
       go : (x : Bool) → ltb e (length s) ≡ x → (y : Bool) → ltb e longest-claim ≡ y → starts b (claim-tokens s e) ≡ false

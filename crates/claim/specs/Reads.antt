@@ -8,7 +8,7 @@ use lib.ListN.{length, getD, take, drop}
 use Rattle.text.specs.Ascii.{ascii}
 use Rattle.text.specs.Lines.{equal}
 use Rattle.model.specs.ClaimTokens as T
-use Rattle.model.specs.ClaimLabels.{Label, or-level, proposition, on, label-start, label-told, label-is, no-label}
+use Rattle.model.specs.ClaimLabels.{and-byte, or-byte, Label, or-level, proposition, on, label-start, label-told, label-is, no-label}
 use Rattle.model.specs.ClaimTokens.{Mode, between, lex, is-blank, is-name-byte, is-symbol}
 use Rattle.claim.specs.declared.tokens.Token.{Token}
 use Rattle.claim.specs.declared.tokens.Token.the-variants.{Name, Header, Number, Text, Symbol, Body, End, Alias, Comment, Stray, Done}
@@ -44,7 +44,7 @@ abbrev pub Past-blanks : (text : List ℕ) → (at : ℕ) → Type 0
 Past-blanks s e = e < length s → e < T.longest-claim → is-blank (getD s e 0) ≡ false
 
 -- the byte at a place of a claim, 0 where none is looked at
-abbrev pub byte-of : (text : List ℕ) → (at : ℕ) → ℕ
+unfoldable pub byte-of : (text : List ℕ) → (at : ℕ) → ℕ
 byte-of s at = cond (ltb at (min T.longest-claim (length s))) (getD s at 0) 0
 
 -- a byte that is a token by itself
@@ -171,33 +171,35 @@ first-fault (T.end-mark ∷ ts) = 15
 first-fault (T.alias ∷ ts) = 15
 first-fault (T.stray ∷ ts) = 15
 
--- LABELS: what the reader of each level answers at a place, so many brackets and negations deep
+-- LABELS: what the reader of each level answers at a place, so many brackets and negations deep; it goes past the blanks too
 abbrev pub Atom-read : (text : List ℕ) → (k deep at : ℕ) → Truth → Type 0
-Atom-read s k d at (Is w n) = Atom-says k d (claim-tokens s at) (Got w (claim-tokens s n)) × Ahead s at n
+Atom-read s k d at (Is w n) = Atom-says k d (claim-tokens s at) (Got w (claim-tokens s n)) × Ahead s at n × Past-blanks s n
 Atom-read s k d at (Fault j) = Atom-says k d (claim-tokens s at) (No j)
 
 abbrev pub And-read : (text : List ℕ) → (k deep at : ℕ) → Truth → Type 0
-And-read s k d at (Is w n) = And-says k d (claim-tokens s at) (Got w (claim-tokens s n)) × Ahead s at n × (starts 38 (claim-tokens s n) ≡ false)
+And-read s k d at (Is w n) = And-says k d (claim-tokens s at) (Got w (claim-tokens s n)) × Ahead s at n × Past-blanks s n × (starts and-byte (claim-tokens s n) ≡ false)
 And-read s k d at (Fault j) = And-says k d (claim-tokens s at) (No j)
 
 abbrev pub Or-read : (text : List ℕ) → (k deep at : ℕ) → Truth → Type 0
-Or-read s k d at (Is w n) = Or-says k d (claim-tokens s at) (Got w (claim-tokens s n)) × Ahead s at n × (starts 38 (claim-tokens s n) ≡ false) × (starts 124 (claim-tokens s n) ≡ false)
+Or-read s k d at (Is w n) =
+    Or-says k d (claim-tokens s at) (Got w (claim-tokens s n)) × Ahead s at n × Past-blanks s n × (starts and-byte (claim-tokens s n) ≡ false) × (starts or-byte (claim-tokens s n) ≡ false)
 Or-read s k d at (Fault j) = Or-says k d (claim-tokens s at) (No j)
 
--- an atom negated
-abbrev pub flipped : Truth → Truth
-flipped (Is w n) = Is (complement-of w) n
-flipped (Fault k) = Fault k
+-- after negations, whether they are odd in number
+abbrev pub negated-of : (odd : Bool) → Truth → Truth
+negated-of true (Is w n) = Is (complement-of w) n
+negated-of false (Is w n) = Is w n
+negated-of odd (Fault k) = Fault k
 
 -- the inside of a bracket or a label, once its end is looked at
 abbrev pub Closed : (text : List ℕ) → (byte : ℕ) → (inside whole : Truth) → Type 0
 Closed s b (Fault j) r = r ≡ Fault j
-Closed s b (Is v e) (Is w n) = (w ≡ v) × (claim-tokens s e ≡ T.symbol b ∷ claim-tokens s n) × Ahead s e n
-Closed s b (Is v e) (Fault j) = (starts b (claim-tokens s e) ≡ false) × (j ≡ first-fault (claim-tokens s e))
+Closed s b (Is v e) (Is w n) = (w ≡ v) × (claim-tokens s e ≡ T.symbol b ∷ claim-tokens s n) × Ahead s e n × Past-blanks s n
+Closed s b (Is v e) (Fault j) = Past-blanks s e → (starts b (claim-tokens s e) ≡ false) × (j ≡ first-fault (claim-tokens s e))
 
--- a label and its ]
+-- a label and its ], and the blanks past it
 abbrev pub Label-says : (text : List ℕ) → (k at : ℕ) → Truth → Type 0
-Label-says s k at (Is w n) = (o : Label or-level) × Truth-of o w × (label-told k (on label-start) (claim-tokens s at) ≡ label-is o (claim-tokens s n)) × Ahead s at n
+Label-says s k at (Is w n) = (o : Label or-level) × Truth-of o w × (label-told k (on label-start) (claim-tokens s at) ≡ label-is o (claim-tokens s n)) × Ahead s at n × Past-blanks s n
 Label-says s k at (Fault j) = label-told k (on label-start) (claim-tokens s at) ≡ no-label j
 
 -- leaves of a label

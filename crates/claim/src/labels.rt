@@ -1,14 +1,17 @@
-// Labels, each read once for all flag values, by a reader for each level; they call each other, at most 16 brackets and negations deep.
+// Labels, each read once for all flag values, by a reader for each level; they call each other, at most 16 brackets and
+// negations deep. Signs are told by their bytes; the place that a reader gives is past blanks.
 ghost use mathlib.Core.Path.{_≡_};
-ghost use Prim.Native.Nat.{_<_, _≤_};
-ghost use Rattle.model.specs.ClaimLabels.{bit, proposition};
-ghost use Rattle.claim.specs.LabelSays.{repeated-of, complement-of, intersection-of, union-of};
-ghost use Rattle.claim.specs.Reads.{Atom-read, And-read, Or-read, flipped, Closed, Label-says, constant-of, Proposition-read, no-atom-of};
-ghost use Rattle.claim.specs.LabelSays.{most-values, holds, Truth-of};
+ghost use mathlib.Core.Bool.{false};
+ghost use Prim.Native.Nat.{ℕ, _<_, _≤_};
+ghost use Rattle.model.specs.ClaimLabels.{bit, proposition, not-byte, open-byte};
+ghost use Rattle.model.specs.ClaimGrammar.{most-propositions};
+ghost use Rattle.claim.specs.LabelSays.{most-values, holds, Truth-of, repeated-of, complement-of, intersection-of, union-of};
+ghost use Rattle.claim.specs.Reads.{claim-tokens, Sign, starts, Atom-read, And-read, Or-read, negated-of, Closed, Label-says, constant-of, Proposition-read, no-atom-of};
 use crate::tokens::Token;
+use crate::tokens::byte_at;
 use crate::tokens::claim_token;
 use crate::tokens::fault;
-use crate::tokens::is_symbol;
+use crate::tokens::past_blanks;
 use crate::tokens::word;
 
 // A set of flag values, 0 to 255: value v is bit v of `a`, bit v - 64 of `b`, bit v - 128 of `c`, bit v - 192 of `d`.
@@ -125,28 +128,34 @@ fn flagged(i: u32) -> Values
     }
 }
 
-fn negation(l: Truth) -> Truth
-    ensures { λ r. ⌜ r ≡ flipped l ⌝ }
+// A piece of a label after negations, whether they are odd in number.
+fn negated(l: Truth, odd: bool) -> Truth
+    ensures { λ r. ⌜ r ≡ negated-of odd l ⌝ }
 {
     match l {
         Truth::Fault(k) => Truth::Fault(k),
-        Truth::Is(w, n) => Truth::Is(complement(w), n),
+        Truth::Is(w, n) => {
+            if odd {
+                return Truth::Is(complement(w), n);
+            }
+            l
+        }
     }
 }
 
 // What the inside of a bracket or a label comes to, once its end, `b`, is looked at.
 fn closed(text: &[u8], l: Truth, b: u8) -> Truth
+    requires { ⌜ Sign b ⌝ }
     ensures { λ r. ⌜ Closed (now (text .entry)) b l r ⌝ }
 {
     match l {
         Truth::Fault(k) => Truth::Fault(k),
         Truth::Is(w, e) => {
+            if byte_at(text, e) == b {
+                return Truth::Is(w, past_blanks(text, e + 1));
+            }
             let seen = claim_token(text, e);
             let t = seen.token;
-            let n = seen.next;
-            if is_symbol(t, b) {
-                return Truth::Is(w, n);
-            }
             Truth::Fault(fault(t))
         }
     }
@@ -167,7 +176,7 @@ fn constant(text: &[u8], a: usize, e: usize, next: usize) -> Truth
 
 // The proposition `i`.
 fn proposition(i: u32, count: u32, next: usize) -> Truth
-    requires { ⌜ count ≤ 8 ⌝ }
+    requires { ⌜ count ≤ most-propositions ⌝ }
     ensures { λ r. ⌜ Proposition-read i count next r ⌝ }
 {
     if i < count {
@@ -186,87 +195,89 @@ fn no_atom(t: Token) -> u32
     }
 }
 
-fn atom(text: &[u8], at: usize, deep: usize, count: u32) -> Truth
-    requires { ⌜ count ≤ 8 ⌝ }
-    ensures { λ r. ⌜ Atom-read (now (text .entry)) count deep at r ⌝ }
+// The atom at `at`, where neither a negation nor a bracket begins.
+fn leaf(text: &[u8], at: usize, count: u32) -> Truth
+    requires { ⌜ count ≤ most-propositions ⌝ }
+    requires { ⌜ starts not-byte (claim-tokens (now text) at) ≡ false ⌝ }
+    requires { ⌜ starts open-byte (claim-tokens (now text) at) ≡ false ⌝ }
+    ensures { λ r. ⌜ ((deep : ℕ) → Atom-read (now (text .entry)) count deep at r) ⌝ }
 {
     let seen = claim_token(text, at);
     let t = seen.token;
-    let next = seen.next;
+    let past = past_blanks(text, seen.next);
     match t {
-        Token::Name(a, e) => constant(text, a, e, next),
-        Token::Number(i) => proposition(i, count, next),
-        Token::Symbol(b) => {
-            if DEEPEST <= deep {
-                return Truth::Fault(15);
-            }
-            if b == b'!' {
-                return negation(atom(text, next, deep + 1, count));
-            }
-            if b == b'(' {
-                return closed(text, or_level(text, next, deep + 1, count), b')');
-            }
-            Truth::Fault(15)
-        }
+        Token::Name(a, e) => constant(text, a, e, past),
+        Token::Number(i) => proposition(i, count, past),
         _ => Truth::Fault(no_atom(t)),
     }
 }
 
+fn atom(text: &[u8], at: usize, deep: usize, count: u32) -> Truth
+    requires { ⌜ count ≤ most-propositions ⌝ }
+    ensures { λ r. ⌜ Atom-read (now (text .entry)) count deep at r ⌝ }
+{
+    let mut here = past_blanks(text, at);
+    let mut down = deep;
+    let mut odd = false;
+    while byte_at(text, here) == b'!' {
+        if DEEPEST <= down {
+            return Truth::Fault(15);
+        }
+        here = past_blanks(text, here + 1);
+        down += 1;
+        odd = !odd;
+    }
+    if byte_at(text, here) != b'(' {
+        return negated(leaf(text, here, count), odd);
+    }
+    if DEEPEST <= down {
+        return Truth::Fault(15);
+    }
+    let inside = or_level(text, here + 1, down + 1, count);
+    negated(closed(text, inside, b')'), odd)
+}
+
 fn and_level(text: &[u8], at: usize, deep: usize, count: u32) -> Truth
-    requires { ⌜ count ≤ 8 ⌝ }
+    requires { ⌜ count ≤ most-propositions ⌝ }
     ensures { λ r. ⌜ And-read (now (text .entry)) count deep at r ⌝ }
 {
-    let first = atom(text, at, deep, count);
-    let Truth::Is(v, n) = first else {
-        return first;
-    };
-    let mut values = v;
-    let mut here = n;
+    let mut values = repeated(ALL);
+    let mut here = at;
     loop {
-        let seen = claim_token(text, here);
-        let t = seen.token;
-        let next = seen.next;
-        if !is_symbol(t, b'&') {
-            return Truth::Is(values, here);
-        }
-        let more = atom(text, next, deep, count);
+        let more = atom(text, here, deep, count);
         let Truth::Is(w, e) = more else {
             return more;
         };
         values = intersection(values, w);
-        here = e;
+        if byte_at(text, e) != b'&' {
+            return Truth::Is(values, e);
+        }
+        here = e + 1;
     }
 }
 
 fn or_level(text: &[u8], at: usize, deep: usize, count: u32) -> Truth
-    requires { ⌜ count ≤ 8 ⌝ }
+    requires { ⌜ count ≤ most-propositions ⌝ }
     ensures { λ r. ⌜ Or-read (now (text .entry)) count deep at r ⌝ }
 {
-    let first = and_level(text, at, deep, count);
-    let Truth::Is(v, n) = first else {
-        return first;
-    };
-    let mut values = v;
-    let mut here = n;
+    let mut values = repeated(0);
+    let mut here = at;
     loop {
-        let seen = claim_token(text, here);
-        let t = seen.token;
-        let next = seen.next;
-        if !is_symbol(t, b'|') {
-            return Truth::Is(values, here);
-        }
-        let more = and_level(text, next, deep, count);
+        let more = and_level(text, here, deep, count);
         let Truth::Is(w, e) = more else {
             return more;
         };
         values = union(values, w);
-        here = e;
+        if byte_at(text, e) != b'|' {
+            return Truth::Is(values, e);
+        }
+        here = e + 1;
     }
 }
 
-// The label from `at` on, past its [, and the place past its ].
+// The label from `at` on, past its [, and the place past its ] and the blanks there.
 pub(crate) fn label(text: &[u8], at: usize, count: u32) -> Truth
-    requires { ⌜ count ≤ 8 ⌝ }
+    requires { ⌜ count ≤ most-propositions ⌝ }
     ensures { λ r. ⌜ Label-says (now (text .entry)) count at r ⌝ }
 {
     closed(text, or_level(text, at, 0, count), b']')
