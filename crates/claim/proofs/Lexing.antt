@@ -8,7 +8,7 @@ use native.Mathlib.Omega.{arith}
 use lib.Dec.{ltb, leb, eqb}
 use lib.ListN.{length, getD, take, drop, drop-of-length-le, length-drop, length-take, take-append-drop}
 use lib.Seq.{drop-cons, take-suc, take-nil, getD-drop, take-append-seam, take-take, take-all, drop-drop}
-use borrow.Author.Tests.{leb-true, leb-false, ltb-true, ltb-false, eqb-true, eq-eqb, ne-eqb}
+use borrow.Author.Tests.{leb-true, leb-false, lt-leb, ltb-true, ltb-false, eqb-true, eq-eqb, ne-eqb}
 use Rattle.text.specs.Numbers.{is-digit}
 use Rattle.model.specs.Run.{member}
 use Rattle.text.specs.Lines.{equal, begins}
@@ -466,14 +466,18 @@ module _ {f s : List ℕ} {limit at i e : ℕ} (m : Matching f s limit at i e) w
   matching-more h g q = record { left = rw (eq-eqb (getD s e 0) (getD f i 0) q) at (both-cons h g) }
 
 -- THE FIRST BYTE of a token
+digit-no-letter : (b : ℕ) → is-digit b ≡ true → is-letter b ≡ false
+unfolding is-letter is-capital is-small
+digit-no-letter b e = let h = digit-high b e in rw (lt-leb 65 b (omega (arith, h)), lt-leb 97 b (omega (arith, h)), ne-eqb b 95 (λ q. omega (arith, h, q))) refl
+
 module _ (b : ℕ) (blank : is-blank b ≡ false) where
   begin-letter : is-letter b ≡ true → byte between b ≡ goes-on (in-name (b ∷ []))
   unfolding byte begin
   begin-letter e = rw (blank, e) refl
 
-  begin-digit : is-letter b ≡ false → is-digit b ≡ true → byte between b ≡ goes-on (in-number (b - 48))
+  begin-digit : is-digit b ≡ true → byte between b ≡ goes-on (in-number (b - 48))
   unfolding byte begin
-  begin-digit l e = rw (blank, l, e) refl
+  begin-digit e = rw (blank, digit-no-letter b e, e) refl
 
   begin-symbol : is-letter b ≡ false → is-digit b ≡ false → is-symbol b ≡ true → byte between b ≡ ends (symbol b)
   unfolding byte begin
@@ -511,8 +515,8 @@ module _ {s : List ℕ} {limit at : ℕ} (h : at < length s) (g : at < limit) wh
   first-letter b l n =
       sees-of (lexed-by s limit between at _ (begin-letter _ b l) h g ∙ ap (λ (x : List ℕ). lexed s limit (in-name x) (at + 1)) (sym (part-one s at h))) n
 
-  pub first-digit : {r : Seen} → is-blank (getD s at 0) ≡ false → is-letter (getD s at 0) ≡ false → is-digit (getD s at 0) ≡ true → Sees s limit at (lexed s limit (in-number (getD s at 0 - 48)) (at + 1)) r → Sees s limit at (tokens-at s limit at) r
-  first-digit b l d n = sees-of (lexed-by s limit between at _ (begin-digit _ b l d) h g) n
+  pub first-digit : {r : Seen} → is-blank (getD s at 0) ≡ false → is-digit (getD s at 0) ≡ true → Sees s limit at (lexed s limit (in-number (getD s at 0 - 48)) (at + 1)) r → Sees s limit at (tokens-at s limit at) r
+  first-digit b d n = sees-of (lexed-by s limit between at _ (begin-digit _ b d) h g) n
 
   pub first-symbol : is-blank (getD s at 0) ≡ false → is-letter (getD s at 0) ≡ false → is-digit (getD s at 0) ≡ false → is-symbol (getD s at 0) ≡ true → Sees s limit at (tokens-at s limit at) (seen (Symbol (getD s at 0)) (at + 1))
   first-symbol b l d y = sees s limit at _ _ (at + 1) (lexed-by s limit between at _ (begin-symbol _ b l d y) h g) (omega arith) (omega arith) tt

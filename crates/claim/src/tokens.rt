@@ -298,11 +298,11 @@ fn token_from(text: &[u8], at: usize, limit: usize) -> Seen
     ensures { λ r. ⌜ Sees (now (text .entry)) limit at (tokens-at (now (text .entry)) limit at) r ⌝ }
 {
     let b = text[at];
-    if letter(b) {
-        return name_from(text, at, limit);
-    }
     if digit(b) {
         return number_from(text, at, limit);
+    }
+    if letter(b) {
+        return name_from(text, at, limit);
     }
     if symbol(b) {
         return Seen {
