@@ -52,16 +52,23 @@ fn digit(b: u8) -> bool
     within(b, b'0', b'9')
 }
 
+// Small letters first: most bytes of a name are.
 fn letter(b: u8) -> bool
     ensures { λ r. ⌜ r ≡ is-letter b ⌝ }
 {
-    within(b, b'A', b'Z') | within(b, b'a', b'z') | (b == b'_')
+    if within(b, b'a', b'z') {
+        return true;
+    }
+    within(b, b'A', b'Z') | (b == b'_')
 }
 
 fn name_byte(b: u8) -> bool
     ensures { λ r. ⌜ r ≡ is-name-byte b ⌝ }
 {
-    letter(b) | (digit(b) | (b == b'-'))
+    if letter(b) {
+        return true;
+    }
+    digit(b) | (b == b'-')
 }
 
 fn symbol(b: u8) -> bool
