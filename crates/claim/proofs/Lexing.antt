@@ -1,6 +1,6 @@
 -- The tokens from a place on, by the byte that stands there: the laws by which the readers of src/tokens.rt go. Assumes nothing.
 use mathlib.Core.Path.{_≡_, refl, sym, ap, subst, _∙_}
-use mathlib.Core.Bool.{Bool, true, false, _&&_, _||_, not, cond}
+use mathlib.Core.Bool.{Bool, true, false, _&&_, _||_, cond}
 use mathlib.Core.List.{List, [], _∷_, _++_, append-assoc, append-nil}
 use Prim.Native.Nat.{ℕ, zero, suc, _+_, _*_, _-_, _<_, _≤_, min}
 use native.Mathlib.Numerals.{add-one}
@@ -41,6 +41,14 @@ module _ (s : List ℕ) (limit : ℕ) (m : Mode) (e : ℕ) where
 
   pub lexed-cut : e < length s → limit ≤ e → lexed s limit m e ≡ stray ∷ []
   lexed-cut h g = let z : limit - e ≡ 0 = omega arith in rw (z, drop-cons s e 0 h) (lex-cut m _ _)
+
+  -- where no byte follows, a token that wants one is torn
+  lexed-torn : at-end m ≡ stray ∷ [] → min limit (length s) ≤ e → lexed s limit m e ≡ stray ∷ []
+  lexed-torn o h = go (ltb e (length s)) refl
+    where
+      go : (b : Bool) → ltb e (length s) ≡ b → lexed s limit m e ≡ stray ∷ []
+      go true q = lexed-cut (ltb-true e (length s) q) (omega (arith, ltb-true e (length s) q))
+      go false q = lexed-end (ltb-false e (length s) q) ∙ o
 
   pub lexed-step : e < length s → e < limit → lexed s limit m e ≡ (byte m (getD s e 0)) .tokens ++ lexed s limit ((byte m (getD s e 0)) .mode) (e + 1)
   lexed-step h g =
@@ -210,56 +218,76 @@ module _ {s : List ℕ} {limit at : ℕ} {ts : List Token} {v e : ℕ} (n : Digi
   pub digits-last : length s ≤ e → Sees s limit at ts (seen (Number v) e)
   digits-last h = sees s limit at ts _ e (n .same ∙ (lexed-end s limit _ e h ∙ (at-end-number v ∙ ap (λ (x : List Token). number v ∷ x) (sym (tokens-end s limit e h))))) (n .ahead) (n .inside) tt
 
--- STRINGS: after a backslash or not
-abbrev pub quoted : Bool → List ℕ → Mode
-quoted x w = cond x (escaped w) (in-string w)
+-- STRINGS
+module _ (w : List ℕ) (b : ℕ) where
+  string-ends : b ≡ 34 → byte (in-string w) b ≡ ends (string w)
+  unfolding byte
+  string-ends e = rw (eq-eqb b 34 e) refl
 
-string-goes : (x : Bool) (w : List ℕ) (b : ℕ) → (not x && eqb b 34) ≡ false → byte (quoted x w) b ≡ goes-on (quoted (not x && eqb b 92) (w ++ (b ∷ [])))
-unfolding byte
-string-goes true w b e = refl
-string-goes false w b e = rw e (go (eqb b 92))
-  where
-    go : (y : Bool) → cond y (goes-on (escaped (w ++ (b ∷ [])))) (goes-on (in-string (w ++ (b ∷ [])))) ≡ goes-on (quoted y (w ++ (b ∷ [])))
-    go true = refl
-    go false = refl
+  string-goes : (b ≡ 34 → ⊥) → (b ≡ 92 → ⊥) → byte (in-string w) b ≡ goes-on (in-string (w ++ (b ∷ [])))
+  unfolding byte
+  string-goes e f = rw (ne-eqb b 34 e, ne-eqb b 92 f) refl
 
-string-ends : (x : Bool) (w : List ℕ) (b : ℕ) → (not x && eqb b 34) ≡ true → byte (quoted x w) b ≡ ends (string w)
-unfolding byte
-string-ends true w b e = clash false e refl
-string-ends false w b e = rw e refl
+  string-escapes : (b ≡ 34 → ⊥) → b ≡ 92 → byte (in-string w) b ≡ goes-on (escaped (w ++ (b ∷ [])))
+  unfolding byte
+  string-escapes e f = rw (ne-eqb b 34 e, eq-eqb b 92 f) refl
 
-pub record String-so-far (s : List ℕ) (limit at : ℕ) (ts : List Token) (x : Bool) (e : ℕ) : Type 0 where
-  pub same : ts ≡ lexed s limit (quoted x (part s (at + 1) e)) e
-  pub ahead : at < e
-  pub inside : e ≤ length s
+  escaped-goes : byte (escaped w) b ≡ goes-on (in-string (w ++ (b ∷ [])))
+  unfolding byte
+  escaped-goes = refl
 
-pub string-none : (s : List ℕ) (limit at : ℕ) → at < length s → String-so-far s limit at (lexed s limit (in-string []) (at + 1)) false (at + 1)
-string-none s limit at h =
-    record { same = ap (λ (w : List ℕ). lexed s limit (in-string w) (at + 1)) (sym (part-cut s (at + 1) (at + 1) (omega arith))); ahead = omega arith; inside = omega arith }
-
-string-open : (x : Bool) (w : List ℕ) → at-end (quoted x w) ≡ stray ∷ []
+string-open : (w : List ℕ) → at-end (in-string w) ≡ stray ∷ []
 unfolding at-end
-string-open true w = refl
-string-open false w = refl
+string-open w = refl
 
-module _ {s : List ℕ} {limit at : ℕ} {ts : List Token} {x : Bool} {e : ℕ} (n : String-so-far s limit at ts x e) where
-  pub string-more : e < length s → e < limit → (not x && eqb (getD s e 0) 34) ≡ false → String-so-far s limit at ts (not x && eqb (getD s e 0) 92) (e + 1)
-  string-more h g q =
+escaped-open : (w : List ℕ) → at-end (escaped w) ≡ stray ∷ []
+unfolding at-end
+escaped-open w = refl
+
+-- the byte after a backslash, which is any, or none: the string is torn with it or without
+escaped-more : (s : List ℕ) (limit a e : ℕ) → a ≤ e → lexed s limit (escaped (part s a e)) e ≡ lexed s limit (in-string (part s a (e + 1))) (e + 1)
+escaped-more s limit a e k = go (ltb e (min limit (length s))) refl
+  where
+    go : (b : Bool) → ltb e (min limit (length s)) ≡ b → lexed s limit (escaped (part s a e)) e ≡ lexed s limit (in-string (part s a (e + 1))) (e + 1)
+    go true q =
+        lexed-by s limit _ e _ (escaped-goes _ _) (omega (arith, ltb-true e (min limit (length s)) q)) (omega (arith, ltb-true e (min limit (length s)) q))
+        ∙ ap (λ (w : List ℕ). lexed s limit (in-string w) (e + 1)) (sym (part-snoc s a e k (omega (arith, ltb-true e (min limit (length s)) q))))
+    go false q =
+        lexed-torn s limit _ e (escaped-open _) (ltb-false e (min limit (length s)) q)
+        ∙ sym (lexed-torn s limit _ (e + 1) (string-open _) (omega (arith, ltb-false e (min limit (length s)) q)))
+
+pub record String-so-far (s : List ℕ) (limit at : ℕ) (ts : List Token) (e : ℕ) : Type 0 where
+  pub same : ts ≡ lexed s limit (in-string (part s (at + 1) e)) e
+  pub ahead : at < e
+
+pub string-none : (s : List ℕ) (limit at : ℕ) → String-so-far s limit at (lexed s limit (in-string []) (at + 1)) (at + 1)
+string-none s limit at = record { same = ap (λ (w : List ℕ). lexed s limit (in-string w) (at + 1)) (sym (part-cut s (at + 1) (at + 1) (omega arith))); ahead = omega arith }
+
+module _ {s : List ℕ} {limit at : ℕ} {ts : List Token} {e : ℕ} (n : String-so-far s limit at ts e) where
+  pub string-more : e < length s → e < limit → (getD s e 0 ≡ 34 → ⊥) → (getD s e 0 ≡ 92 → ⊥) → String-so-far s limit at ts (e + 1)
+  string-more h g q p =
       record {
-        same = n .same ∙ (lexed-by s limit _ e _ (string-goes x _ _ q) h g ∙ ap (λ (w : List ℕ). lexed s limit (quoted (not x && eqb (getD s e 0) 92) w) (e + 1)) (sym (part-snoc s (at + 1) e (omega (arith, n .ahead)) h)));
+        same = n .same ∙ (lexed-by s limit _ e _ (string-goes _ _ q p) h g ∙ ap (λ (w : List ℕ). lexed s limit (in-string w) (e + 1)) (sym (part-snoc s (at + 1) e (omega (arith, n .ahead)) h)));
         ahead = omega (arith, n .ahead);
-        inside = omega arith;
       }
 
-  pub string-whole : e < length s → e < limit → (not x && eqb (getD s e 0) 34) ≡ true → Sees s limit at ts (seen (Text (at + 1) e) (e + 1))
-  string-whole h g q = sees s limit at ts _ (e + 1) (n .same ∙ lexed-by s limit _ e _ (string-ends x _ _ q) h g) (omega (arith, n .ahead)) (omega arith) (record { past-quote = omega arith; ahead = omega (arith, n .ahead); inside = omega arith; looked-at = g })
+  pub string-escape : e < length s → e < limit → (getD s e 0 ≡ 34 → ⊥) → getD s e 0 ≡ 92 → String-so-far s limit at ts (e + 2)
+  string-escape h g q p =
+      let z : e + 1 + 1 ≡ e + 2 = omega arith in
+      record {
+        same =
+            n .same
+            ∙ (lexed-by s limit _ e _ (string-escapes _ _ q p) h g
+            ∙ (ap (λ (w : List ℕ). lexed s limit (escaped w) (e + 1)) (sym (part-snoc s (at + 1) e (omega (arith, n .ahead)) h))
+            ∙ (escaped-more s limit (at + 1) (e + 1) (omega (arith, n .ahead)) ∙ ap (λ (i : ℕ). lexed s limit (in-string (part s (at + 1) i)) i) z)));
+        ahead = omega (arith, n .ahead);
+      }
+
+  pub string-whole : e < length s → e < limit → getD s e 0 ≡ 34 → Sees s limit at ts (seen (Text (at + 1) e) (e + 1))
+  string-whole h g q = sees s limit at ts _ (e + 1) (n .same ∙ lexed-by s limit _ e _ (string-ends _ _ q) h g) (omega (arith, n .ahead)) (omega arith) (record { past-quote = omega arith; ahead = omega (arith, n .ahead); inside = omega arith; looked-at = g })
 
   pub string-torn : min limit (length s) ≤ e → Sees s limit at ts (seen Stray e)
-  string-torn h = go (ltb e (length s)) refl
-    where
-      go : (b : Bool) → ltb e (length s) ≡ b → Sees s limit at ts (seen Stray e)
-      go true q = sees-last s limit at ts _ e refl [] (n .same ∙ lexed-cut s limit _ e (ltb-true e (length s) q) (omega (arith, ltb-true e (length s) q)))
-      go false q = sees-last s limit at ts _ e refl [] (n .same ∙ (lexed-end s limit _ e (ltb-false e (length s) q) ∙ string-open x _))
+  string-torn h = sees-last s limit at ts _ e refl [] (n .same ∙ lexed-torn s limit _ e (string-open _) h)
 
 -- ALIASES AND COMMENTS
 at-name : (b : ℕ) → is-name-byte b ≡ true → byte at-sign b ≡ breaks alias
@@ -287,13 +315,8 @@ unfolding at-end
 slash-open = refl
 
 module _ (s : List ℕ) (limit at e : ℕ) where
-  -- where no byte follows
   torn : (m : Mode) → at-end m ≡ stray ∷ [] → min limit (length s) ≤ e → Sees s limit at (lexed s limit m e) (seen Stray e)
-  torn m o h = go (ltb e (length s)) refl
-    where
-      go : (b : Bool) → ltb e (length s) ≡ b → Sees s limit at (lexed s limit m e) (seen Stray e)
-      go true q = sees-last s limit at _ _ e refl [] (lexed-cut s limit m e (ltb-true e (length s) q) (omega (arith, ltb-true e (length s) q)))
-      go false q = sees-last s limit at _ _ e refl [] (lexed-end s limit m e (ltb-false e (length s) q) ∙ o)
+  torn m o h = sees-last s limit at _ _ e refl [] (lexed-torn s limit m e o h)
 
   pub alias-is : e < min limit (length s) → is-name-byte (getD s e 0) ≡ true → Sees s limit at (lexed s limit at-sign e) (seen Alias e)
   alias-is h q = sees-last s limit at _ _ e refl _ (lexed-by s limit at-sign e _ (at-name _ q) (omega arith) (omega arith))

@@ -196,17 +196,20 @@ fn string_from(text: &[u8], at: usize, limit: usize) -> Seen
     ensures { λ r. ⌜ Sees (now (text .entry)) limit at (lexed (now (text .entry)) limit (in-string []) (at + 1)) r ⌝ }
 {
     let stop = smaller(limit, text.len());
-    let mut after_backslash = false;
     let mut e = at + 1;
     while e < stop {
         let b = text[e];
-        if !after_backslash & (b == b'"') {
+        if b == b'"' {
             return Seen {
                 token: Token::Text(at + 1, e),
                 next: e + 1,
             };
         }
-        after_backslash = !after_backslash & (b == b'\\');
+        if b == b'\\' {
+            // past the end, perhaps: the string is torn there too
+            e += 2;
+            continue;
+        }
         e += 1;
     }
     Seen {
