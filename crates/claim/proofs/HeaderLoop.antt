@@ -8,7 +8,7 @@ use Prim.Native.Nat.{ℕ, _≤_, _<_}
 use native.Mathlib.Omega.{arith}
 use types.Run.{OneOf, miss}
 use denote.Enum.Declared.{tagOf}
-use lib.Dec.{ltb}
+use lib.Dec.{ltb, leb}
 use lib.ListN.{length, getD}
 use borrow.Author.Tests.{lt-ltb, le-ltb}
 use Rattle.text.specs.Ascii.{ascii}
@@ -17,6 +17,7 @@ use Rattle.model.specs.ClaimTokens as T
 use Rattle.model.specs.ClaimGrammar.{Item, skipped, state-count, start-state, proposition-names, propositions-in, has-acceptance, header-whole, small-first, most-states}
 use Rattle.model.specs.ClaimTable.{is-sign, Last, whole, after-start, after-acceptance, Place, in-items, in-lines, wants-count, wants-start, wants-propositions, wants-sets, go, fault, snoc, unless, capital-first, on-header, header-step, step, ended, told, refused}
 use Rattle.model.proofs.ClaimItems.{first-given, given-none, count-append, start-append}
+use Rattle.model.proofs.ClaimComplete.{small-not}
 use Rattle.claim.specs.Reads.{part, claim-tokens, spelt, is-symbol-of, fault-of, starts, Sees, Ahead}
 use Rattle.claim.specs.HeaderSays.{shown, Gives, Item-says, Item-on, Skips, kind-of, on-kind, last-of, Kind-says, continues, no-item, items-end, Header-says}
 use Rattle.claim.specs.Reads.{Onward}
@@ -57,6 +58,14 @@ capital-at : (w : List ℕ) → capital-first w ≡ T.is-capital (getD w 0 0)
 unfolding capital-first T.is-capital
 capital-at [] = refl
 capital-at (b ∷ w) = refl
+
+-- a name that begins with a small letter is skipped: none of the format's does
+pub small-skipped : (w : List ℕ) (b : ℕ) → b ≡ getD w 0 0 → (leb 97 b && leb b 122) ≡ true → Skipped ≡ kind-of w
+unfolding T.is-small
+small-skipped [] b q e = cc
+small-skipped (c ∷ w) b q e =
+    let s : T.is-small c ≡ true = rw q at e in
+    sym (rw (small-not c 72 w (ascii "OA") s (omega arith), small-not c 83 w (ascii "tates") s (omega arith), small-not c 83 w (ascii "tart") s (omega arith), small-not c 65 w (ascii "P") s (omega arith), small-not c 65 w (ascii "cceptance") s (omega arith), s) refl)
 
 -- the table's own choice
 module _ (is : List Item) (w : List ℕ) where

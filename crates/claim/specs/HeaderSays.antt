@@ -100,8 +100,9 @@ pub record Skips (s : List ℕ) (at next : ℕ) : Type 0 where
   pub onward : Onward s at next
 
 -- NAMES OF HEADERS
+-- by its first byte, no small letter, one that is none of the format's
 abbrev pub kind-by : (first : ℕ) → Kind
-kind-by b = cond (is-small b) Skipped (cond (is-capital b) (Bad 16) (Bad 15))
+kind-by b = cond (is-capital b) (Bad 16) (Bad 15)
 
 abbrev pub kind-of : (name : List ℕ) → Kind
 kind-of h =
@@ -110,7 +111,8 @@ kind-of h =
     (cond (equal h (ascii "Start")) Start
     (cond (equal h (ascii "AP")) Propositions
     (cond (equal h (ascii "Acceptance")) Acceptance
-    (kind-by (getD h 0 0))))))
+    (cond (is-small (getD h 0 0)) Skipped
+    (kind-by (getD h 0 0)))))))
 
 -- the table's `on-header`, by kind
 abbrev pub on-kind : List Item → (name : List ℕ) → Kind → Next

@@ -339,22 +339,24 @@ fn first_byte(text: &[u8], a: usize, e: usize) -> u8
     0
 }
 
-// By its first byte, a name that is none of the format's.
+// By its first byte, no small letter, a name that is none of the format's.
 fn kind_by(b: u8) -> Kind
     ensures { λ r. ⌜ r ≡ kind-by b ⌝ }
 {
-    if (b'a' <= b) & (b <= b'z') {
-        return Kind::Skipped;
-    }
     if (b'A' <= b) & (b <= b'Z') {
         return Kind::Fault(16);
     }
     Kind::Fault(15)
 }
 
+// Small letters first: no name of the format's begins with one.
 fn kind_of(text: &[u8], a: usize, e: usize) -> Kind
     ensures { λ r. ⌜ r ≡ kind-of (part (now (text .entry)) a e) ⌝ }
 {
+    let b = first_byte(text, a, e);
+    if (b'a' <= b) & (b <= b'z') {
+        return Kind::Skipped;
+    }
     if word(text, a, e, b"HOA") {
         return Kind::Fault(15);
     }
@@ -370,7 +372,7 @@ fn kind_of(text: &[u8], a: usize, e: usize) -> Kind
     if word(text, a, e, b"Acceptance") {
         return Kind::Acceptance;
     }
-    kind_by(first_byte(text, a, e))
+    kind_by(b)
 }
 
 // After a header's name, what it asks for: once, unless it is skipped.

@@ -111,7 +111,7 @@ unfolding head-read item-tokens told header-step on-header equal unless step on-
 acceptance-read is r b f = rw (no-acceptance is f) (items-boundary after-acceptance (snoc is acceptance) r b)
 
 -- a name that begins with a small letter is none of those read
-small-not : (b c : ℕ) (h w : List ℕ) → is-small b ≡ true → c < 97 → equal (b ∷ h) (c ∷ w) ≡ false
+pub small-not : (b c : ℕ) (h w : List ℕ) → is-small b ≡ true → c < 97 → equal (b ∷ h) (c ∷ w) ≡ false
 unfolding equal is-small
 small-not b c h w s q = rw (ne-eqb b c (λ e. absurd (omega (arith, leb-true 97 b (and-both _ _ s .0))))) refl
 
