@@ -1,14 +1,14 @@
 -- The tokens from a place on, by the byte that stands there: the laws by which the readers of src/tokens.rt go. Assumes nothing.
-use mathlib.Core.Path.{_≡_, refl, sym, ap, subst, _∙_}
+use mathlib.Core.Path.{_≡_, refl, sym, ap, _∙_}
 use mathlib.Core.Bool.{Bool, true, false, _&&_, _||_, cond}
-use mathlib.Core.List.{List, [], _∷_, _++_, append-assoc, append-nil}
+use mathlib.Core.List.{List, [], _∷_, _++_, append-assoc}
 use Prim.Native.Nat.{ℕ, zero, suc, _+_, _*_, _-_, _<_, _≤_, min}
 use native.Mathlib.Numerals.{add-one}
 use native.Mathlib.Omega.{arith}
 use lib.Dec.{ltb, leb, eqb}
 use lib.ListN.{length, getD, take, drop, drop-of-length-le, length-drop, length-take, take-append-drop}
 use lib.Seq.{drop-cons, take-suc, take-nil, getD-drop, take-append-seam, take-take, take-all, drop-drop}
-use borrow.Author.Tests.{leb-true, leb-false, lt-leb, ltb-true, ltb-false, eqb-true, eq-eqb, ne-eqb}
+use borrow.Author.Tests.{leb-true, leb-false, lt-leb, ltb-true, ltb-false, eq-eqb, ne-eqb}
 use Rattle.text.specs.Numbers.{is-digit}
 use Rattle.model.specs.Run.{member}
 use Rattle.text.specs.Lines.{equal, begins}
@@ -570,35 +570,18 @@ module _ {s : List ℕ} {limit at e : ℕ} (n : Blanks-end s limit at e) where
   pub blanks-then : {r : Seen} → Sees s limit e (tokens-at s limit e) r → Sees s limit at (tokens-at s limit at) r
   blanks-then {r} t = record { rest = t .rest; reads = n .same ∙ t .reads; goes = t .goes; past = λ w. record { more = omega (arith, n .ahead, t .past w .more); inside = t .past w .inside }; bounds = t .bounds }
 
-short : (w t : List ℕ) → length t ≡ length w → begins w t ≡ true → equal t w ≡ true
-unfolding begins
-short w t q b = subst (λ (y : List ℕ). equal y w ≡ true) (take-all (length w) t (omega arith)) b
-
-begins-equal : (w t : List ℕ) → begins w t ≡ true → eqb (length t) (length w) ≡ equal t w
-begins-equal w t b = go (eqb (length t) (length w)) refl
-  where
-    go : (x : Bool) → eqb (length t) (length w) ≡ x → x ≡ equal t w
-    go true q = sym (short w t (eqb-true (length t) (length w) q) b)
-    go false q = long (equal t w) refl
-      where
-        long : (y : Bool) → equal t w ≡ y → false ≡ y
-        long true p = clash (eqb (length t) (length w)) (eq-eqb (length t) (length w) (ap length (equal-true t w p))) q
-        long false p = refl
-
 -- WORDS: that one stands, and no more
-module _ (s : List ℕ) (a e : ℕ) (w : List ℕ) {r : ℕ} (some : 0 < length w) (b : begins w (part s a e) ≡ true) (m : r ≡ min e (length s)) where
-  pub word-room : a ≤ r
-  word-room = let h = front-room w (drop a s) (e - a) b in omega (arith, h .0, simp length-drop at (h .1))
-
+module _ (s : List ℕ) (a e : ℕ) (w : List ℕ) {r : ℕ} (m : r ≡ min e (length s)) where
   part-length : length (part s a e) ≡ r - a
   part-length = length-take (e - a) (drop a s) ∙ rw (length-drop a s) (omega arith)
 
-  pub word-whole : eqb (r - a) (length w) ≡ equal (part s a e) w
-  word-whole = ap (λ (n : ℕ). eqb n (length w)) (sym part-length) ∙ begins-equal w (part s a e) b
+  pub word-other : (r - a ≡ length w → ⊥) → false ≡ equal (part s a e) w
+  word-other n = go (equal (part s a e) w) refl
+    where
+      go : (x : Bool) → equal (part s a e) w ≡ x → false ≡ x
+      go true q = absurd (n (sym part-length ∙ ap length (equal-true (part s a e) w q)))
+      go false q = refl
 
-pub word-not : (w t : List ℕ) → begins w t ≡ false → false ≡ equal t w
-word-not w t b = go (equal t w) refl
-  where
-    go : (x : Bool) → equal t w ≡ x → false ≡ x
-    go true q = clash (begins w t) (subst (λ (y : List ℕ). begins w y ≡ true) (append-nil t) (begins-whole t w [] q)) b
-    go false q = refl
+  pub word-as-long : r - a ≡ length w → begins w (part s a e) ≡ equal (part s a e) w
+  unfolding begins
+  word-as-long q = ap (λ (t : List ℕ). equal t w) (take-all (length w) (part s a e) (omega (arith, part-length)))

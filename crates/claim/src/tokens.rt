@@ -403,13 +403,17 @@ pub(crate) fn fault(t: Token) -> u32
     }
 }
 
-// Whether the bytes from `a` to `e` are `w`.
+// Whether the bytes from `a` to `e` are `w`: by their number first, which differs for most words.
 pub(crate) fn word(text: &[u8], a: usize, e: usize, w: &[u8]) -> bool
     requires { ⌜ 0 < length (now w) ⌝ }
     ensures { λ r. ⌜ r ≡ equal (part (now (text .entry)) a e) (now (w .entry)) ⌝ }
 {
-    if stands(text, a, e, w) {
-        return smaller(e, text.len()) - a == w.len();
+    let stop = smaller(e, text.len());
+    if stop < a {
+        return false;
     }
-    false
+    if stop - a != w.len() {
+        return false;
+    }
+    stands(text, a, e, w)
 }
