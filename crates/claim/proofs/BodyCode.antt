@@ -21,16 +21,17 @@ use Rattle.model.specs.ClaimGrammar.{Item, State, most-states, title-fits}
 use Rattle.model.specs.ClaimTable.{numbered, titled, marked, bare, line-at, Place, in-line, in-marks, Next, go, fault, is-sign, on-string, snoc, edge-step, marks-step, part-step, step, ended, told, refused}
 use Rattle.model.specs.Claim.{is-marked}
 use Rattle.model.specs.ClaimEntry.{mark-of}
-use Rattle.claim.specs.Reads.{part, claim-tokens, spelt, starts, is-symbol-of, fault-of, Quoted, Sees, Onward}
+use Rattle.claim.specs.Reads.{Blanks-end, part, claim-tokens, spelt, starts, is-symbol-of, fault-of, Quoted, Sees, Onward}
 use Rattle.claim.specs.Cells.{name-cell, length-cell, lead-cell, move-cell, claim-cells, Line-held, Adds}
 use Rattle.claim.specs.BodySays.{from-step, Title-says, Marks-say, Mark-says}
 use Rattle.claim.specs.declared.tokens.Token.{Token}
 use Rattle.claim.specs.declared.tokens.Token.the-variants.{Name, Header, Number, Text, Symbol, Body, End, Alias, Comment, Stray, Done}
 use Rattle.claim.specs.declared.tokens.Seen.{Seen}
+use Rattle.claim.specs.declared.header.Past.{Past}
 use Rattle.claim.specs.declared.header.Past.the-variants.{To, Fault}
 use Rattle.claim.specs.declared.body.Marks.{Marks}
 use Rattle.claim.specs.declared.body.Marks.the-variants.{Read, Fault as Bad}
-use Rattle.claim.proofs.Places.{stays, onto, onward}
+use Rattle.claim.proofs.Places.{past-onward, stays, onto, onward}
 use Rattle.claim.proofs.tokens.Token.{the-type}
 use Rattle.claim.proofs.Lexing.{part-cons, part-cut}
 use Rattle.claim.proofs.Seeing.{reads-as, goes-past, bounds-as, starts-as, symbol-next, symbol-past}
@@ -148,6 +149,11 @@ module _ {s : List ℕ} {at : ℕ} {r : Seen} (n : Sees s T.longest-claim at (cl
   pub title-none : OneOf but-text (tagOf the-type (r .token)) → (w : List ℕ) → Title-says s c at (To at) w w
   title-none h w =
       (none, λ is ls. subst (λ (ts : List T.Token). told (go (in-line is ls (numbered c))) ts ≡ from-step (marks-step is ls c none) ts) (sym (n .reads)) (no-string is ls c s (n .rest) (r .token) h), adds-nothing s c (bare c none none) w, stays)
+
+-- from before the blanks in front of it
+pub title-past : {s : List ℕ} {at here : ℕ} → Blanks-end s T.longest-claim at here → (c : ℕ) (r : Past) (w v : List ℕ) → Title-says s c here r w v → Title-says s c at r w v
+title-past b c (To n) w v (o, t, a, p) = (o, λ is ls. ap (told (go (in-line is ls (numbered c)))) (b .same) ∙ t is ls, a, onward (past-onward b) p)
+title-past b c (Fault j) w v t = λ is ls. ap (told (go (in-line is ls (numbered c)))) (b .same) ∙ t is ls
 
 -- MARKS: the numbers so far
 pub record Marks-so-far (s : List ℕ) (at : ℕ) (any : Bool) (here : ℕ) : Type 0 where

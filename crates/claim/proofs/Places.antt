@@ -27,3 +27,6 @@ from-ahead h q = record { more = omega (arith, h, q .more); inside = q .inside }
 -- and past the blanks there
 pub past-ahead : {s : List ℕ} {a b c : ℕ} → Blanks-end s longest-claim b c → Ahead s a b → Ahead s a c
 past-ahead n p = record { more = omega (arith, p .more, n .ahead); inside = n .inside (p .inside) }
+
+pub past-onward : {s : List ℕ} {a b : ℕ} → Blanks-end s longest-claim a b → Onward s a b
+past-onward n = record { more = n .ahead; inside = n .inside }

@@ -26,6 +26,7 @@ use crate::tokens::Token;
 use crate::tokens::claim_token;
 use crate::tokens::fault;
 use crate::tokens::is_symbol;
+use crate::tokens::past_blanks;
 use crate::tokens::word;
 
 const LONGEST_TITLE: usize = 32;
@@ -59,13 +60,14 @@ fn title_fits(text: &[u8], a: usize, e: usize) -> bool
     !has_line_feed(text, a, e)
 }
 
-// The name of state c, if one is at `at`.
+// The name of state c, if one is at `at`; else the place past the blanks there.
 fn title(text: &[u8], at: usize, c: usize, cells: &mut [u32]) -> Past
     requires { ⌜ c < most-states ⌝ }
     requires { ⌜ claim-cells ≤ length (now cells) ⌝ }
     ensures { λ r. ⌜ Title-says (now (text .entry)) c at r (now (cells .entry)) (now (cells .exit)) ⌝ }
 {
-    let seen = claim_token(text, at);
+    let here = past_blanks(text, at);
+    let seen = claim_token(text, here);
     let t = seen.token;
     let next = seen.next;
     match t {
@@ -77,7 +79,7 @@ fn title(text: &[u8], at: usize, c: usize, cells: &mut [u32]) -> Past
             cells[Counts::LENGTHS + c] = (e - a) as u32;
             Past::To(next)
         }
-        _ => Past::To(at),
+        _ => Past::To(here),
     }
 }
 
