@@ -2,7 +2,7 @@
 use mathlib.Core.Path.{_≡_, refl, sym, ap, _∙_}
 use mathlib.Core.Bool.{Bool, true, false, _&&_, _||_, not, cond}
 use Prim.Native.Nat.{ℕ, zero, suc, _-_, _*_, _/_, _%_, _^_, _<_}
-use native.Mathlib.Nat.{mod-lt, zero-lt-suc, le-refl, zero-div, div-one}
+use native.Mathlib.Nat.{mod-lt, zero-lt-suc, le-refl, zero-div, div-one, zero-mul}
 use native.Mathlib.Numerals.{one-add}
 use native.Mathlib.Omega.{arith}
 use lib.Dec.{ltb, eqb, eqb·zero-suc, eqb·suc-zero, eqb·suc-suc}
@@ -57,7 +57,7 @@ pub bit-xor : (a b i : ℕ) → bit (bitXor a b) i ≡ cond (bit b i) (not (bit 
 bit-xor = bit-by bitXor flip-if xor-shr xor-mod (on-digits (λ (x y : ℕ). eqb (bitXor x y) 1 ≡ flip-if (eqb x 1) (eqb y 1)) refl refl refl refl)
 
 -- `1 << t`
-bit-half : (x d : ℕ) → bit x (suc d) ≡ bit (x / 2) d
+pub bit-half : (x d : ℕ) → bit x (suc d) ≡ bit (x / 2) d
 unfolding bit
 bit-half x d = ap (λ (y : ℕ). eqb (y % 2) 1) (ap (λ (k : ℕ). x / 2 ^ k) (sym (one-add d)) ∙ sym (shr-shr x 1 d))
 
@@ -68,12 +68,22 @@ bit-one zero (suc d) = bit-half 1 d ∙ rw (zero-div (2 ^ d), eqb·suc-zero d) r
 bit-one (suc t) zero = rw (div-one (1 * 2 ^ suc t), shifted-even 1 t, eqb·zero-suc t) refl
 bit-one (suc t) (suc d) = bit-half (1 * 2 ^ suc t) d ∙ (ap (λ (y : ℕ). bit y d) (shifted-half 1 t) ∙ (bit-one t d ∙ sym (eqb·suc-suc d t)))
 
-pub bit-shifted : (t d : ℕ) → t < 32 → bit (1 * 2 ^ t % 2 ^ 32) d ≡ eqb d t
+bit-shifted : (t d : ℕ) → t < 32 → bit (1 * 2 ^ t % 2 ^ 32) d ≡ eqb d t
 bit-shifted t d h = rw (shl-exact 1 t 32 (le-refl 2) (omega (arith, h))) (bit-one t d)
 
 pub bit-zero : (d : ℕ) → bit 0 d ≡ false
 unfolding bit
 bit-zero d = rw (zero-div (2 ^ d)) refl
+
+-- `x % 2 << t`
+pub bit-digit : (x t d : ℕ) → t < 32 → bit (x % 2 * 2 ^ t % 2 ^ 32) d ≡ (bit x 0 && eqb d t)
+unfolding bit
+bit-digit x t d h = go (x % 2) (mod-lt x (zero-lt-suc 1)) ∙ ap (λ (y : ℕ). eqb (y % 2) 1 && eqb d t) (sym (div-one x))
+  where
+    go : (y : ℕ) → y < 2 → bit (y * 2 ^ t % 2 ^ 32) d ≡ (eqb y 1 && eqb d t)
+    go zero k = rw (zero-mul (2 ^ t)) (bit-zero d)
+    go (suc zero) k = bit-shifted t d h
+    go (suc (suc y)) k = absurd (omega (arith, k))
 
 -- `m | 1 << t`
 pub bit-set : (m t d : ℕ) → t < 32 → bit (bitOr m (1 * 2 ^ t % 2 ^ 32)) d ≡ (bit m d || eqb d t)

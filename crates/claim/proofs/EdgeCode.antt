@@ -1,24 +1,24 @@
 -- How the readers of edges in src/body.rt meet their contracts: a law for each return, and for each turn of the loop.
 -- Assumes nothing.
 use mathlib.Core.Path.{_≡_, refl, sym, ap, subst, _∙_}
-use mathlib.Core.Bool.{Bool, true, false, cond}
+use mathlib.Core.Bool.{Bool, true, false, cond, _&&_, _||_}
 use mathlib.Core.List.{List, [], _∷_, append-nil, append-assoc}
-use Prim.Native.Nat.{ℕ, _<_, _≤_}
+use Prim.Native.Nat.{ℕ, _*_, _%_, _^_, _<_, _≤_}
 use native.Mathlib.Omega.{arith}
-use types.Run.{OneOf, miss}
-use denote.Enum.Declared.{tagOf}
-use lib.Dec.{ltb}
-use lib.ListN.{length}
-use borrow.Author.Tests.{lt-ltb, le-ltb}
+use lib.Bits.{bitOr}
+use lib.Dec.{ltb, eqb}
+use lib.ListN.{length, replicate}
+use borrow.Author.Tests.{lt-ltb, le-ltb, ne-eqb}
 use Rattle.text.proofs.Tests.{clash}
 use Rattle.model.specs.ClaimTokens as T
-use Rattle.model.specs.ClaimLabels.{or-level, Label, on, label-start, label-told, Label-read}
+use Rattle.model.specs.ClaimLabels.{or-level, Label, bit, on, label-start, label-told, Label-read}
 use Rattle.model.specs.ClaimGrammar.{Item, Edge, State, count-in, propositions-in, most-states}
 use Rattle.model.specs.ClaimTable.{Line, in-lines, in-line, in-label, wants-target, edged, line-at, snoc, with-edge, Next, go, fault, is-sign, line-step, edge-step, part-step, from-label, step, ended, told, refused}
 use Rattle.model.proofs.ClaimComplete.{finish, through-label}
 use Rattle.claim.specs.Reads.{claim-tokens, starts, is-symbol-of, Sees, Label-says, Ahead, Onward}
+use Rattle.claim.specs.LabelSays.{holds}
 use Rattle.claim.specs.HeaderSays.{Wants-number, Number-says}
-use Rattle.claim.specs.Cells.{Led, Adds}
+use Rattle.claim.specs.Cells.{set-words, set-of, Gathered, Led}
 use Rattle.claim.specs.BodySays.{from-step, Edge-says, with-edges, Edges-say}
 use Rattle.claim.specs.declared.tokens.Seen.{Seen}
 use Rattle.claim.specs.declared.labels.Values.{Values}
@@ -26,13 +26,11 @@ use Rattle.claim.specs.declared.labels.Truth.{Truth}
 use Rattle.claim.specs.declared.labels.Truth.the-variants.{Is, Fault as Broken}
 use Rattle.claim.specs.declared.header.Found.{Found}
 use Rattle.claim.specs.declared.header.Found.the-variants.{Is as Found-is, Fault as Not}
-use Rattle.claim.specs.declared.header.Past.{Past}
 use Rattle.claim.specs.declared.header.Past.the-variants.{To, Fault}
 use Rattle.claim.proofs.HeaderCode.{told-fault, number-taken}
 use Rattle.claim.proofs.Seeing.{starts-as, symbol-next, symbol-past}
-use Rattle.claim.proofs.Held.{adds-nothing, adds-then}
-use Rattle.claim.proofs.MoveCode.{edge-adds}
-use Rattle.claim.proofs.header.Past.{the-type as past-type}
+use Rattle.claim.proofs.Bits.{bit-zero, bit-set}
+use Rattle.claim.proofs.MoveCode.{Gathers, gathers-none, gathers-one, edges-add}
 
 -- THE LABEL, from its [ on
 in-label-told : (l : Line) (ts : List T.Token) → told (go (in-label l label-start)) ts ≡ finish l (label-told (propositions-in (l .items)) (on label-start) ts)
@@ -70,8 +68,8 @@ edged-marked is ls l [] e = clash false e refl
 edged-marked is ls l (t ∷ ts) e = edged-told is ls l t ts ∙ (ap (λ (b : Bool). told (cond b (fault 16) (edge-step (line-at is ls l) t)) ts) e ∙ told-fault 16 ts)
 
 -- AN EDGE
-module _ (s : List ℕ) (n k c at : ℕ) (w v : List ℕ) (x : Truth) (said : Label-says s k at x) where
-  pub edge-unlabelled : (j : ℕ) → x ≡ Broken j → Edge-says s n k c at (Fault j) w v
+module _ (s : List ℕ) (n k at : ℕ) (w v : List ℕ) (x : Truth) (said : Label-says s k at x) where
+  pub edge-unlabelled : (j : ℕ) → x ≡ Broken j → Edge-says s n k at (Not j) w v
   edge-unlabelled j q is ls l en ek = labelled (line-at is ls l) k _ _ ek (subst (λ (y : Truth). Label-says s k at y) q said)
 
   module _ (set : Values) (e : ℕ) (q : x ≡ Is set e) where
@@ -82,7 +80,7 @@ module _ (s : List ℕ) (n k c at : ℕ) (w v : List ℕ) (x : Truth) (said : La
     to-target l ek = labelled l k _ _ ek (label-there .2)
 
     module _ (y : Found) (read : Number-says s e y) where
-      pub edge-untargeted : (j : ℕ) → y ≡ Not j → Edge-says s n k c at (Fault j) w v
+      pub edge-untargeted : (j : ℕ) → y ≡ Not j → Edge-says s n k at (Not j) w v
       edge-untargeted j r is ls l en ek = to-target (line-at is ls l) ek ∙ subst (λ (z : Found). Number-says s e z) r read _ _ (target-wants (line-at is ls l) _)
 
       module _ (d z : ℕ) (r : y ≡ Found-is d z) where
@@ -96,20 +94,22 @@ module _ (s : List ℕ) (n k c at : ℕ) (w v : List ℕ) (x : Truth) (said : La
             ∙ (number-taken (target-wants (line-at is ls l) (label-there .0)) d _
             ∙ ap (λ (m : ℕ). told (cond (ltb d m) (go (in-line is ls (edged (with-edge l (record { label = label-there .0; to = d }))))) (fault 15)) (claim-tokens s z)) en))
 
-        pub edge-far : n ≤ d → Edge-says s n k c at (Fault 15) w v
+        pub edge-far : n ≤ d → Edge-says s n k at (Not 15) w v
         edge-far h is ls l en ek = targeted is ls l en ek ∙ (ap (λ (b : Bool). told (cond b (go (in-line is ls (edged (with-edge l (record { label = label-there .0; to = d }))))) (fault 15)) (claim-tokens s z)) (le-ltb d n h) ∙ told-fault 15 _)
 
         near : (is : List Item) (ls : List State) (l : State) → d < n → count-in is ≡ n → propositions-in is ≡ k → told (go (in-label (line-at is ls l) label-start)) (claim-tokens s at) ≡ told (go (in-line is ls (edged (with-edge l (record { label = label-there .0; to = d }))))) (claim-tokens s z)
         near is ls l h en ek = targeted is ls l en ek ∙ ap (λ (b : Bool). told (cond b (go (in-line is ls (edged (with-edge l (record { label = label-there .0; to = d }))))) (fault 15)) (claim-tokens s z)) (lt-ltb d n h)
 
-        pub edge-marked : d < n → starts 123 (claim-tokens s z) ≡ true → Edge-says s n k c at (Fault 16) w v
+        pub edge-marked : d < n → starts 123 (claim-tokens s z) ≡ true → Edge-says s n k at (Not 16) w v
         edge-marked h m is ls l en ek = near is ls l h en ek ∙ edged-marked is ls _ _ m
 
-        pub edge-taken : d < n → starts 123 (claim-tokens s z) ≡ false → c < most-states → Led c d set w v → Edge-says s n k c at (To z) w v
-        edge-taken h m hc led = (
+        pub edge-taken : d < n → starts 123 (claim-tokens s z) ≡ false → Gathered d set w v → Edge-says s n k at (Found-is d z) w v
+        edge-taken h m g = (
           record { label = label-there .0; to = d },
+          refl,
+          h,
           λ is ls l en ek. near is ls l h en ek ∙ edged-on is ls _ _ m,
-          λ l e. edge-adds led hc s (label-there .0) l (label-there .1) e,
+          λ t f i. g .gathered t f ∙ ap (λ (b : Bool). holds (set-of w t) f || (b && eqb t d)) (sym (label-there .1 .agrees f i)),
           record { more = omega (arith, label-there .3 .more, number-there .1 .more); inside = λ i. number-there .1 .inside },
         )
 
@@ -129,54 +129,56 @@ no-more l = ap (λ (es : List Edge). record { number = l .number; title = l .tit
 one-more : (l : State) (es : List Edge) (e : Edge) → with-edge (with-edges l es) e ≡ with-edges l (snoc es e)
 one-more l es e = ap (λ (fs : List Edge). record { number = l .number; title = l .title; marks = l .marks; edges = fs }) (append-assoc (l .edges) es (e ∷ []))
 
-pub record Edges-so-far (s : List ℕ) (n k c at : ℕ) (w v : List ℕ) (here : ℕ) : Type 0 where
+pub record Edges-so-far (s : List ℕ) (n k at : ℕ) (sets : List ℕ) (leads here : ℕ) : Type 0 where
   pub so-far : List Edge
   pub goes : (is : List Item) (ls : List State) (l : State) → count-in is ≡ n → propositions-in is ≡ k → from-step (edge-step (line-at is ls l)) (claim-tokens s at) ≡ from-step (edge-step (line-at is ls (with-edges l so-far))) (claim-tokens s here)
-  pub added : (l : State) → l .number ≡ c → Adds s c l (with-edges l so-far) w v
+  pub in-sets : Gathers so-far leads sets
+  pub near-all : (t : ℕ) → most-states ≤ t → bit leads t ≡ false
   pub onward : Onward s at here
-  pub long : length v ≡ length w
+  pub long : length sets ≡ set-words
 
-pub edges-begun : (s : List ℕ) (n k c at : ℕ) (w : List ℕ) → Edges-so-far s n k c at w w at
-edges-begun s n k c at w =
+pub edges-begun : (s : List ℕ) (n k at : ℕ) → Edges-so-far s n k at (replicate set-words 0) 0 at
+edges-begun s n k at =
     record {
       so-far = [];
       goes = λ is ls l en ek. ap (λ (x : State). from-step (edge-step (line-at is ls x)) (claim-tokens s at)) (sym (no-more l));
-      added = λ l e. subst (λ (x : State). Adds s c l x w w) (sym (no-more l)) (adds-nothing s c l w);
+      in-sets = gathers-none set-words;
+      near-all = λ t h. bit-zero t;
       onward = record { more = omega arith; inside = λ h. h };
       long = refl;
     }
 
-module _ {s : List ℕ} {n k c at : ℕ} {w v : List ℕ} {here : ℕ} (f : Edges-so-far s n k c at w v here) {r : Seen} (t : Sees s T.longest-claim here (claim-tokens s here) r) where
-  pub edges-done : is-symbol-of (r .token) 91 ≡ false → Edges-say s n k c at (To here) w v
-  edges-done e = (f .so-far, λ is ls l en ek. f .goes is ls l en ek ∙ not-labelled is ls _ _ (starts-as t 91 false e), f .added, f .onward)
+module _ {s : List ℕ} {n k at : ℕ} {sets : List ℕ} {leads here : ℕ} (f : Edges-so-far s n k at sets leads here) {r : Seen} (t : Sees s T.longest-claim here (claim-tokens s here) r) where
+  pub edges-done : (c : ℕ) {w u v : List ℕ} → u ≡ w → is-symbol-of (r .token) 91 ≡ false → c < most-states → Led c leads sets u v → Edges-say s n k c at (To here) w v
+  edges-done c {w} {u} {v} p e hc m = (f .so-far, λ is ls l en ek. f .goes is ls l en ek ∙ not-labelled is ls _ _ (starts-as t 91 false e), λ l q. edges-add (subst (λ (x : List ℕ). Led c leads sets x v) p m) hc s (f .so-far) l (f .in-sets) q, f .onward)
 
-  module _ (e : is-symbol-of (r .token) 91 ≡ true) (u : List ℕ) (x : Past) (said : Edge-says s n k c (r .next) x v u) where
+  module _ (e : is-symbol-of (r .token) 91 ≡ true) (u : List ℕ) (x : Found) (said : Edge-says s n k (r .next) x sets u) where
     through : (is : List Item) (ls : List State) (l : State) → count-in is ≡ n → propositions-in is ≡ k → from-step (edge-step (line-at is ls l)) (claim-tokens s at) ≡ told (go (in-label (line-at is ls (with-edges l (f .so-far))) label-start)) (claim-tokens s (r .next))
     through is ls l en ek = f .goes is ls l en ek ∙ (ap (λ (ts : List T.Token). from-step (edge-step (line-at is ls (with-edges l (f .so-far)))) ts) (symbol-next t 91 e) ∙ is-labelled is ls _ _)
 
-    pub edges-broken : OneOf (1 ∷ []) (tagOf past-type x) → Edges-say s n k c at x w u
-    edges-broken h = go x h said
-      where
-        go : (y : Past) → OneOf (1 ∷ []) (tagOf past-type y) → Edge-says s n k c (r .next) y v u → Edges-say s n k c at y w u
-        go (To z) g a = absurd (miss (1 ∷ []) 0 tt g)
-        go (Fault j) g a = λ is ls l en ek. through is ls l en ek ∙ a is ls (with-edges l (f .so-far)) en ek
+    pub edges-broken : (c : ℕ) (w v : List ℕ) (j : ℕ) → x ≡ Not j → Edges-say s n k c at (Fault j) w v
+    edges-broken c w v j q is ls l en ek = through is ls l en ek ∙ subst (λ (y : Found). Edge-says s n k (r .next) y sets u) q said is ls (with-edges l (f .so-far)) en ek
 
-    module _ (z : ℕ) (q : x ≡ To z) where
-      edge-there : Edge-says s n k c (r .next) (To z) v u
-      edge-there = subst (λ (y : Past). Edge-says s n k c (r .next) y v u) q said
+    module _ (d z : ℕ) (q : x ≡ Found-is d z) where
+      edge-there : Edge-says s n k (r .next) (Found-is d z) sets u
+      edge-there = subst (λ (y : Found). Edge-says s n k (r .next) y sets u) q said
+
+      pub edge-near : d < n
+      edge-near = edge-there .2
 
       pub edges-ahead : Ahead s here z
       edges-ahead =
           let a = symbol-past t 91 e in
-          let b = edge-there .3 in
+          let b = edge-there .5 in
           record { more = omega (arith, a .more, b .more); inside = b .inside (a .inside) }
 
-      pub edges-more : length u ≡ length v → Edges-so-far s n k c at w u z
-      edges-more m =
+      pub edges-more : n ≤ most-states → length u ≡ length sets → Edges-so-far s n k at u (bitOr leads (1 * 2 ^ d % 2 ^ 32)) z
+      edges-more hn m =
           record {
             so-far = snoc (f .so-far) (edge-there .0);
-            goes = λ is ls l en ek. through is ls l en ek ∙ (edge-there .1 is ls (with-edges l (f .so-far)) en ek ∙ ap (λ (y : State). from-step (edge-step (line-at is ls y)) (claim-tokens s z)) (one-more l (f .so-far) (edge-there .0)));
-            added = λ l h. adds-then s c l (with-edges l (f .so-far)) (with-edges l (snoc (f .so-far) (edge-there .0))) w v u (f .added l h) (subst (λ (y : State). Adds s c (with-edges l (f .so-far)) y v u) (one-more l (f .so-far) (edge-there .0)) (edge-there .2 (with-edges l (f .so-far)) h));
+            goes = λ is ls l en ek. through is ls l en ek ∙ (edge-there .3 is ls (with-edges l (f .so-far)) en ek ∙ ap (λ (y : State). from-step (edge-step (line-at is ls y)) (claim-tokens s z)) (one-more l (f .so-far) (edge-there .0)));
+            in-sets = gathers-one (f .in-sets) (edge-there .0) d (edge-there .1) (omega (arith, hn, edge-near)) u (edge-there .4);
+            near-all = λ i h. bit-set leads d i (omega (arith, hn, edge-near)) ∙ rw (f .near-all i h, ne-eqb i d (λ p. omega (arith, hn, h, edge-near, p))) refl;
             onward = record { more = omega (arith, f .onward .more, edges-ahead .more); inside = λ h. edges-ahead .inside };
             long = m ∙ f .long;
           }

@@ -1,18 +1,19 @@
 -- What the readers of the body say: from a place on, what is left gives the whole, and what was read stands in the cells.
 -- Assumes nothing: these are definitions.
 use mathlib.Core.Path.{_≡_}
-use mathlib.Core.Bool.{false}
+use mathlib.Core.Bool.{false, _&&_, _||_}
 use mathlib.Core.List.{List, [], _∷_, _++_}
 use mathlib.Core.Option.{Option, none}
 use Prim.Native.Nat.{ℕ, _<_}
-use lib.Dec.{ltb}
+use lib.Dec.{ltb, eqb}
 use lib.ListN.{length}
 use Rattle.model.specs.ClaimTokens as T
-use Rattle.model.specs.ClaimLabels.{bit, label-start}
+use Rattle.model.specs.ClaimLabels.{bit, truth, label-start}
 use Rattle.model.specs.ClaimGrammar.{Item, Edge, State, Syntax, count-in, propositions-in, has-line, most-states}
 use Rattle.model.specs.ClaimTable.{complete, in-lines, wants-state, in-line, in-marks, in-label, numbered, marked, bare, line-at, snoc, with-edge, Next, go, edge-step, marks-step, Told, told, taken-as, refused}
 use Rattle.claim.specs.Reads.{claim-tokens, Ahead, Onward}
-use Rattle.claim.specs.Cells.{Adds, Lines-held}
+use Rattle.claim.specs.LabelSays.{most-values, holds}
+use Rattle.claim.specs.Cells.{set-of, Adds, Lines-held}
 use Rattle.claim.specs.declared.header.Found.{Found}
 use Rattle.claim.specs.declared.header.Found.the-variants.{Is, Fault as Not}
 use Rattle.claim.specs.declared.header.Past.{Past}
@@ -56,17 +57,18 @@ Mark-says s c at (To n) w v =
     × Onward s at n
 Mark-says s c at (Fault j) w v = (is : List Item) (ls : List State) (o : Option (List ℕ)) → from-step (marks-step is ls c o) (claim-tokens s at) ≡ refused j
 
--- EDGES of state c, of n states and k propositions: one, past its [, and that no edge mark follows it
-abbrev pub Edge-says : (text : List ℕ) → (n k c at : ℕ) → Past → (cells cells-now : List ℕ) → Type 0
-Edge-says s n k c at (To z) w v =
+-- EDGES, of n states and k propositions: one, past its [, and that no edge mark follows it; its flag values are among its target's
+abbrev pub Edge-says : (text : List ℕ) → (n k at : ℕ) → Found → (sets sets-now : List ℕ) → Type 0
+Edge-says s n k at (Is d z) w v =
     (e : Edge)
+    × (e .to ≡ d) × (d < n)
     × ((is : List Item) (ls : List State) (l : State) → count-in is ≡ n → propositions-in is ≡ k → told (go (in-label (line-at is ls l) label-start)) (claim-tokens s at) ≡ from-step (edge-step (line-at is ls (with-edge l e))) (claim-tokens s z))
-    × ((l : State) → l .number ≡ c → Adds s c l (with-edge l e) w v)
+    × ((t f : ℕ) → f < most-values → holds (set-of v t) f ≡ (holds (set-of w t) f || (truth (e .label) f && eqb t d)))
     × Onward s at z
-Edge-says s n k c at (Fault j) w v =
+Edge-says s n k at (Not j) w v =
     (is : List Item) (ls : List State) (l : State) → count-in is ≡ n → propositions-in is ≡ k → told (go (in-label (line-at is ls l) label-start)) (claim-tokens s at) ≡ refused j
 
--- all that are there
+-- all that are there, of state c
 abbrev pub with-edges : State → List Edge → State
 with-edges l es = record { number = l .number; title = l .title; marks = l .marks; edges = l .edges ++ es }
 

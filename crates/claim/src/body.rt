@@ -1,18 +1,18 @@
 // The body of a claim, a state line at a time, into cells of the caller's: of each state its mark, the place and length of
 // its name, the states that its edges lead to, and those that it may move to on each flag values.
 ghost use mathlib.Core.Path.{_≡_};
-ghost use mathlib.Core.Bool.{_&&_, not};
+ghost use mathlib.Core.Bool.{false, _&&_, not};
 ghost use mathlib.Core.Option.{some};
-ghost use Prim.Native.Nat.{ℕ, _<_, _≤_};
-ghost use lib.Dec.{ltb, eqb};
+ghost use Prim.Native.Nat.{ℕ, _+_, _<_, _≤_};
+ghost use lib.Dec.{ltb};
 ghost use lib.ListN.{length};
 ghost use Rattle.text.specs.Ascii.{line-feed};
 ghost use Rattle.model.specs.Run.{member};
 ghost use Rattle.model.specs.ClaimLabels.{bit};
 ghost use Rattle.model.specs.ClaimGrammar.{title-fits, most-states, most-propositions};
-ghost use Rattle.claim.specs.LabelSays.{most-values, holds};
+ghost use Rattle.claim.specs.LabelSays.{most-values};
 ghost use Rattle.claim.specs.Reads.{part, claim-tokens, starts};
-ghost use Rattle.claim.specs.Cells.{claim-cells, Moved, Led};
+ghost use Rattle.claim.specs.Cells.{claim-cells, moves-from, set-words, set-of, word-moves, set-moves, Added, Gathered, Led};
 ghost use Rattle.claim.specs.BodySays.{Title-says, Marks-say, Mark-says, Edge-says, Edges-say, Number-read, Rest-says, Line-says, End-says, Due-says, Body-says};
 use crate::Counts;
 use crate::header::Found;
@@ -20,8 +20,8 @@ use crate::header::Past;
 use crate::header::number_at;
 use crate::labels::Truth;
 use crate::labels::Values;
-use crate::labels::contains;
 use crate::labels::label;
+use crate::labels::union;
 use crate::tokens::Token;
 use crate::tokens::claim_token;
 use crate::tokens::fault;
@@ -143,13 +143,19 @@ fn mark(text: &[u8], at: usize, c: usize, cells: &mut [u32]) -> Past
     }
 }
 
-// State d, as a bit, where the set has the flag values f.
-fn target_bit(w: Values, f: usize, d: u32) -> u32
-    requires { ⌜ f < most-values ⌝ }
+// One more target, d, for the cells from `first` on where the word has a bit.
+fn add_word(cells: &mut [u32], first: usize, d: u32, word: u64)
     requires { ⌜ d < 32 ⌝ }
-    ensures { λ r. ⌜ ((e : ℕ) → bit r e ≡ (holds w f && eqb e d)) ⌝ }
+    requires { ⌜ first + 64 ≤ length (now cells) ⌝ }
+    ensures { λ r. ⌜ Added first 64 (word-moves d word) (now (cells .entry)) (now (cells .exit)) ⌝ }
 {
-    if contains(w, f) { 1 << d } else { 0 }
+    let mut left = word;
+    let mut i: usize = 0;
+    while i < 64 {
+        cells[first + i] = cells[first + i] | (((left % 2) as u32) << d);
+        left = left / 2;
+        i += 1;
+    }
 }
 
 // State c moves to d too, on the flag values of the set.
@@ -157,48 +163,80 @@ fn add_moves(cells: &mut [u32], c: usize, d: u32, w: Values)
     requires { ⌜ c < most-states ⌝ }
     requires { ⌜ d < 32 ⌝ }
     requires { ⌜ claim-cells ≤ length (now cells) ⌝ }
-    ensures { λ r. ⌜ Moved c d w (now (cells .entry)) (now (cells .exit)) ⌝ }
+    ensures { λ r. ⌜ Added (moves-from c) most-values (set-moves d w) (now (cells .entry)) (now (cells .exit)) ⌝ }
 {
     let first = Counts::MOVES + Counts::MOST_VALUES * c;
-    let mut f: usize = 0;
-    while f < Counts::MOST_VALUES {
-        cells[first + f] = cells[first + f] | target_bit(w, f, d);
-        f += 1;
+    add_word(cells, first, d, w.a);
+    add_word(cells, first + 64, d, w.b);
+    add_word(cells, first + 128, d, w.c);
+    add_word(cells, first + 192, d, w.d);
+}
+
+// Sets of flag values by target, four words each.
+const SETS: usize = 60;
+
+fn set_of(sets: &[u64], d: usize) -> Values
+    requires { ⌜ d < most-states ⌝ }
+    requires { ⌜ set-words ≤ length (now sets) ⌝ }
+    ensures { λ r. ⌜ r ≡ set-of (now (sets .entry)) d ⌝ }
+{
+    Values {
+        a: sets[4 * d],
+        b: sets[4 * d + 1],
+        c: sets[4 * d + 2],
+        d: sets[4 * d + 3],
     }
 }
 
-// An edge leads from state c to d, on the flag values of the set.
-fn add_edge(cells: &mut [u32], c: usize, d: u32, w: Values)
-    requires { ⌜ c < most-states ⌝ }
-    requires { ⌜ d < 32 ⌝ }
-    requires { ⌜ claim-cells ≤ length (now cells) ⌝ }
-    ensures { λ r. ⌜ Led c d w (now (cells .entry)) (now (cells .exit)) ⌝ }
+fn add_values(sets: &mut [u64], d: usize, w: Values)
+    requires { ⌜ d < most-states ⌝ }
+    requires { ⌜ set-words ≤ length (now sets) ⌝ }
+    ensures { λ r. ⌜ Gathered d w (now (sets .entry)) (now (sets .exit)) ⌝ }
 {
-    add_moves(cells, c, d, w);
-    cells[Counts::LEADS + c] = cells[Counts::LEADS + c] | (1 << d);
+    let v = union(set_of(sets, d), w);
+    sets[4 * d] = v.a;
+    sets[4 * d + 1] = v.b;
+    sets[4 * d + 2] = v.c;
+    sets[4 * d + 3] = v.d;
 }
 
-// An edge of state c, past its [.
-fn edge(text: &[u8], at: usize, states: u32, count: u32, c: usize, cells: &mut [u32]) -> Past
-    requires { ⌜ states ≤ most-states ⌝ }
-    requires { ⌜ count ≤ most-propositions ⌝ }
+// Edges lead from state c to the states of `leads`, to each on the flag values of its set.
+fn add_edges(cells: &mut [u32], c: usize, leads: u32, sets: &[u64])
     requires { ⌜ c < most-states ⌝ }
     requires { ⌜ claim-cells ≤ length (now cells) ⌝ }
-    ensures { λ r. ⌜ Edge-says (now (text .entry)) states count c at r (now (cells .entry)) (now (cells .exit)) ⌝ }
+    requires { ⌜ set-words ≤ length (now sets) ⌝ }
+    requires { ⌜ ((d : ℕ) → most-states ≤ d → bit leads d ≡ false) ⌝ }
+    ensures { λ r. ⌜ Led c leads (now (sets .entry)) (now (cells .entry)) (now (cells .exit)) ⌝ }
+{
+    for d in 0..Counts::MOST_STATES {
+        if (leads >> d) % 2 != 1 {
+            continue;
+        }
+        add_moves(cells, c, d, set_of(sets, d as usize));
+    }
+    cells[Counts::LEADS + c] = cells[Counts::LEADS + c] | leads;
+}
+
+// An edge, past its [: its target and the place past that. Its label's flag values go into the target's set.
+fn edge(text: &[u8], at: usize, states: u32, count: u32, sets: &mut [u64]) -> Found
+    requires { ⌜ states ≤ most-states ⌝ }
+    requires { ⌜ count ≤ most-propositions ⌝ }
+    requires { ⌜ set-words ≤ length (now sets) ⌝ }
+    ensures { λ r. ⌜ Edge-says (now (text .entry)) states count at r (now (sets .entry)) (now (sets .exit)) ⌝ }
 {
     match label(text, at, count) {
-        Truth::Fault(k) => Past::Fault(k),
+        Truth::Fault(k) => Found::Fault(k),
         Truth::Is(w, end) => match number_at(text, end) {
-            Found::Fault(k) => Past::Fault(k),
+            Found::Fault(k) => Found::Fault(k),
             Found::Is(d, next) => {
                 if states <= d {
-                    return Past::Fault(15);
+                    return Found::Fault(15);
                 }
                 if symbol_at(text, next, b'{') {
-                    return Past::Fault(16);
+                    return Found::Fault(16);
                 }
-                add_edge(cells, c, d, w);
-                Past::To(next)
+                add_values(sets, d as usize, w);
+                Found::Is(d, next)
             }
         },
     }
@@ -212,19 +250,26 @@ fn edges(text: &[u8], at: usize, states: u32, count: u32, c: usize, cells: &mut 
     requires { ⌜ claim-cells ≤ length (now cells) ⌝ }
     ensures { λ r. ⌜ Edges-say (now (text .entry)) states count c at r (now (cells .entry)) (now (cells .exit)) ⌝ }
 {
+    let mut sets = [0u64; SETS];
+    let mut leads: u32 = 0;
     let mut here = at;
     loop {
         let seen = claim_token(text, here);
         let t = seen.token;
         let next = seen.next;
         if !is_symbol(t, b'[') {
+            add_edges(cells, c, leads, &sets);
             return Past::To(here);
         }
-        let past = edge(text, next, states, count, c, cells);
-        let Past::To(end) = past else {
-            return past;
-        };
-        here = end;
+        match edge(text, next, states, count, &mut sets) {
+            Found::Fault(k) => {
+                return Past::Fault(k);
+            }
+            Found::Is(d, end) => {
+                leads = leads | (1 << d);
+                here = end;
+            }
+        }
     }
 }
 

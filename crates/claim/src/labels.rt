@@ -3,9 +3,9 @@
 ghost use mathlib.Core.Path.{_≡_};
 ghost use mathlib.Core.Bool.{false};
 ghost use Prim.Native.Nat.{ℕ, _<_, _≤_};
-ghost use Rattle.model.specs.ClaimLabels.{bit, proposition, not-byte, open-byte};
+ghost use Rattle.model.specs.ClaimLabels.{proposition, not-byte, open-byte};
 ghost use Rattle.model.specs.ClaimGrammar.{most-propositions};
-ghost use Rattle.claim.specs.LabelSays.{most-values, holds, Truth-of, repeated-of, complement-of, intersection-of, union-of};
+ghost use Rattle.claim.specs.LabelSays.{Truth-of, repeated-of, complement-of, intersection-of, union-of};
 ghost use Rattle.claim.specs.Reads.{claim-tokens, Sign, starts, Atom-read, And-read, Or-read, negated-of, Closed, Label-says, constant-of, Proposition-read, no-atom-of};
 use crate::tokens::Token;
 use crate::tokens::byte_at;
@@ -31,31 +31,6 @@ pub enum Truth {
 }
 
 const DEEPEST: usize = 16;
-
-// The bit `i` of a word.
-fn has_bit(bits: u64, i: usize) -> bool
-    requires { ⌜ i < 64 ⌝ }
-    ensures { λ r. ⌜ r ≡ bit bits i ⌝ }
-{
-    (bits >> i) % 2 == 1
-}
-
-// Whether the value `v` is in a set.
-pub(crate) fn contains(w: Values, v: usize) -> bool
-    requires { ⌜ v < most-values ⌝ }
-    ensures { λ r. ⌜ r ≡ holds w v ⌝ }
-{
-    if v < 64 {
-        return has_bit(w.a, v);
-    }
-    if v < 128 {
-        return has_bit(w.b, v - 64);
-    }
-    if v < 192 {
-        return has_bit(w.c, v - 128);
-    }
-    has_bit(w.d, v - 192)
-}
 
 fn repeated(bits: u64) -> Values
     ensures { λ r. ⌜ r ≡ repeated-of bits ⌝ }
@@ -90,7 +65,7 @@ fn intersection(v: Values, w: Values) -> Values
     }
 }
 
-fn union(v: Values, w: Values) -> Values
+pub(crate) fn union(v: Values, w: Values) -> Values
     ensures { λ r. ⌜ r ≡ union-of v w ⌝ }
 {
     Values {

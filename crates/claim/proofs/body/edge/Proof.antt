@@ -6,80 +6,69 @@ use borrow.Author.Needs.{needs}
 use Rattle.claim.proofs.body.edge.Statement.{statement}
 use Rattle.claim.proofs.body.edge.Tie as tie
 
--- src/body.rt:197:11
 label-requires : tie.Need-label-requires
 label-requires c κs = search needs
 
--- src/body.rt:198:22
 enum-known-k : tie.Need-enum-known-k
 enum-known-k c = search needs
 
--- src/body.rt:199:19
 enum-known-w : tie.Need-enum-known-w
 enum-known-w c = search needs
 
--- src/body.rt:199:36
 number-at-requires : tie.Need-number-at-requires
 number-at-requires c κs = search needs
 
--- src/body.rt:200:26
 enum-known-k-2 : tie.Need-enum-known-k-2
 enum-known-k-2 c = search needs
 
--- src/body.rt:201:23
 enum-known-d : tie.Need-enum-known-d
 enum-known-d c = search needs
 
--- src/body.rt:203:21
 returns : tie.Need-returns
 returns c =
     let a = c .before .before .before .before .before .before .before .before .before .before .before .args in
     let l = c .before .before .before .before .before .before .before .before .label in
     let n = c .before .before .before .before .number-at in
-    edge-far (a .text .now) (a .states) (a .count) (a .c) (a .at) [] [] (l .result) (l .ensures) _ _ (c .before .before .before .before .before .before .w .given .1) (n .result) (n .ensures) _ _ (c .before .before .d .given .1) (c .if1 .taken)
+    edge-far (a .text .now) (a .states) (a .count) (a .at) [] [] (l .result) (l .ensures) _ _ (c .before .before .before .before .before .before .w .given .1) (n .result) (n .ensures) _ _ (c .before .before .d .given .1) (c .if1 .taken)
 
--- src/body.rt:205:20
 symbol-at-requires : tie.Need-symbol-at-requires
 symbol-at-requires c κs = search needs
 
--- src/body.rt:206:21
 returns-2 : tie.Need-returns-2
 returns-2 c =
     let a = c .before .before .before .before .before .before .before .before .before .before .before .before .before .args in
     let l = c .before .before .before .before .before .before .before .before .before .before .label in
     let n = c .before .before .before .before .before .before .number-at in
-    edge-marked (a .text .now) (a .states) (a .count) (a .c) (a .at) [] [] (l .result) (l .ensures) _ _ (c .before .before .before .before .before .before .before .before .w .given .1) (n .result) (n .ensures) _ _ (c .before .before .before .before .d .given .1) (c .before .before .if1 .left) (sym (c .before .symbol-at .ensures) ∙ c .if2 .taken)
+    edge-marked (a .text .now) (a .states) (a .count) (a .at) [] [] (l .result) (l .ensures) _ _ (c .before .before .before .before .before .before .before .before .w .given .1) (n .result) (n .ensures) _ _ (c .before .before .before .before .d .given .1) (c .before .before .if1 .left) (sym (c .before .symbol-at .ensures) ∙ c .if2 .taken)
 
--- src/body.rt:208:17
-add-edge-requires : tie.Need-add-edge-requires
-add-edge-requires c κs = search needs
+cast-add-values : tie.Need-cast-add-values
+cast-add-values c = search needs
 
--- src/body.rt:190:1
+add-values-requires : tie.Need-add-values-requires
+add-values-requires c κs = search needs
+
 returns-3 : tie.Need-returns-3
 returns-3 c =
     let a = c .before .before .before .before .before .before .args in
     let l = c .before .before .before .label in
-    edge-unlabelled (a .text .now) (a .states) (a .count) (a .c) (a .at) [] [] (l .result) (l .ensures) _ (c .before .k .given .1)
+    edge-unlabelled (a .text .now) (a .states) (a .count) (a .at) [] [] (l .result) (l .ensures) _ (c .before .k .given .1)
 
--- src/body.rt:190:1
 returns-4 : tie.Need-returns-4
 returns-4 c =
     let a = c .before .before .before .before .before .before .before .before .before .before .args in
     let l = c .before .before .before .before .before .before .before .label in
     let n = c .before .before .before .number-at in
-    edge-untargeted (a .text .now) (a .states) (a .count) (a .c) (a .at) [] [] (l .result) (l .ensures) _ _ (c .before .before .before .before .before .w .given .1) (n .result) (n .ensures) _ (c .before .k2 .given .1)
+    edge-untargeted (a .text .now) (a .states) (a .count) (a .at) [] [] (l .result) (l .ensures) _ _ (c .before .before .before .before .before .w .given .1) (n .result) (n .ensures) _ (c .before .k2 .given .1)
 
--- src/body.rt:190:1
 same-length : tie.Need-same-length
 same-length c = search needs
 
--- src/body.rt:190:1
 returns-5 : tie.Need-returns-5
 returns-5 c =
     let a = c .before .before .before .before .before .before .before .before .before .before .before .before .before .before .before .before .before .args in
     let l = c .before .before .before .before .before .before .before .before .before .before .before .before .before .before .label in
     let n = c .before .before .before .before .before .before .before .before .before .before .number-at in
-    edge-taken (a .text .now) (a .states) (a .count) (a .c) (a .at) (a .cells .now) _ (l .result) (l .ensures) _ _ (c .before .before .before .before .before .before .before .before .before .before .before .before .w .given .1) (n .result) (n .ensures) _ _ (c .before .before .before .before .before .before .before .before .d .given .1) (c .before .before .before .before .before .before .if1 .left) (sym (c .before .before .before .before .before .symbol-at .ensures) ∙ c .before .before .before .before .if2 .left) (c .before .before .before .before .before .before .before .before .before .before .before .before .before .before .before .before .before .pre .1 .1 .0) (c .before .before .add-edge .ensures)
+    edge-taken (a .text .now) (a .states) (a .count) (a .at) (a .sets .now) _ (l .result) (l .ensures) _ _ (c .before .before .before .before .before .before .before .before .before .before .before .before .w .given .1) (n .result) (n .ensures) _ _ (c .before .before .before .before .before .before .before .before .d .given .1) (c .before .before .before .before .before .before .if1 .left) (sym (c .before .before .before .before .before .symbol-at .ensures) ∙ c .before .before .before .before .if2 .left) (c .before .before .add-values .ensures)
 
 pub edge-spec : {M : Type 1} → statement M
 edge-spec =
@@ -94,7 +83,8 @@ edge-spec =
     returns
     symbol-at-requires
     returns-2
-    add-edge-requires
+    cast-add-values
+    add-values-requires
     returns-3
     returns-4
     same-length

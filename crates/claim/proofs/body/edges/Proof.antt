@@ -1,67 +1,76 @@
 -- `body::edges` meets its contract: an edge a turn. Assumes nothing.
-use mathlib.Core.Path.{sym, _∙_}
+use mathlib.Core.Path.{_≡_, refl, sym, ap, _∙_}
+use mathlib.Core.List.{[]}
 use Prim.Native.Nat.{_-_}
 use native.Mathlib.Omega.{arith}
 use lib.ListN.{length}
 use borrow.Author.Needs.{needs}
 use borrow.Author.Tests.{not-true, not-false}
-use Rattle.claim.proofs.EdgeCode.{Edges-so-far, edges-begun, edges-done, edges-broken, edges-ahead, edges-more}
+use Rattle.claim.proofs.EdgeCode.{Edges-so-far, edges-begun, edges-done, edges-broken, edge-near, edges-ahead, edges-more}
 use Rattle.claim.proofs.body.edges.Statement.{statement}
 use Rattle.claim.proofs.body.edges.Tie as tie
 
 abbrev Inv-loop : tie.InvT-loop
-Inv-loop text at states count c cells₀ here₀ cells here = Edges-so-far text states count c at cells₀ cells here
+Inv-loop text at states count c cells₀ sets₀ leads₀ here₀ cells sets leads here = Edges-so-far text states count at sets leads here × (cells ≡ cells₀)
 
 abbrev μ-loop : tie.MeasureT-loop
-μ-loop text at states count c cells₀ here₀ cells here = length text - here
+μ-loop text at states count c cells₀ sets₀ leads₀ here₀ cells sets leads here = length text - here
 
--- src/body.rt:224:5
 loop-holds : tie.Need-loop-holds Inv-loop μ-loop
-loop-holds c = edges-begun _ _ _ _ _ _
+loop-holds c = (edges-begun _ _ _ _, refl)
 
--- src/body.rt:225:13
 claim-token-requires : tie.Need-claim-token-requires Inv-loop μ-loop
 claim-token-requires c κs = search needs
 
--- src/body.rt:228:13
 is-symbol-requires : tie.Need-is-symbol-requires Inv-loop μ-loop
 is-symbol-requires c κs = search needs
 
--- src/body.rt:229:13
+slice-aggregate-add-edges : tie.Need-slice-aggregate-add-edges Inv-loop μ-loop
+slice-aggregate-add-edges c = search needs
+
+add-edges-requires : tie.Need-add-edges-requires Inv-loop μ-loop
+add-edges-requires c κs =
+    let p = c .before .before .before .before .before .before .before .before .pre in
+    let i = c .before .before .before .before .before .loop .inv in
+    (p .1 .1 .0, (omega (arith, p .1 .1 .1, ap length (i .1)), (omega (arith, i .0 .long), i .0 .near-all)))
+
 same-length : tie.Need-same-length Inv-loop μ-loop
-same-length c = c .before .before .before .loop .inv .long
+same-length c = search needs
 
--- src/body.rt:229:13
 returns : tie.Need-returns Inv-loop μ-loop
-returns c = edges-done (c .before .before .before .loop .inv) (c .before .before .claim-token .ensures) (sym (c .before .is-symbol .ensures) ∙ not-true _ (c .if1 .taken))
+returns c =
+    edges-done (c .before .before .before .before .before .before .before .before .loop .inv .0) (c .before .before .before .before .before .before .before .claim-token .ensures) _ (c .before .before .before .before .before .before .before .before .loop .inv .1) (sym (c .before .before .before .before .before .before .is-symbol .ensures) ∙ not-true _ (c .before .before .before .before .before .if1 .taken)) (c .before .before .before .before .before .before .before .before .before .before .before .pre .1 .1 .0) (c .before .before .add-edges .ensures)
 
--- src/body.rt:231:13
+slice-aggregate-edge : tie.Need-slice-aggregate-edge Inv-loop μ-loop
+slice-aggregate-edge c = search needs
+
 edge-requires : tie.Need-edge-requires Inv-loop μ-loop
 edge-requires c κs = search needs
 
--- src/body.rt:232:22
-enum-known-past : tie.Need-enum-known-past Inv-loop μ-loop
-enum-known-past c = search needs
+enum-known-k : tie.Need-enum-known-k Inv-loop μ-loop
+enum-known-k c = search needs
 
--- src/body.rt:233:13
-enum-told : tie.Need-enum-told Inv-loop μ-loop
-enum-told c = search needs
-
--- src/body.rt:233:13
 same-length-2 : tie.Need-same-length-2 Inv-loop μ-loop
 same-length-2 c = search needs
 
--- src/body.rt:233:13
 returns-2 : tie.Need-returns-2 Inv-loop μ-loop
-returns-2 c = edges-broken (c .before .before .before .before .before .before .before .before .before .loop .inv) (c .before .before .before .before .before .before .before .before .claim-token .ensures) (sym (c .before .before .before .before .before .before .before .is-symbol .ensures) ∙ not-false _ (c .before .before .before .before .before .before .if1 .left)) _ (c .before .before .before .before .edge .result) (c .before .before .before .before .edge .ensures) (c .before .match .keys2)
+returns-2 c =
+    edges-broken (c .before .before .before .before .before .before .before .before .before .loop .inv .0) (c .before .before .before .before .before .before .before .before .claim-token .ensures) (sym (c .before .before .before .before .before .before .before .is-symbol .ensures) ∙ not-false _ (c .before .before .before .before .before .before .if1 .left)) _ (c .before .before .before .before .edge .result) (c .before .before .before .before .edge .ensures) 0 [] [] _ (c .before .k .given .1)
 
--- src/body.rt:224:5
+enum-known-d : tie.Need-enum-known-d Inv-loop μ-loop
+enum-known-d c = search needs
+
+shl-leads : tie.Need-shl-leads Inv-loop μ-loop
+shl-leads c =
+    let h = edge-near (c .before .before .before .before .before .before .before .before .before .loop .inv .0) (c .before .before .before .before .before .before .before .before .claim-token .ensures) (sym (c .before .before .before .before .before .before .before .is-symbol .ensures) ∙ not-false _ (c .before .before .before .before .before .before .if1 .left)) _ (c .before .before .before .before .edge .result) (c .before .before .before .before .edge .ensures) _ _ (c .before .d .given .1) in omega (arith, h, c .before .before .before .before .before .before .before .before .before .before .before .before .pre .0)
+
 loop-less : tie.Need-loop-less Inv-loop μ-loop
-loop-less c = let h = edges-ahead (c .before .before .before .before .before .before .before .before .before .before .loop .inv) (c .before .before .before .before .before .before .before .before .before .claim-token .ensures) (sym (c .before .before .before .before .before .before .before .before .is-symbol .ensures) ∙ not-false _ (c .before .before .before .before .before .before .before .if1 .left)) _ (c .before .before .before .before .before .edge .result) (c .before .before .before .before .before .edge .ensures) _ (c .before .past .given .1) in omega (arith, h .more, h .inside)
+loop-less c =
+    let h = edges-ahead (c .before .before .before .before .before .before .before .before .before .loop .inv .0) (c .before .before .before .before .before .before .before .before .claim-token .ensures) (sym (c .before .before .before .before .before .before .before .is-symbol .ensures) ∙ not-false _ (c .before .before .before .before .before .before .if1 .left)) _ (c .before .before .before .before .edge .result) (c .before .before .before .before .edge .ensures) _ _ (c .before .d .given .1) in omega (arith, h .more, h .inside)
 
--- src/body.rt:224:5
 loop-again : tie.Need-loop-again Inv-loop μ-loop
-loop-again c = edges-more (c .before .before .before .before .before .before .before .before .before .before .loop .inv) (c .before .before .before .before .before .before .before .before .before .claim-token .ensures) (sym (c .before .before .before .before .before .before .before .before .is-symbol .ensures) ∙ not-false _ (c .before .before .before .before .before .before .before .if1 .left)) _ (c .before .before .before .before .before .edge .result) (c .before .before .before .before .before .edge .ensures) _ (c .before .past .given .1) (search needs)
+loop-again c =
+    (edges-more (c .before .before .before .before .before .before .before .before .before .loop .inv .0) (c .before .before .before .before .before .before .before .before .claim-token .ensures) (sym (c .before .before .before .before .before .before .before .is-symbol .ensures) ∙ not-false _ (c .before .before .before .before .before .before .if1 .left)) _ (c .before .before .before .before .edge .result) (c .before .before .before .before .edge .ensures) _ _ (c .before .d .given .1) (c .before .before .before .before .before .before .before .before .before .before .before .before .pre .0) (c .before .before .before .before .edge .kept .1 .1 .1 .1 .0), c .before .before .before .before .before .before .before .before .before .loop .inv .1)
 
 pub edges-spec : {M : Type 1} → statement M
 edges-spec =
@@ -72,12 +81,16 @@ edges-spec =
     loop-holds
     claim-token-requires
     is-symbol-requires
+    slice-aggregate-add-edges
+    add-edges-requires
     same-length
     returns
+    slice-aggregate-edge
     edge-requires
-    enum-known-past
-    enum-told
+    enum-known-k
     same-length-2
     returns-2
+    enum-known-d
+    shl-leads
     loop-less
     loop-again)

@@ -1,0 +1,76 @@
+-- `body::add_word` meets its contract: a cell at a time. Assumes nothing.
+use Prim.Native.Nat.{_-_}
+use native.Mathlib.Omega.{arith}
+use borrow.Author.Needs.{needs}
+use Rattle.claim.proofs.MoveCode.{Adding, adding-none, adding-more, adding-all}
+use Rattle.claim.proofs.body.add_word.Statement.{statement}
+use Rattle.claim.proofs.body.add_word.Tie as tie
+
+abbrev Inv-loop : tie.InvT-loop
+Inv-loop cells₀ first d word left₀ i₀ cells left i = Adding first d word cells₀ cells left i
+
+abbrev μ-loop : tie.MeasureT-loop
+μ-loop cells₀ first d word left₀ i₀ cells left i = 64 - i
+
+loop-holds : tie.Need-loop-holds Inv-loop μ-loop
+loop-holds c = adding-none _ _ _ _
+
+add-cells : tie.Need-add-cells Inv-loop μ-loop
+add-cells c = search needs
+
+mul-cells : tie.Need-mul-cells Inv-loop μ-loop
+mul-cells c = search needs
+
+slice-read-cells : tie.Need-slice-read-cells Inv-loop μ-loop
+slice-read-cells c = search needs
+
+cast-cells : tie.Need-cast-cells Inv-loop μ-loop
+cast-cells c = search needs
+
+shl-cells : tie.Need-shl-cells Inv-loop μ-loop
+shl-cells c = search needs
+
+add-cells-2 : tie.Need-add-cells-2 Inv-loop μ-loop
+add-cells-2 c = search needs
+
+mul-cells-2 : tie.Need-mul-cells-2 Inv-loop μ-loop
+mul-cells-2 c = search needs
+
+slice-write-cells : tie.Need-slice-write-cells Inv-loop μ-loop
+slice-write-cells c = search needs
+
+add-i : tie.Need-add-i Inv-loop μ-loop
+add-i c = search needs
+
+loop-less : tie.Need-loop-less Inv-loop μ-loop
+loop-less c = search needs
+
+loop-again : tie.Need-loop-again Inv-loop μ-loop
+loop-again c = let p = c .before .before .before .pre in adding-more (c .before .before .loop .inv) (p .0) (omega (arith, p .1, c .before .before .loop .inv .long)) (c .before .loop-test .taken)
+
+same-length : tie.Need-same-length Inv-loop μ-loop
+same-length c = c .before .loop .inv .long
+
+returns : tie.Need-returns Inv-loop μ-loop
+returns c = adding-all (c .before .loop .inv) (c .loop-test .left)
+
+pub add-word-spec : {M : Type 1} → statement M
+add-word-spec =
+    tie.close
+    (tie.spec
+    Inv-loop
+    μ-loop
+    loop-holds
+    add-cells
+    mul-cells
+    slice-read-cells
+    cast-cells
+    shl-cells
+    add-cells-2
+    mul-cells-2
+    slice-write-cells
+    add-i
+    loop-less
+    loop-again
+    same-length
+    returns)
