@@ -21,7 +21,7 @@ use Rattle.model.specs.ClaimGrammar.{Item, State, most-states, title-fits}
 use Rattle.model.specs.ClaimTable.{numbered, titled, marked, bare, line-at, Place, in-line, in-marks, Next, go, fault, is-sign, on-string, snoc, edge-step, marks-step, part-step, step, ended, told, refused}
 use Rattle.model.specs.Claim.{is-marked}
 use Rattle.model.specs.ClaimEntry.{mark-of}
-use Rattle.claim.specs.Reads.{Blanks-end, part, claim-tokens, spelt, starts, is-symbol-of, fault-of, Quoted, Sees, Onward}
+use Rattle.claim.specs.Reads.{part, claim-tokens, spelt, starts, is-symbol-of, fault-of, Blanks-end, byte-of, Quoted, Sees, Onward}
 use Rattle.claim.specs.Cells.{name-cell, length-cell, lead-cell, move-cell, claim-cells, Line-held, Adds}
 use Rattle.claim.specs.BodySays.{from-step, Title-says, Marks-say, Mark-says}
 use Rattle.claim.specs.declared.tokens.Token.{Token}
@@ -31,10 +31,11 @@ use Rattle.claim.specs.declared.header.Past.{Past}
 use Rattle.claim.specs.declared.header.Past.the-variants.{To, Fault}
 use Rattle.claim.specs.declared.body.Marks.{Marks}
 use Rattle.claim.specs.declared.body.Marks.the-variants.{Read, Fault as Bad}
-use Rattle.claim.proofs.Places.{past-onward, stays, onto, onward}
+use Rattle.claim.proofs.Places.{over-blanks, stays, onto, onward}
 use Rattle.claim.proofs.tokens.Token.{the-type}
 use Rattle.claim.proofs.Lexing.{part-cons, part-cut}
-use Rattle.claim.proofs.Seeing.{reads-as, goes-past, bounds-as, starts-as, symbol-next, symbol-past}
+use Rattle.claim.proofs.Seeing.{reads-as, goes-past, bounds-as, symbol-next, symbol-past}
+use Rattle.claim.proofs.Signs.{mark-sign, sign-is, sign-past, sign-not}
 use Rattle.claim.proofs.Held.{adds, adds-nothing, row-then, off-row, mark-off, name-off, length-off}
 use Rattle.claim.proofs.HeaderCode.{told-end, told-fault, stepped, but-number, Sign-or-number, sign-then, number-then, neither}
 
@@ -152,7 +153,7 @@ module _ {s : List ℕ} {at : ℕ} {r : Seen} (n : Sees s T.longest-claim at (cl
 
 -- from before the blanks in front of it
 pub title-past : {s : List ℕ} {at here : ℕ} → Blanks-end s T.longest-claim at here → (c : ℕ) (r : Past) (w v : List ℕ) → Title-says s c here r w v → Title-says s c at r w v
-title-past b c (To n) w v (o, t, a, p) = (o, λ is ls. ap (told (go (in-line is ls (numbered c)))) (b .same) ∙ t is ls, a, onward (past-onward b) p)
+title-past b c (To n) w v (o, t, a, p) = (o, λ is ls. ap (told (go (in-line is ls (numbered c)))) (b .same) ∙ t is ls, a, onward (over-blanks b) p)
 title-past b c (Fault j) w v t = λ is ls. ap (told (go (in-line is ls (numbered c)))) (b .same) ∙ t is ls
 
 -- MARKS: the numbers so far
@@ -228,21 +229,25 @@ module _ (is : List Item) (ls : List State) (c : ℕ) (o : Option (List ℕ)) wh
   no-mark-on [] e = refl
   no-mark-on (t ∷ ts) e = rw e refl
 
-module _ {s : List ℕ} {at : ℕ} {r : Seen} (n : Sees s T.longest-claim at (claim-tokens s at) r) (c : ℕ) where
-  pub mark-none : is-symbol-of (r .token) 123 ≡ false → (w : List ℕ) → Mark-says s c at (To at) w w
-  mark-none e w = (none, λ is ls o. no-mark-on is ls c o _ (starts-as n 123 false e), λ o. adds-nothing s c (bare c o none) w, stays)
+module _ {s : List ℕ} {at here : ℕ} (n : Blanks-end s T.longest-claim at here) (c : ℕ) where
+  pub mark-none : (byte-of s here ≡ 123 → ⊥) → (w : List ℕ) → Mark-says s c at (To here) w w
+  mark-none e w = (none, λ is ls o. ap (λ (ts : List T.Token). from-step (marks-step is ls c o) ts) (n .same) ∙ no-mark-on is ls c o _ (sign-not s here 123 (n .stops) e), λ o. adds-nothing s c (bare c o none) w, over-blanks n)
 
-  mark-opens : is-symbol-of (r .token) 123 ≡ true → (is : List Item) (ls : List State) (o : Option (List ℕ)) → from-step (marks-step is ls c o) (claim-tokens s at) ≡ told (go (in-marks is ls c o [])) (claim-tokens s (r .next))
-  mark-opens e is ls o = ap (λ (ts : List T.Token). from-step (marks-step is ls c o) ts) (symbol-next n 123 e) ∙ open-mark-on is ls c o _
+  -- past its {
+  abbrev inner : ℕ
+  inner = here + 1
 
-  pub mark-broken : is-symbol-of (r .token) 123 ≡ true → (l : Marks) (j : ℕ) → l ≡ Bad j → Marks-say s (r .next) l → Mark-says s c at (Fault j) [] []
+  mark-opens : byte-of s here ≡ 123 → (is : List Item) (ls : List State) (o : Option (List ℕ)) → from-step (marks-step is ls c o) (claim-tokens s at) ≡ told (go (in-marks is ls c o [])) (claim-tokens s inner)
+  mark-opens e is ls o = ap (λ (ts : List T.Token). from-step (marks-step is ls c o) ts) (n .same ∙ sign-is s here 123 mark-sign e) ∙ open-mark-on is ls c o _
+
+  pub mark-broken : byte-of s here ≡ 123 → (l : Marks) (j : ℕ) → l ≡ Bad j → Marks-say s inner l → Mark-says s c at (Fault j) [] []
   mark-broken e l j q a is ls o = mark-opens e is ls o ∙ go′ (rw q at a)
     where
-      go′ : Marks-say s (r .next) (Bad j) → told (go (in-marks is ls c o [])) (claim-tokens s (r .next)) ≡ refused j
+      go′ : Marks-say s inner (Bad j) → told (go (in-marks is ls c o [])) (claim-tokens s inner) ≡ refused j
       go′ b = b is ls c o
 
-  pub mark-read : is-symbol-of (r .token) 123 ≡ true → (l : Marks) (any : Bool) (z : ℕ) → l ≡ Read any z → Marks-say s (r .next) l → c < most-states → (w : List ℕ) → claim-cells ≤ length w → Mark-says s c at (To z) w (set w c (boolByte any))
+  pub mark-read : byte-of s here ≡ 123 → (l : Marks) (any : Bool) (z : ℕ) → l ≡ Read any z → Marks-say s inner l → c < most-states → (w : List ℕ) → claim-cells ≤ length w → Mark-says s c at (To z) w (set w c (boolByte any))
   mark-read e l any z q a hc w room = go′ (rw q at a)
     where
-      go′ : Marks-say s (r .next) (Read any z) → Mark-says s c at (To z) w (set w c (boolByte any))
-      go′ (ms, p, b, past) = (some ms, λ is ls o. mark-opens e is ls o ∙ (b is ls c o ∙ marked-on is ls c o ms _), λ o. marked-adds s c w hc room any ms p o, onward (onto (symbol-past n 123 e)) past)
+      go′ : Marks-say s inner (Read any z) → Mark-says s c at (To z) w (set w c (boolByte any))
+      go′ (ms, p, b, past) = (some ms, λ is ls o. mark-opens e is ls o ∙ (b is ls c o ∙ marked-on is ls c o ms _), λ o. marked-adds s c w hc room any ms p o, onward (over-blanks n) (onward (onto (sign-past s here 123 mark-sign e)) past))

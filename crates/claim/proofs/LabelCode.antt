@@ -23,7 +23,7 @@ use Rattle.claim.specs.declared.tokens.Seen.{Seen}
 use Rattle.claim.specs.declared.labels.Values.{Values}
 use Rattle.claim.specs.declared.labels.Truth.{Truth}
 use Rattle.claim.specs.declared.labels.Truth.the-variants.{Is, Fault}
-use Rattle.claim.proofs.Places.{ahead, from-ahead, past-ahead}
+use Rattle.claim.proofs.Places.{ahead, ahead-onward, from-ahead, over-blanks}
 use Rattle.claim.proofs.tokens.Token.{the-type}
 use Rattle.claim.proofs.labels.Truth.{the-type as truth-type}
 use Rattle.claim.proofs.Seeing.{reads-as, goes-past}
@@ -135,7 +135,7 @@ module _ {s : List ℕ} {at : ℕ} {r : Seen} (n : Sees s T.longest-claim at (cl
   reads-past t q e = reads-as n t q e ∙ ap (spelt s t) (b .same)
 
   past-leaf : (t : Token) → r .token ≡ t → reads-on t ≡ true → Ahead s at past
-  past-leaf t q e = past-ahead b (goes-past n t q e)
+  past-leaf t q e = ahead-onward (goes-past n t q e) (over-blanks b)
 
   taken : (t : Token) → r .token ≡ t → reads-on t ≡ true → (w : Values) → Atom-says k d (spelt s t (claim-tokens s past)) (Got w (claim-tokens s past)) → Atom-read s k d at (Is w past)
   taken t q e w a = (at-tokens (Got w (claim-tokens s past)) _ (reads-past t q e) a, past-leaf t q e, b .stops)

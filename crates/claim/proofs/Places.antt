@@ -2,8 +2,7 @@
 use mathlib.Core.List.{List}
 use Prim.Native.Nat.{ℕ, _≤_}
 use native.Mathlib.Omega.{arith}
-use Rattle.model.specs.ClaimTokens.{longest-claim}
-use Rattle.claim.specs.Reads.{Ahead, Onward, Blanks-end}
+use Rattle.claim.specs.Reads.{Blanks-end, Ahead, Onward}
 
 pub ahead : {s : List ℕ} {a b c : ℕ} → Ahead s a b → Ahead s b c → Ahead s a c
 ahead p q = record { more = omega (arith, p .more, q .more); inside = q .inside }
@@ -14,6 +13,9 @@ stays = record { more = omega arith; inside = λ h. h }
 pub onto : {s : List ℕ} {a b : ℕ} → Ahead s a b → Onward s a b
 onto p = record { more = omega (arith, p .more); inside = λ h. p .inside }
 
+pub over-blanks : {s : List ℕ} {limit a b : ℕ} → Blanks-end s limit a b → Onward s a b
+over-blanks p = record { more = p .ahead; inside = p .inside }
+
 pub onward : {s : List ℕ} {a b c : ℕ} → Onward s a b → Onward s b c → Onward s a c
 onward p q = record { more = omega (arith, p .more, q .more); inside = λ h. q .inside (p .inside h) }
 
@@ -23,10 +25,3 @@ ahead-onward p q = record { more = omega (arith, p .more, q .more); inside = q .
 -- from a place before it
 pub from-ahead : {s : List ℕ} {a b c : ℕ} → a ≤ b → Ahead s b c → Ahead s a c
 from-ahead h q = record { more = omega (arith, h, q .more); inside = q .inside }
-
--- and past the blanks there
-pub past-ahead : {s : List ℕ} {a b c : ℕ} → Blanks-end s longest-claim b c → Ahead s a b → Ahead s a c
-past-ahead n p = record { more = omega (arith, p .more, n .ahead); inside = n .inside (p .inside) }
-
-pub past-onward : {s : List ℕ} {a b : ℕ} → Blanks-end s longest-claim a b → Onward s a b
-past-onward n = record { more = n .ahead; inside = n .inside }

@@ -14,7 +14,7 @@ use Rattle.claim.specs.declared.labels.Values.{Values}
 use Rattle.claim.specs.declared.labels.Truth.{Truth}
 use Rattle.claim.specs.declared.labels.Truth.the-variants.{Is, Fault}
 use Rattle.text.proofs.Tests.{clash}
-use Rattle.claim.proofs.Places.{past-ahead}
+use Rattle.claim.proofs.Places.{ahead-onward, over-blanks}
 use Rattle.claim.proofs.Signs.{sign-is, sign-past, sign-not}
 
 pub symbol-is : (t : Token) (b : ℕ) → is-symbol-of t b ≡ true → t ≡ Symbol b
@@ -92,7 +92,7 @@ module _ (s : List ℕ) (b : ℕ) (l : Truth) where
   module _ (w : Values) (e : ℕ) (q : l ≡ Is w e) where
     pub closed-is : Sign b → byte-of s e ≡ b → {z : ℕ} → Blanks-end s T.longest-claim (e + 1) z → Closed s b l (Is w z)
     closed-is y p {z} n =
-        subst (λ (x : Truth). Closed s b x (Is w z)) (sym q) (refl, sign-is s e b y p ∙ ap (λ (ts : List T.Token). T.symbol b ∷ ts) (n .same), past-ahead n (sign-past s e b y p), n .stops)
+        subst (λ (x : Truth). Closed s b x (Is w z)) (sym q) (refl, sign-is s e b y p ∙ ap (λ (ts : List T.Token). T.symbol b ∷ ts) (n .same), ahead-onward (sign-past s e b y p) (over-blanks n), n .stops)
 
     pub closed-not : (byte-of s e ≡ b → ⊥) → {r : Seen} → Sees s T.longest-claim e (claim-tokens s e) r → (j : ℕ) → j ≡ fault-of (r .token) → Closed s b l (Fault j)
     closed-not p n j f = subst (λ (x : Truth). Closed s b x (Fault j)) (sym q) (λ h. (sign-not s e b h p, f ∙ fault-as n))

@@ -14,7 +14,7 @@ use Rattle.text.proofs.Tests.{clash, Same, same, other, same?}
 use Rattle.text.specs.Lines.{equal, begins}
 use Rattle.model.specs.ClaimTokens.{name, header, number, string, symbol, body-mark, end-mark, alias, comment, stray, goes-on, ends, breaks, after, quote, star, slash-byte, colon, at-byte, backslash, Mode, between, lost, at-sign, slash, in-name, in-number, in-string, escaped, in-mark, Lexed, is-blank, is-letter, is-capital, is-small, is-name-byte, is-symbol, begin, digit-more, mark-more, byte, at-end, lex, longest-claim, number-end}
 use Rattle.model.specs.Run.{member}
-use Rattle.model.specs.ClaimLabels.{not-byte, and-byte, or-byte, open-byte, close-byte, label-byte, end-label-byte, mark-byte, end-mark-byte}
+use Rattle.model.specs.ClaimLabels.{not-byte, and-byte, or-byte, open-byte, close-byte, label-byte, end-label-byte, mark-byte}
 use Rattle.model.specs.ClaimTable.{is-sign}
 use Rattle.claim.proofs.Lexing.{lexed-by, lexed-cut, tokens-end}
 use lib.Seq.{drop-cons}
@@ -160,7 +160,7 @@ begins-sign = on-signs (λ (b : ℕ). byte between b ≡ ends (symbol b)) refl r
 sign-some : (b : ℕ) → Sign b → 0 < b
 sign-some = on-signs (λ (b : ℕ). 0 < b) (omega arith) (omega arith) (omega arith) (omega arith) (omega arith) (omega arith) (omega arith) (omega arith) (omega arith)
 
--- ! & ( ) [ ] { | }
+-- ! & ( ) [ ] { |
 pub not-sign : Sign not-byte
 unfolding is-symbol member
 not-sign = refl
@@ -192,10 +192,6 @@ mark-sign = refl
 pub or-sign : Sign or-byte
 unfolding is-symbol member
 or-sign = refl
-
-pub mark-end-sign : Sign end-mark-byte
-unfolding is-symbol member
-mark-end-sign = refl
 
 module _ (s : List ℕ) (e : ℕ) where
   -- where the byte is not 0, it is looked at

@@ -11,7 +11,7 @@ use Rattle.model.specs.ClaimTokens as T
 use Rattle.model.specs.ClaimLabels.{bit, truth, label-start}
 use Rattle.model.specs.ClaimGrammar.{Item, Edge, State, Syntax, count-in, propositions-in, has-line, most-states}
 use Rattle.model.specs.ClaimTable.{complete, in-lines, wants-state, in-line, in-marks, in-label, numbered, marked, bare, line-at, snoc, with-edge, Next, go, edge-step, marks-step, Told, told, taken-as, refused}
-use Rattle.claim.specs.Reads.{claim-tokens, Ahead, Onward}
+use Rattle.claim.specs.Reads.{claim-tokens, Past-blanks, Ahead, Onward}
 use Rattle.claim.specs.LabelSays.{most-values, holds}
 use Rattle.claim.specs.Cells.{set-of, Adds, Lines-held}
 use Rattle.claim.specs.declared.header.Found.{Found}
@@ -65,6 +65,7 @@ Edge-says s n k at (Is d z) w v =
     × ((is : List Item) (ls : List State) (l : State) → count-in is ≡ n → propositions-in is ≡ k → told (go (in-label (line-at is ls l) label-start)) (claim-tokens s at) ≡ from-step (edge-step (line-at is ls (with-edge l e))) (claim-tokens s z))
     × ((t f : ℕ) → f < most-values → holds (set-of v t) f ≡ (holds (set-of w t) f || (truth (e .label) f && eqb t d)))
     × Onward s at z
+    × Past-blanks s z
 Edge-says s n k at (Not j) w v =
     (is : List Item) (ls : List State) (l : State) → count-in is ≡ n → propositions-in is ≡ k → told (go (in-label (line-at is ls l) label-start)) (claim-tokens s at) ≡ refused j
 

@@ -11,7 +11,7 @@ ghost use Rattle.model.specs.Run.{member};
 ghost use Rattle.model.specs.ClaimLabels.{bit};
 ghost use Rattle.model.specs.ClaimGrammar.{title-fits, most-states, most-propositions};
 ghost use Rattle.claim.specs.LabelSays.{most-values};
-ghost use Rattle.claim.specs.Reads.{part, claim-tokens, starts};
+ghost use Rattle.claim.specs.Reads.{part};
 ghost use Rattle.claim.specs.Cells.{claim-cells, moves-from, set-words, set-of, word-moves, set-moves, Added, Gathered, Led};
 ghost use Rattle.claim.specs.BodySays.{Title-says, Marks-say, Mark-says, Edge-says, Edges-say, Number-read, Rest-says, Line-says, End-says, Due-says, Body-says};
 use crate::Counts;
@@ -23,6 +23,7 @@ use crate::labels::Values;
 use crate::labels::label;
 use crate::labels::union;
 use crate::tokens::Token;
+use crate::tokens::byte_at;
 use crate::tokens::claim_token;
 use crate::tokens::fault;
 use crate::tokens::is_symbol;
@@ -83,15 +84,6 @@ fn title(text: &[u8], at: usize, c: usize, cells: &mut [u32]) -> Past
     }
 }
 
-// Whether the symbol `b` is at `at`.
-fn symbol_at(text: &[u8], at: usize, b: u8) -> bool
-    ensures { λ r. ⌜ r ≡ starts b (claim-tokens (now (text .entry)) at) ⌝ }
-{
-    let seen = claim_token(text, at);
-    let t = seen.token;
-    is_symbol(t, b)
-}
-
 // The numbers of a mark: whether there are any, and the place past its }; or the refusal.
 pub enum Marks {
     Read(bool, usize),
@@ -128,13 +120,11 @@ fn mark(text: &[u8], at: usize, c: usize, cells: &mut [u32]) -> Past
     requires { ⌜ claim-cells ≤ length (now cells) ⌝ }
     ensures { λ r. ⌜ Mark-says (now (text .entry)) c at r (now (cells .entry)) (now (cells .exit)) ⌝ }
 {
-    let seen = claim_token(text, at);
-    let t = seen.token;
-    let next = seen.next;
-    if !is_symbol(t, b'{') {
-        return Past::To(at);
+    let here = past_blanks(text, at);
+    if byte_at(text, here) != b'{' {
+        return Past::To(here);
     }
-    match marks_end(text, next) {
+    match marks_end(text, here + 1) {
         Marks::Fault(k) => Past::Fault(k),
         Marks::Read(any, past) => {
             cells[c] = any as u32;
@@ -217,7 +207,7 @@ fn add_edges(cells: &mut [u32], c: usize, leads: u32, sets: &[u64])
     cells[Counts::LEADS + c] = cells[Counts::LEADS + c] | leads;
 }
 
-// An edge, past its [: its target and the place past that. Its label's flag values go into the target's set.
+// An edge, past its [: its target and the place past that and blanks. Its label's flag values go into the target's set.
 fn edge(text: &[u8], at: usize, states: u32, count: u32, sets: &mut [u64]) -> Found
     requires { ⌜ states ≤ most-states ⌝ }
     requires { ⌜ count ≤ most-propositions ⌝ }
@@ -228,11 +218,12 @@ fn edge(text: &[u8], at: usize, states: u32, count: u32, sets: &mut [u64]) -> Fo
         Truth::Fault(k) => Found::Fault(k),
         Truth::Is(w, end) => match number_at(text, end) {
             Found::Fault(k) => Found::Fault(k),
-            Found::Is(d, next) => {
+            Found::Is(d, past) => {
                 if states <= d {
                     return Found::Fault(15);
                 }
-                if symbol_at(text, next, b'{') {
+                let next = past_blanks(text, past);
+                if byte_at(text, next) == b'{' {
                     return Found::Fault(16);
                 }
                 add_values(sets, d as usize, w);
@@ -252,16 +243,9 @@ fn edges(text: &[u8], at: usize, states: u32, count: u32, c: usize, cells: &mut 
 {
     let mut sets = [0u64; SETS];
     let mut leads: u32 = 0;
-    let mut here = at;
-    loop {
-        let seen = claim_token(text, here);
-        let t = seen.token;
-        let next = seen.next;
-        if !is_symbol(t, b'[') {
-            add_edges(cells, c, leads, &sets);
-            return Past::To(here);
-        }
-        match edge(text, next, states, count, &mut sets) {
+    let mut here = past_blanks(text, at);
+    while byte_at(text, here) == b'[' {
+        match edge(text, here + 1, states, count, &mut sets) {
             Found::Fault(k) => {
                 return Past::Fault(k);
             }
@@ -271,6 +255,8 @@ fn edges(text: &[u8], at: usize, states: u32, count: u32, c: usize, cells: &mut 
             }
         }
     }
+    add_edges(cells, c, leads, &sets);
+    Past::To(here)
 }
 
 // Whether c is a state that is not listed.

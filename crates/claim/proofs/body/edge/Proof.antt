@@ -1,8 +1,8 @@
 -- `body::edge` meets its contract: a law for each return. Assumes nothing.
 use mathlib.Core.Path.{sym, _∙_}
 use mathlib.Core.List.{[]}
-use Rattle.claim.proofs.EdgeCode.{edge-unlabelled, edge-untargeted, edge-far, edge-marked, edge-taken}
 use borrow.Author.Needs.{needs}
+use Rattle.claim.proofs.EdgeCode.{edge-unlabelled, edge-untargeted, edge-far, edge-marked, edge-taken}
 use Rattle.claim.proofs.body.edge.Statement.{statement}
 use Rattle.claim.proofs.body.edge.Tie as tie
 
@@ -31,15 +31,18 @@ returns c =
     let n = c .before .before .before .before .number-at in
     edge-far (a .text .now) (a .states) (a .count) (a .at) [] [] (l .result) (l .ensures) _ _ (c .before .before .before .before .before .before .w .given .1) (n .result) (n .ensures) _ _ (c .before .before .d .given .1) (c .if1 .taken)
 
-symbol-at-requires : tie.Need-symbol-at-requires
-symbol-at-requires c κs = search needs
+past-blanks-requires : tie.Need-past-blanks-requires
+past-blanks-requires c κs = search needs
+
+byte-at-requires : tie.Need-byte-at-requires
+byte-at-requires c κs = search needs
 
 returns-2 : tie.Need-returns-2
 returns-2 c =
-    let a = c .before .before .before .before .before .before .before .before .before .before .before .before .before .args in
-    let l = c .before .before .before .before .before .before .before .before .before .before .label in
-    let n = c .before .before .before .before .before .before .number-at in
-    edge-marked (a .text .now) (a .states) (a .count) (a .at) [] [] (l .result) (l .ensures) _ _ (c .before .before .before .before .before .before .before .before .w .given .1) (n .result) (n .ensures) _ _ (c .before .before .before .before .d .given .1) (c .before .before .if1 .left) (sym (c .before .symbol-at .ensures) ∙ c .if2 .taken)
+    let a = c .before .before .before .before .before .before .before .before .before .before .before .before .before .before .args in
+    let l = c .before .before .before .before .before .before .before .before .before .before .before .label in
+    let n = c .before .before .before .before .before .before .before .number-at in
+    edge-marked (a .text .now) (a .states) (a .count) (a .at) [] [] (l .result) (l .ensures) _ _ (c .before .before .before .before .before .before .before .before .before .w .given .1) (n .result) (n .ensures) _ _ (c .before .before .before .before .before .d .given .1) _ (c .before .before .past-blanks .ensures) (c .before .before .before .if1 .left) (sym (c .before .byte-at .ensures) ∙ c .if2 .taken)
 
 cast-add-values : tie.Need-cast-add-values
 cast-add-values c = search needs
@@ -65,10 +68,10 @@ same-length c = search needs
 
 returns-5 : tie.Need-returns-5
 returns-5 c =
-    let a = c .before .before .before .before .before .before .before .before .before .before .before .before .before .before .before .before .before .args in
-    let l = c .before .before .before .before .before .before .before .before .before .before .before .before .before .before .label in
-    let n = c .before .before .before .before .before .before .before .before .before .before .number-at in
-    edge-taken (a .text .now) (a .states) (a .count) (a .at) (a .sets .now) _ (l .result) (l .ensures) _ _ (c .before .before .before .before .before .before .before .before .before .before .before .before .w .given .1) (n .result) (n .ensures) _ _ (c .before .before .before .before .before .before .before .before .d .given .1) (c .before .before .before .before .before .before .if1 .left) (sym (c .before .before .before .before .before .symbol-at .ensures) ∙ c .before .before .before .before .if2 .left) (c .before .before .add-values .ensures)
+    let a = c .before .before .before .before .before .before .before .before .before .before .before .before .before .before .before .before .before .before .args in
+    let l = c .before .before .before .before .before .before .before .before .before .before .before .before .before .before .before .label in
+    let n = c .before .before .before .before .before .before .before .before .before .before .before .number-at in
+    edge-taken (a .text .now) (a .states) (a .count) (a .at) (a .sets .now) _ (l .result) (l .ensures) _ _ (c .before .before .before .before .before .before .before .before .before .before .before .before .before .w .given .1) (n .result) (n .ensures) _ _ (c .before .before .before .before .before .before .before .before .before .d .given .1) _ (c .before .before .before .before .before .before .past-blanks .ensures) (c .before .before .before .before .before .before .before .if1 .left) (λ q. c .before .before .before .before .if2 .left (c .before .before .before .before .before .byte-at .ensures ∙ q)) (c .before .before .add-values .ensures)
 
 pub edge-spec : {M : Type 1} → statement M
 edge-spec =
@@ -81,7 +84,8 @@ edge-spec =
     enum-known-k-2
     enum-known-d
     returns
-    symbol-at-requires
+    past-blanks-requires
+    byte-at-requires
     returns-2
     cast-add-values
     add-values-requires
