@@ -125,7 +125,14 @@ open-or k us u (either o c) q e f g = open-told k us u (some o) c q e f g
 atom-open : (k d : ℕ) (ts q : List T.Token) (w : Values) → d < deepest → Or-says k (suc d) ts (Got w q) → starts and-byte q ≡ false → starts or-byte q ≡ false → starts close-byte q ≡ false → Atom-says k d (T.symbol open-byte ∷ ts) (No (first-fault q))
 atom-open k d ts q w h (o, t, s) e f g us u p = step-open k us u ts (omega (arith, h, p)) ∙ (s (u ∷ us) (one-deeper us u d p) ∙ open-or k us u o q e f g)
 
--- what the code reads at a leaf
+-- a number at a leaf
+pub leaf-number : (s : List ℕ) (k d at i next past : ℕ) → (claim-tokens s at ≡ T.number i ∷ claim-tokens s next) × Ahead s at next → Blanks-end s T.longest-claim next past → (l : Truth) → Proposition-read i k past l → Atom-read s k d at l
+leaf-number s k d at i next past (e, h) b (Is w m) (y, t, z) =
+    rw z (subst (λ (ts : List T.Token). Atom-says k d ts (Got w (claim-tokens s past))) (sym (e ∙ ap (λ (ts : List T.Token). T.number i ∷ ts) (b .same))) (leaf k d (proposition i) _ _ w (λ us u. number-step k i us u ∙ rw y refl) t), ahead-onward h (over-blanks b), b .stops)
+leaf-number s k d at i next past (e, h) b (Fault j) (y, z) =
+    rw z (subst (λ (ts : List T.Token). Atom-says k d ts (No 15)) (sym e) (no-leaf k d _ _ 15 (λ us u q. number-step k i us u ∙ rw y refl)))
+
+-- what the code reads at another
 module _ {s : List ℕ} {at : ℕ} {r : Seen} (n : Sees s T.longest-claim at (claim-tokens s at) r) {past : ℕ} (b : Blanks-end s T.longest-claim (r .next) past) (k d : ℕ) where
   at-tokens : (R : Read) (ts : List T.Token) → claim-tokens s at ≡ ts → Atom-says k d ts R → Atom-says k d (claim-tokens s at) R
   at-tokens R ts e a = subst (λ (y : List T.Token). Atom-says k d y R) (sym e) a
@@ -147,10 +154,6 @@ module _ {s : List ℕ} {at : ℕ} {r : Seen} (n : Sees s T.longest-claim at (cl
       go true y z′ z = taken (Name a e) q refl everything (leaf k d always _ _ everything (λ us u. name-step k _ us u ∙ rw y refl) always-everything)
       go false y true z = taken (Name a e) q refl nothing (leaf k d never _ _ nothing (λ us u. name-step k _ us u ∙ rw (y, z) refl) never-nothing)
       go false y false z = at-tokens (No 15) _ (reads-past (Name a e) q refl) (no-leaf k d _ _ 15 (λ us u h. name-step k _ us u ∙ rw (y, z) refl))
-
-  pub leaf-number : (i : ℕ) → r .token ≡ Number i → (l : Truth) → Proposition-read i k past l → Atom-read s k d at l
-  leaf-number i q (Is w m) (y, t, z) = rw z (taken (Number i) q refl w (leaf k d (proposition i) _ _ w (λ us u. number-step k i us u ∙ rw y refl) t))
-  leaf-number i q (Fault j) (y, z) = rw z (at-tokens (No 15) _ (reads-past (Number i) q refl) (no-leaf k d _ _ 15 (λ us u h. number-step k i us u ∙ rw y refl)))
 
   -- the token begins no atom
   pub leaf-refused : OneOf no-atom-keys (tagOf the-type (r .token)) → starts not-byte (claim-tokens s at) ≡ false → starts open-byte (claim-tokens s at) ≡ false → (j : ℕ) → j ≡ no-atom-of (r .token) → Atom-read s k d at (Fault j)

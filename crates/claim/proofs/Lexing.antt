@@ -184,7 +184,7 @@ module _ (v b : ℕ) where
   unfolding byte digit-more
   digit-breaks e f = rw (e, f) refl
 
-  digit-stops : is-digit b ≡ false → byte (in-number v) b ≡ after (number v) (begin b)
+  pub digit-stops : is-digit b ≡ false → byte (in-number v) b ≡ after (number v) (begin b)
   unfolding byte
   digit-stops e = rw e refl
 
@@ -498,7 +498,7 @@ module _ (b : ℕ) (blank : is-blank b ≡ false) where
   unfolding byte begin
   begin-letter e = rw (blank, e) refl
 
-  begin-digit : is-digit b ≡ true → byte between b ≡ goes-on (in-number (b - 48))
+  pub begin-digit : is-digit b ≡ true → byte between b ≡ goes-on (in-number (b - 48))
   unfolding byte begin
   begin-digit e = rw (blank, digit-no-letter b e, e) refl
 

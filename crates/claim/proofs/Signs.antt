@@ -1,13 +1,13 @@
 -- A sign is told by its byte, without reading a token: where no blank stands, the tokens begin with it exactly if the byte
 -- does. Assumes nothing.
 use mathlib.Core.Path.{_≡_, refl, sym, ap, subst, _∙_}
-use mathlib.Core.Bool.{Bool, true, false, _||_, cond}
+use mathlib.Core.Bool.{Bool, true, false, _||_, cond, and-false}
 use mathlib.Core.List.{List, [], _∷_, _++_}
 use Prim.Native.Nat.{ℕ, zero, suc, _+_, _*_, _-_, _<_, min}
 use native.Mathlib.Omega.{arith}
 use lib.Dec.{ltb, leb, eqb}
 use lib.ListN.{length, getD, drop}
-use borrow.Author.Tests.{ltb-true, ltb-false, lt-ltb, ne-eqb}
+use borrow.Author.Tests.{lt-leb, ltb-true, ltb-false, lt-ltb, ne-eqb}
 use Rattle.text.specs.Numbers.{is-digit}
 use Rattle.text.specs.Ascii.{ascii, minus, digit-0}
 use Rattle.text.proofs.Tests.{clash, Same, same, other, same?}
@@ -16,9 +16,9 @@ use Rattle.model.specs.ClaimTokens.{name, header, number, string, symbol, body-
 use Rattle.model.specs.Run.{member}
 use Rattle.model.specs.ClaimLabels.{not-byte, and-byte, or-byte, open-byte, close-byte, label-byte, end-label-byte, mark-byte}
 use Rattle.model.specs.ClaimTable.{is-sign}
-use Rattle.claim.proofs.Lexing.{lexed-by, lexed-cut, tokens-end}
+use Rattle.claim.proofs.Lexing.{lexed-by, lexed-before, lexed-cut, tokens-end, digit-low, begin-digit, digit-stops}
 use lib.Seq.{drop-cons}
-use Rattle.claim.specs.Reads.{claim-tokens, byte-of, Past-blanks, Sign, Ahead, starts}
+use Rattle.claim.specs.Reads.{claim-tokens, byte-of, Past-blanks, Sign, Lone-digit, Ahead, starts}
 
 -- inside a token other than a sign
 abbrev inside : Mode → Bool
@@ -195,13 +195,19 @@ or-sign = refl
 
 module _ (s : List ℕ) (e : ℕ) where
   -- where the byte is not 0, it is looked at
-  pub sign-inside : (b : ℕ) → Sign b → byte-of s e ≡ b → (e < length s) × (e < longest-claim) × (getD s e 0 ≡ b)
+  byte-inside : (b : ℕ) → byte-of s e ≡ b → (b ≡ 0 → ⊥) → (e < length s) × (e < longest-claim) × (getD s e 0 ≡ b)
   unfolding byte-of
-  sign-inside b y q = go (ltb e (min longest-claim (length s))) refl q
+  byte-inside b q n = go (ltb e (min longest-claim (length s))) refl q
     where
       go : (p : Bool) → ltb e (min longest-claim (length s)) ≡ p → cond p (getD s e 0) 0 ≡ b → (e < length s) × (e < longest-claim) × (getD s e 0 ≡ b)
       go true p q = let h = ltb-true e (min longest-claim (length s)) p in (omega (arith, h), omega (arith, h), q)
-      go false p q = absurd (omega (arith, q, sign-some b y))
+      go false p q = absurd (n (sym q))
+
+  pub sign-inside : (b : ℕ) → Sign b → byte-of s e ≡ b → (e < length s) × (e < longest-claim) × (getD s e 0 ≡ b)
+  sign-inside b y q = byte-inside b q (λ z. omega (arith, z, sign-some b y))
+
+  pub digit-inside : is-digit (byte-of s e) ≡ true → (e < length s) × (e < longest-claim) × (getD s e 0 ≡ byte-of s e)
+  digit-inside d = byte-inside (byte-of s e) refl (λ z. omega (arith, z, digit-low (byte-of s e) d))
 
   -- the tokens begin with the sign whose byte stands there
   pub sign-is : (b : ℕ) → Sign b → byte-of s e ≡ b → claim-tokens s e ≡ symbol b ∷ claim-tokens s (e + 1)
@@ -225,3 +231,20 @@ module _ (s : List ℕ) (e : ℕ) where
           let g = ltb-true e longest-claim y in
           let here : byte-of s e ≡ getD s e 0 = ap (λ (z : Bool). cond z (getD s e 0) 0) (lt-ltb e (min longest-claim (length s)) (omega (arith, h, g))) in
           ap (λ (ts : List ℕ). starts b (lex (longest-claim - e) between ts)) (drop-cons s e 0 h) ∙ no-sign-from b (longest-claim - e) (getD s e 0) (drop (suc e) s) (p h g) (λ q. n (here ∙ q))
+
+-- A NUMBER of one digit, told by the byte after it
+digit-no-blank : (b : ℕ) → is-digit b ≡ true → is-blank b ≡ false
+unfolding is-blank
+digit-no-blank b d = let h = digit-low b d in rw (ne-eqb b 32 (λ q. omega (arith, h, q)), lt-leb b 13 (omega (arith, h))) (and-false (leb 9 b))
+
+pub digit-alone : (s : List ℕ) (e : ℕ) → is-digit (byte-of s e) ≡ true → (byte-of s (e + 1) ≡ 0 → ⊥) → is-digit (byte-of s (e + 1)) ≡ false → (v : ℕ) → v ≡ byte-of s e - 48 → Lone-digit s e v
+digit-alone s e d n p v q h =
+    let (in1, in2, b) = digit-inside s e d in
+    let (in3, in4, c) = byte-inside s (e + 1) (byte-of s (e + 1)) refl n in
+    let x = getD s e 0 in
+    let d′ : is-digit x ≡ true = ap is-digit b ∙ d in (
+      lexed-by s longest-claim between e _ (begin-digit x (digit-no-blank x d′) d′) in1 in2
+          ∙ (lexed-before s longest-claim (in-number (x - 48)) (e + 1) _ (digit-stops (x - 48) _ (ap is-digit c ∙ p)) in3 in4
+          ∙ ap (λ (y : ℕ). number y ∷ claim-tokens s (e + 1)) (ap (λ (y : ℕ). y - 48) b ∙ sym q)),
+      record { more = omega arith; inside = omega (arith, in1) },
+    )

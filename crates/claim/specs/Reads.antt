@@ -58,6 +58,20 @@ pub record Name-end (s : List ℕ) (limit at e : ℕ) : Type 0 where
   pub inside : e ≤ length s
   pub stops : e < length s → e < limit → is-name-byte (getD s e 0) ≡ false
 
+-- a place goes ahead to another, and stays in the text
+pub record Ahead (s : List ℕ) (at next : ℕ) : Type 0 where
+  pub more : at < next
+  pub inside : next ≤ length s
+
+-- or stays
+pub record Onward (s : List ℕ) (at next : ℕ) : Type 0 where
+  pub more : at ≤ next
+  pub inside : at ≤ length s → next ≤ length s
+
+-- a number of one digit stands at a place, told by the byte after it; 10 says nothing
+abbrev pub Lone-digit : (text : List ℕ) → (at value : ℕ) → Type 0
+Lone-digit s at v = v < 10 → (claim-tokens s at ≡ T.number v ∷ claim-tokens s (at + 1)) × Ahead s at (at + 1)
+
 -- a token of the code and what follows it
 abbrev pub spelt : (text : List ℕ) → Token → (rest : List T.Token) → List T.Token
 spelt s (Name a e) ts = T.name (part s a e) ∷ ts
@@ -85,16 +99,6 @@ reads-on Alias = false
 reads-on Comment = false
 reads-on Stray = false
 reads-on Done = false
-
--- a place goes ahead to another, and stays in the text
-pub record Ahead (s : List ℕ) (at next : ℕ) : Type 0 where
-  pub more : at < next
-  pub inside : next ≤ length s
-
--- or stays
-pub record Onward (s : List ℕ) (at next : ℕ) : Type 0 where
-  pub more : at ≤ next
-  pub inside : at ≤ length s → next ≤ length s
 
 -- where a string's bytes stand: past its first quote, in the part of the text that is looked at
 pub record Quoted (s : List ℕ) (limit from to : ℕ) : Type 0 where

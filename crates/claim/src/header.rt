@@ -13,6 +13,7 @@ use crate::tokens::Token;
 use crate::tokens::claim_token;
 use crate::tokens::fault;
 use crate::tokens::is_symbol;
+use crate::tokens::lone_digit;
 use crate::tokens::word;
 
 // A number and the place past it; or the refusal.
@@ -25,11 +26,15 @@ pub enum Found {
 pub(crate) fn number_at(text: &[u8], at: usize) -> Found
     ensures { λ r. ⌜ Number-says (now (text .entry)) at r ⌝ }
 {
+    let v = lone_digit(text, at);
+    if v < 10 {
+        return Found::Is(v, at + 1);
+    }
     let seen = claim_token(text, at);
     let t = seen.token;
     let next = seen.next;
     match t {
-        Token::Number(v) => Found::Is(v, next),
+        Token::Number(w) => Found::Is(w, next),
         _ => Found::Fault(fault(t)),
     }
 }

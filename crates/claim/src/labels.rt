@@ -11,6 +11,7 @@ use crate::tokens::Token;
 use crate::tokens::byte_at;
 use crate::tokens::claim_token;
 use crate::tokens::fault;
+use crate::tokens::lone_digit;
 use crate::tokens::past_blanks;
 use crate::tokens::word;
 
@@ -177,6 +178,10 @@ fn leaf(text: &[u8], at: usize, count: u32) -> Truth
     requires { ⌜ starts open-byte (claim-tokens (now text) at) ≡ false ⌝ }
     ensures { λ r. ⌜ ((deep : ℕ) → Atom-read (now (text .entry)) count deep at r) ⌝ }
 {
+    let v = lone_digit(text, at);
+    if v < 10 {
+        return proposition(v, count, past_blanks(text, at + 1));
+    }
     let seen = claim_token(text, at);
     let t = seen.token;
     let past = past_blanks(text, seen.next);

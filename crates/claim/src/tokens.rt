@@ -8,7 +8,7 @@ ghost use lib.ListN.{length, getD};
 ghost use Rattle.text.specs.Lines.{equal, begins};
 ghost use Rattle.text.specs.Numbers.{is-digit};
 ghost use Rattle.model.specs.ClaimTokens.{longest-claim, is-blank, is-letter, is-name-byte, is-symbol, at-sign, slash, in-name, in-number, in-string, in-mark};
-ghost use Rattle.claim.specs.Reads.{part, lexed, tokens-at, claim-tokens, byte-of, Blanks-end, Name-end, Sees, is-symbol-of, fault-of};
+ghost use Rattle.claim.specs.Reads.{part, lexed, tokens-at, claim-tokens, byte-of, Lone-digit, Blanks-end, Name-end, Sees, is-symbol-of, fault-of};
 use crate::Counts;
 
 // A token: names, headers and strings by where their bytes begin and end. Done is the text's end.
@@ -381,6 +381,21 @@ pub(crate) fn byte_at(text: &[u8], at: usize) -> u8
     } else {
         0
     }
+}
+
+// The number at `at` of a claim, where it has one digit and a byte follows it; else 10, which says nothing.
+pub(crate) fn lone_digit(text: &[u8], at: usize) -> u32
+    ensures { λ r. ⌜ Lone-digit (now (text .entry)) at r ⌝ }
+{
+    let b = byte_at(text, at);
+    if !digit(b) {
+        return 10;
+    }
+    let next = byte_at(text, at + 1);
+    if (next == 0) | digit(next) {
+        return 10;
+    }
+    (b - b'0') as u32
 }
 
 // Whether a token is this symbol.

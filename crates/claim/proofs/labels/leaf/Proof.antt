@@ -1,21 +1,31 @@
 -- `labels::leaf` meets its contract. Assumes nothing.
+use native.Mathlib.Omega.{arith}
 use Rattle.claim.proofs.LabelCode.{leaf-name, leaf-number, leaf-refused}
+use Rattle.claim.proofs.HeaderCode.{number-is}
 use borrow.Author.Needs.{needs}
 use Rattle.claim.proofs.labels.leaf.Statement.{statement}
 use Rattle.claim.proofs.labels.leaf.Tie as tie
-use Rattle.claim.proofs.labels.leaf.Reads as reads
-use Rattle.claim.proofs.labels.leaf.Lts as lts
-use Rattle.claim.proofs.labels.constant.Reads as constant-reads
-use Rattle.claim.proofs.labels.no_atom.Reads as no-atom-reads
-use Rattle.claim.proofs.labels.proposition.Reads as proposition-reads
-use Rattle.claim.proofs.tokens.claim_token.Reads as claim-token-reads
-use Rattle.claim.proofs.tokens.past_blanks.Reads as past-blanks-reads
+
+lone-digit-requires : tie.Need-lone-digit-requires
+lone-digit-requires c κs = search needs
+
+add-past-blanks : tie.Need-add-past-blanks
+add-past-blanks c = let h = c .before .lone-digit .ensures (c .if1 .taken) .1 in omega (arith, h .inside)
+
+past-blanks-requires : tie.Need-past-blanks-requires
+past-blanks-requires c κs = search needs
+
+proposition-requires : tie.Need-proposition-requires
+proposition-requires c κs = search needs
+
+returns : tie.Need-returns
+returns c = λ d. leaf-number _ (c .before .before .before .before .before .args .count) d _ _ _ _ (c .before .before .before .lone-digit .ensures (c .before .before .if1 .taken)) (c .before .past-blanks .ensures) (c .proposition .result) (c .proposition .ensures)
 
 claim-token-requires : tie.Need-claim-token-requires
 claim-token-requires c κs = search needs
 
-past-blanks-requires : tie.Need-past-blanks-requires
-past-blanks-requires c κs = search needs
+past-blanks-requires-2 : tie.Need-past-blanks-requires-2
+past-blanks-requires-2 c κs = search needs
 
 enum-known-t : tie.Need-enum-known-t
 enum-known-t c = search needs
@@ -26,32 +36,37 @@ constant-requires c κs = search needs
 enum-known-t-2 : tie.Need-enum-known-t-2
 enum-known-t-2 c = search needs
 
-proposition-requires : tie.Need-proposition-requires
-proposition-requires c κs = search needs
+proposition-requires-2 : tie.Need-proposition-requires-2
+proposition-requires-2 c κs = search needs
 
 no-atom-requires : tie.Need-no-atom-requires
 no-atom-requires c κs = search needs
 
-returns : tie.Need-returns
-returns c = λ d. leaf-name (c .before .before .before .before .before .claim-token .ensures) (c .before .before .before .before .past-blanks .ensures) _ d _ _ (c .before .before .t .given .1) _ (c .constant .ensures)
-
 returns-2 : tie.Need-returns-2
-returns-2 c = λ d. leaf-number (c .before .before .before .before .before .claim-token .ensures) (c .before .before .before .before .past-blanks .ensures) (c .before .before .before .before .before .before .before .args .count) d _ (c .before .before .t2 .given .1) (c .proposition .result) (c .proposition .ensures)
+returns-2 c = λ d. leaf-name (c .before .before .before .before .before .claim-token .ensures) (c .before .before .before .before .past-blanks2 .ensures) _ d _ _ (c .before .before .t .given .1) _ (c .constant .ensures)
 
 returns-3 : tie.Need-returns-3
-returns-3 c = λ d. leaf-refused (c .before .before .before .claim-token .ensures) (c .before .before .past-blanks .ensures) _ d (c .before .match .keys3) (c .before .before .before .before .before .pre .1 .0) (c .before .before .before .before .before .pre .1 .1) _ (c .no-atom .ensures)
+returns-3 c = λ d. leaf-number _ (c .before .before .before .before .before .before .before .before .before .args .count) d _ _ _ _ (number-is (c .before .before .before .before .before .claim-token .ensures) _ (c .before .before .t2 .given .1)) (c .before .before .before .before .past-blanks2 .ensures) (c .proposition2 .result) (c .proposition2 .ensures)
+
+returns-4 : tie.Need-returns-4
+returns-4 c = λ d. leaf-refused (c .before .before .before .claim-token .ensures) (c .before .before .past-blanks2 .ensures) _ d (c .before .match .keys3) (c .before .before .before .before .before .before .before .pre .1 .0) (c .before .before .before .before .before .before .before .pre .1 .1) _ (c .no-atom .ensures)
 
 pub leaf-spec : {M : Type 1} → statement M
 leaf-spec =
     tie.close
     (tie.spec
-    claim-token-requires
+    lone-digit-requires
+    add-past-blanks
     past-blanks-requires
+    proposition-requires
+    returns
+    claim-token-requires
+    past-blanks-requires-2
     enum-known-t
     constant-requires
     enum-known-t-2
-    proposition-requires
+    proposition-requires-2
     no-atom-requires
-    returns
     returns-2
-    returns-3)
+    returns-3
+    returns-4)
