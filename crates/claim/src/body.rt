@@ -165,6 +165,7 @@ fn add_moves(cells: &mut [u32], c: usize, d: u32, w: Values)
 // Sets of flag values by target, four words each.
 const SETS: usize = 60;
 
+// The set of target d.
 fn set_of(sets: &[u64], d: usize) -> Values
     requires { ⌜ d < most-states ⌝ }
     requires { ⌜ set-words ≤ length (now sets) ⌝ }
@@ -178,6 +179,7 @@ fn set_of(sets: &[u64], d: usize) -> Values
     }
 }
 
+// The values of w are in the set of target d too.
 fn add_values(sets: &mut [u64], d: usize, w: Values)
     requires { ⌜ d < most-states ⌝ }
     requires { ⌜ set-words ≤ length (now sets) ⌝ }
