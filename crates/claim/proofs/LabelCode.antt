@@ -16,7 +16,7 @@ use Rattle.text.specs.Lines.{equal}
 use Rattle.model.specs.ClaimLabels.{not-byte, and-byte, or-byte, open-byte, close-byte, end-label-byte, or-level, and-level, atom, Label, always, never, proposition, term, either, deepest, Under, Reading, due, stands, Label-next, on, broken, depth-of, with-atom, deeper, on-name, atom-step, close-step, operator-step, label-step, label-told, label-is, no-label, label-start, whole-or}
 use Rattle.model.specs.ClaimTable.{is-sign}
 use Rattle.claim.specs.LabelSays.{Truth-of, everything, nothing, intersection-of, union-of, Read, Got, No, Atom-says, And-says, Or-says}
-use Rattle.claim.specs.Reads.{part, claim-tokens, byte-of, Past-blanks, Sign, Blanks-end, spelt, reads-on, Sees, Ahead, starts, first-fault, Atom-read, And-read, Or-read, negated-of, Closed, Label-says, constant-of, Proposition-read, no-atom-of}
+use Rattle.claim.specs.Reads.{part, claim-tokens, byte-of, Past-blanks, Sign, Lone-letter, Blanks-end, spelt, reads-on, Sees, Ahead, starts, first-fault, Atom-read, And-read, Or-read, negated-of, Closed, Label-says, constant-of, Proposition-read, no-atom-of}
 use Rattle.claim.specs.declared.tokens.Token.{Token}
 use Rattle.claim.specs.declared.tokens.Token.the-variants.{Name, Header, Number, Text, Symbol, Body, End, Alias, Comment, Stray, Done}
 use Rattle.claim.specs.declared.tokens.Seen.{Seen}
@@ -131,6 +131,15 @@ leaf-number s k d at i next past (e, h) b (Is w m) (y, t, z) =
     rw z (subst (λ (ts : List T.Token). Atom-says k d ts (Got w (claim-tokens s past))) (sym (e ∙ ap (λ (ts : List T.Token). T.number i ∷ ts) (b .same))) (leaf k d (proposition i) _ _ w (λ us u. number-step k i us u ∙ rw y refl) t), ahead-onward h (over-blanks b), b .stops)
 leaf-number s k d at i next past (e, h) b (Fault j) (y, z) =
     rw z (subst (λ (ts : List T.Token). Atom-says k d ts (No 15)) (sym e) (no-leaf k d _ _ 15 (λ us u q. number-step k i us u ∙ rw y refl)))
+
+-- the letter t
+pub named-t : {s : List ℕ} {at b : ℕ} → Lone-letter s at b → b ≡ 116 → (claim-tokens s at ≡ T.name (116 ∷ []) ∷ claim-tokens s (at + 1)) × Ahead s at (at + 1)
+named-t {s} {at} n q = subst (λ (x : ℕ). (claim-tokens s at ≡ T.name (x ∷ []) ∷ claim-tokens s (at + 1)) × Ahead s at (at + 1)) q (n (λ z. omega (arith, q, z)))
+
+pub leaf-true : (s : List ℕ) (k d at next past : ℕ) → (claim-tokens s at ≡ T.name (116 ∷ []) ∷ claim-tokens s next) × Ahead s at next → Blanks-end s T.longest-claim next past → (w : Values) → w ≡ everything → Atom-read s k d at (Is w past)
+unfolding equal
+leaf-true s k d at next past (e, h) b w z =
+    rw z (subst (λ (ts : List T.Token). Atom-says k d ts (Got everything (claim-tokens s past))) (sym (e ∙ ap (λ (ts : List T.Token). T.name (116 ∷ []) ∷ ts) (b .same))) (leaf k d always _ _ everything (λ us u. name-step k (116 ∷ []) us u) always-everything), ahead-onward h (over-blanks b), b .stops)
 
 -- what the code reads at another
 module _ {s : List ℕ} {at : ℕ} {r : Seen} (n : Sees s T.longest-claim at (claim-tokens s at) r) {past : ℕ} (b : Blanks-end s T.longest-claim (r .next) past) (k d : ℕ) where

@@ -134,7 +134,7 @@ module _ (w : List ℕ) (b : ℕ) where
   unfolding byte
   name-colon e f = rw (e, eq-eqb b 58 f) refl
 
-  name-stops : is-name-byte b ≡ false → (b ≡ 58 → ⊥) → byte (in-name w) b ≡ after (name w) (begin b)
+  pub name-stops : is-name-byte b ≡ false → (b ≡ 58 → ⊥) → byte (in-name w) b ≡ after (name w) (begin b)
   unfolding byte
   name-stops e f = rw (e, ne-eqb b 58 f) refl
 
@@ -494,7 +494,7 @@ unfolding is-letter is-capital is-small
 digit-no-letter b e = let h = digit-high b e in rw (lt-leb 65 b (omega (arith, h)), lt-leb 97 b (omega (arith, h)), ne-eqb b 95 (λ q. omega (arith, h, q))) refl
 
 module _ (b : ℕ) (blank : is-blank b ≡ false) where
-  begin-letter : is-letter b ≡ true → byte between b ≡ goes-on (in-name (b ∷ []))
+  pub begin-letter : is-letter b ≡ true → byte between b ≡ goes-on (in-name (b ∷ []))
   unfolding byte begin
   begin-letter e = rw (blank, e) refl
 

@@ -3,7 +3,7 @@
 use mathlib.Core.Path.{_≡_, refl, sym, ap, subst, _∙_}
 use mathlib.Core.Bool.{Bool, true, false, _||_, cond, and-false}
 use mathlib.Core.List.{List, [], _∷_, _++_}
-use Prim.Native.Nat.{ℕ, zero, suc, _+_, _*_, _-_, _<_, min}
+use Prim.Native.Nat.{ℕ, zero, suc, _+_, _*_, _-_, _<_, _≤_, min}
 use native.Mathlib.Omega.{arith}
 use lib.Dec.{ltb, leb, eqb}
 use lib.ListN.{length, getD, drop}
@@ -12,13 +12,13 @@ use Rattle.text.specs.Numbers.{is-digit}
 use Rattle.text.specs.Ascii.{ascii, minus, digit-0}
 use Rattle.text.proofs.Tests.{clash, Same, same, other, same?}
 use Rattle.text.specs.Lines.{equal, begins}
-use Rattle.model.specs.ClaimTokens.{name, header, number, string, symbol, body-mark, end-mark, alias, comment, stray, goes-on, ends, breaks, after, quote, star, slash-byte, colon, at-byte, backslash, Mode, between, lost, at-sign, slash, in-name, in-number, in-string, escaped, in-mark, Lexed, is-blank, is-letter, is-capital, is-small, is-name-byte, is-symbol, begin, digit-more, mark-more, byte, at-end, lex, longest-claim, number-end}
+use Rattle.model.specs.ClaimTokens.{Token, name, header, number, string, symbol, body-mark, end-mark, alias, comment, stray, goes-on, ends, breaks, after, quote, star, slash-byte, colon, at-byte, backslash, Mode, between, lost, at-sign, slash, in-name, in-number, in-string, escaped, in-mark, Lexed, is-blank, is-letter, is-capital, is-small, is-name-byte, is-symbol, begin, digit-more, mark-more, byte, at-end, lex, longest-claim, number-end}
 use Rattle.model.specs.Run.{member}
 use Rattle.model.specs.ClaimLabels.{not-byte, and-byte, or-byte, open-byte, close-byte, label-byte, end-label-byte, mark-byte}
 use Rattle.model.specs.ClaimTable.{is-sign}
-use Rattle.claim.proofs.Lexing.{lexed-by, lexed-before, lexed-cut, tokens-end, digit-low, begin-digit, digit-stops}
+use Rattle.claim.proofs.Lexing.{lexed-by, lexed-before, lexed-cut, tokens-end, digit-low, begin-digit, digit-stops, begin-letter, name-stops}
 use lib.Seq.{drop-cons}
-use Rattle.claim.specs.Reads.{claim-tokens, byte-of, Past-blanks, Sign, Lone-digit, Ahead, starts}
+use Rattle.claim.specs.Reads.{claim-tokens, byte-of, Past-blanks, Sign, Lone-digit, Lone-letter, Ahead, starts}
 
 -- inside a token other than a sign
 abbrev inside : Mode → Bool
@@ -195,7 +195,7 @@ or-sign = refl
 
 module _ (s : List ℕ) (e : ℕ) where
   -- where the byte is not 0, it is looked at
-  byte-inside : (b : ℕ) → byte-of s e ≡ b → (b ≡ 0 → ⊥) → (e < length s) × (e < longest-claim) × (getD s e 0 ≡ b)
+  pub byte-inside : (b : ℕ) → byte-of s e ≡ b → (b ≡ 0 → ⊥) → (e < length s) × (e < longest-claim) × (getD s e 0 ≡ b)
   unfolding byte-of
   byte-inside b q n = go (ltb e (min longest-claim (length s))) refl q
     where
@@ -205,9 +205,6 @@ module _ (s : List ℕ) (e : ℕ) where
 
   pub sign-inside : (b : ℕ) → Sign b → byte-of s e ≡ b → (e < length s) × (e < longest-claim) × (getD s e 0 ≡ b)
   sign-inside b y q = byte-inside b q (λ z. omega (arith, z, sign-some b y))
-
-  pub digit-inside : is-digit (byte-of s e) ≡ true → (e < length s) × (e < longest-claim) × (getD s e 0 ≡ byte-of s e)
-  digit-inside d = byte-inside (byte-of s e) refl (λ z. omega (arith, z, digit-low (byte-of s e) d))
 
   -- the tokens begin with the sign whose byte stands there
   pub sign-is : (b : ℕ) → Sign b → byte-of s e ≡ b → claim-tokens s e ≡ symbol b ∷ claim-tokens s (e + 1)
@@ -232,19 +229,44 @@ module _ (s : List ℕ) (e : ℕ) where
           let here : byte-of s e ≡ getD s e 0 = ap (λ (z : Bool). cond z (getD s e 0) 0) (lt-ltb e (min longest-claim (length s)) (omega (arith, h, g))) in
           ap (λ (ts : List ℕ). starts b (lex (longest-claim - e) between ts)) (drop-cons s e 0 h) ∙ no-sign-from b (longest-claim - e) (getD s e 0) (drop (suc e) s) (p h g) (λ q. n (here ∙ q))
 
--- A NUMBER of one digit, told by the byte after it
+-- ONE BYTE that is a token, told by the byte after it
+module _ (s : List ℕ) (e : ℕ) (some : byte-of s e ≡ 0 → ⊥) (more : byte-of s (e + 1) ≡ 0 → ⊥) where
+  pub alone : (m : Mode) (t : Token) → byte between (byte-of s e) ≡ goes-on m → byte m (byte-of s (e + 1)) ≡ after t (begin (byte-of s (e + 1))) → (claim-tokens s e ≡ t ∷ claim-tokens s (e + 1)) × Ahead s e (e + 1)
+  alone m t p q =
+      let (in1, in2, b) = byte-inside s e (byte-of s e) refl some in
+      let (in3, in4, c) = byte-inside s (e + 1) (byte-of s (e + 1)) refl more in (
+        lexed-by s longest-claim between e _ (ap (byte between) b ∙ p) in1 in2 ∙ lexed-before s longest-claim m (e + 1) t (subst (λ (x : ℕ). byte m x ≡ after t (begin x)) (sym c) q) in3 in4,
+        record { more = omega arith; inside = omega (arith, in1) },
+      )
+
+-- a digit
 digit-no-blank : (b : ℕ) → is-digit b ≡ true → is-blank b ≡ false
 unfolding is-blank
 digit-no-blank b d = let h = digit-low b d in rw (ne-eqb b 32 (λ q. omega (arith, h, q)), lt-leb b 13 (omega (arith, h))) (and-false (leb 9 b))
 
+pub digit-some : (b : ℕ) → is-digit b ≡ true → b ≡ 0 → ⊥
+digit-some b d q = omega (arith, q, digit-low b d)
+
 pub digit-alone : (s : List ℕ) (e : ℕ) → is-digit (byte-of s e) ≡ true → (byte-of s (e + 1) ≡ 0 → ⊥) → is-digit (byte-of s (e + 1)) ≡ false → (v : ℕ) → v ≡ byte-of s e - 48 → Lone-digit s e v
 digit-alone s e d n p v q h =
-    let (in1, in2, b) = digit-inside s e d in
-    let (in3, in4, c) = byte-inside s (e + 1) (byte-of s (e + 1)) refl n in
-    let x = getD s e 0 in
-    let d′ : is-digit x ≡ true = ap is-digit b ∙ d in (
-      lexed-by s longest-claim between e _ (begin-digit x (digit-no-blank x d′) d′) in1 in2
-          ∙ (lexed-before s longest-claim (in-number (x - 48)) (e + 1) _ (digit-stops (x - 48) _ (ap is-digit c ∙ p)) in3 in4
-          ∙ ap (λ (y : ℕ). number y ∷ claim-tokens s (e + 1)) (ap (λ (y : ℕ). y - 48) b ∙ sym q)),
-      record { more = omega arith; inside = omega (arith, in1) },
-    )
+    subst (λ (x : ℕ). (claim-tokens s e ≡ number x ∷ claim-tokens s (e + 1)) × Ahead s e (e + 1)) (sym q) (alone s e (digit-some _ d) n _ _ (begin-digit _ (digit-no-blank _ d) d) (digit-stops _ _ p))
+
+-- a letter
+letter-high : (b : ℕ) → is-letter b ≡ true → 65 ≤ b
+unfolding is-letter is-capital is-small
+letter-high b l = go (ltb b 65) refl
+  where
+    go : (x : Bool) → ltb b 65 ≡ x → 65 ≤ b
+    go false x = ltb-false b 65 x
+    go true x = let h = ltb-true b 65 x in clash false (rw (lt-leb 65 b h, lt-leb 97 b (omega (arith, h)), ne-eqb b 95 (λ q. omega (arith, h, q))) at l) refl
+
+letter-no-blank : (b : ℕ) → is-letter b ≡ true → is-blank b ≡ false
+unfolding is-blank
+letter-no-blank b l = let h = letter-high b l in rw (ne-eqb b 32 (λ q. omega (arith, h, q)), lt-leb b 13 (omega (arith, h))) (and-false (leb 9 b))
+
+pub letter-some : (b : ℕ) → is-letter b ≡ true → b ≡ 0 → ⊥
+letter-some b l q = omega (arith, q, letter-high b l)
+
+pub letter-alone : (s : List ℕ) (e : ℕ) → is-letter (byte-of s e) ≡ true → (byte-of s (e + 1) ≡ 0 → ⊥) → (byte-of s (e + 1) ≡ colon → ⊥) → is-name-byte (byte-of s (e + 1)) ≡ false → (b : ℕ) → b ≡ byte-of s e → Lone-letter s e b
+letter-alone s e l n c p b q h =
+    subst (λ (x : ℕ). (claim-tokens s e ≡ name (x ∷ []) ∷ claim-tokens s (e + 1)) × Ahead s e (e + 1)) (sym q) (alone s e (letter-some _ l) n _ _ (begin-letter _ (letter-no-blank _ l) l) (name-stops _ _ p c))

@@ -72,6 +72,10 @@ pub record Onward (s : List ℕ) (at next : ℕ) : Type 0 where
 abbrev pub Lone-digit : (text : List ℕ) → (at value : ℕ) → Type 0
 Lone-digit s at v = v < 10 → (claim-tokens s at ≡ T.number v ∷ claim-tokens s (at + 1)) × Ahead s at (at + 1)
 
+-- a name of one letter; 0 says nothing
+abbrev pub Lone-letter : (text : List ℕ) → (at byte : ℕ) → Type 0
+Lone-letter s at b = (b ≡ 0 → ⊥) → (claim-tokens s at ≡ T.name (b ∷ []) ∷ claim-tokens s (at + 1)) × Ahead s at (at + 1)
+
 -- a token of the code and what follows it
 abbrev pub spelt : (text : List ℕ) → Token → (rest : List T.Token) → List T.Token
 spelt s (Name a e) ts = T.name (part s a e) ∷ ts

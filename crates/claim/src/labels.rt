@@ -12,6 +12,7 @@ use crate::tokens::byte_at;
 use crate::tokens::claim_token;
 use crate::tokens::fault;
 use crate::tokens::lone_digit;
+use crate::tokens::lone_letter;
 use crate::tokens::past_blanks;
 use crate::tokens::word;
 
@@ -181,6 +182,9 @@ fn leaf(text: &[u8], at: usize, count: u32) -> Truth
     let v = lone_digit(text, at);
     if v < 10 {
         return proposition(v, count, past_blanks(text, at + 1));
+    }
+    if lone_letter(text, at) == b't' {
+        return Truth::Is(repeated(ALL), past_blanks(text, at + 1));
     }
     let seen = claim_token(text, at);
     let t = seen.token;

@@ -1,12 +1,12 @@
 -- `tokens::lone_digit` meets its contract. Assumes nothing.
-use mathlib.Core.Path.{sym, ap, _∙_}
+use mathlib.Core.Path.{refl, sym, ap, _∙_}
 use Prim.Native.Nat.{ℕ, _-_}
 use native.Mathlib.Omega.{arith}
 use borrow.Author.Tests.{not-false, eqb-false}
 use Rattle.text.specs.Numbers.{is-digit}
 use Rattle.text.proofs.Tests.{or-false}
 use Rattle.claim.proofs.Lexing.{digit-low}
-use Rattle.claim.proofs.Signs.{digit-inside, digit-alone}
+use Rattle.claim.proofs.Signs.{byte-inside, digit-some, digit-alone}
 use borrow.Author.Needs.{needs}
 use Rattle.claim.proofs.tokens.lone_digit.Statement.{statement}
 use Rattle.claim.proofs.tokens.lone_digit.Tie as tie
@@ -21,7 +21,7 @@ returns : tie.Need-returns
 returns c = λ h. absurd (omega (arith, h))
 
 add-byte-at : tie.Need-add-byte-at
-add-byte-at c = omega (arith, digit-inside _ _ (ap is-digit (sym (c .before .before .byte-at .ensures)) ∙ (sym (c .before .digit .ensures) ∙ not-false _ (c .if1 .left))) .0)
+add-byte-at c = omega (arith, byte-inside _ _ _ refl (digit-some _ (ap is-digit (sym (c .before .before .byte-at .ensures)) ∙ (sym (c .before .digit .ensures) ∙ not-false _ (c .if1 .left)))) .0)
 
 byte-at-requires-2 : tie.Need-byte-at-requires-2
 byte-at-requires-2 c κs = search needs
