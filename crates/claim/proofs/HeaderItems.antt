@@ -1,6 +1,6 @@
 -- How the readers of propositions and of skipped headers in src/header.rt meet their contracts. Assumes nothing.
 use Rattle.model.specs.Run.{is-some}
-use mathlib.Core.Path.{_≡_, refl, sym, ap, subst, _∙_}
+use mathlib.Core.Path.{_≡_, refl, sym, ap, _∙_}
 use mathlib.Core.Bool.{Bool, true, false, _||_, cond, or-false}
 use mathlib.Core.List.{List, [], _∷_}
 use mathlib.Core.Option.{Option, none, some, Option·getD}
@@ -13,11 +13,11 @@ use lib.ListN.{length, length-append}
 use borrow.Author.Tests.{le-leb, lt-leb}
 use Rattle.text.proofs.Tests.{clash}
 use Rattle.model.specs.ClaimTokens as T
-use Rattle.model.specs.ClaimGrammar.{Item, propositions, skipped, state-count, start-state, proposition-names, propositions-in, has-acceptance, most-propositions, is-plain}
-use Rattle.model.specs.ClaimTable.{otherwise, on-string, whole, Place, in-items, in-skipped, wants-propositions, wants-names, named, go, fault, snoc, step, ended, told, refused}
+use Rattle.model.specs.ClaimGrammar.{Item, propositions, state-count, start-state, proposition-names, propositions-in, has-acceptance, most-propositions}
+use Rattle.model.specs.ClaimTable.{otherwise, on-string, whole, Place, in-items, wants-propositions, wants-names, named, go, fault, snoc, step, ended, told, refused}
 use Rattle.model.proofs.ClaimItems.{first-given, given-none, count-append, start-append, names-append, acceptance-append}
-use Rattle.claim.specs.Reads.{part, claim-tokens, spelt, reads-on, fault-of, Sees, Ahead}
-use Rattle.claim.specs.HeaderSays.{Wants-number, Number-says, String-says, Gives, Item-says, Item-on, Skips, plain-of}
+use Rattle.claim.specs.Reads.{claim-tokens, spelt, fault-of, Sees}
+use Rattle.claim.specs.HeaderSays.{Wants-number, Number-says, String-says, Gives, Item-says, Item-on}
 use Rattle.claim.specs.Reads.{Onward}
 use Rattle.claim.specs.declared.tokens.Token.{Token}
 use Rattle.claim.specs.declared.tokens.Token.the-variants.{Name, Header, Number, Text, Symbol, Body, End, Alias, Comment, Stray, Done}
@@ -171,120 +171,3 @@ propositions-none s at g l j q a is h = go′ (rw q at a)
   where
     go′ : Number-says s at (Not j) → told (go (wants-propositions is)) (claim-tokens s at) ≡ refused j
     go′ b = b (wants-propositions is) _ (propositions-wants is)
-
--- SKIPPED HEADERS: so many plain tokens
-pub record Plain-so-far (s : List ℕ) (at here : ℕ) : Type 0 where
-  pub plain : List T.Token
-  pub same : (is : List Item) (h : List ℕ) → told (go (in-skipped is h [])) (claim-tokens s at) ≡ told (go (in-skipped is h plain)) (claim-tokens s here)
-  pub past : Onward s at here
-
-pub plain-begun : (s : List ℕ) (at : ℕ) → Plain-so-far s at at
-plain-begun s at = record { plain = []; same = λ is h. refl; past = stays }
-
--- the first token of what a token of the code spells
-abbrev plain-token : (text : List ℕ) → Token → T.Token
-plain-token s (Name a e) = T.name (part s a e)
-plain-token s (Number v) = T.number v
-plain-token s (Text a e) = T.string (part s a e)
-plain-token s (Header a e) = T.stray
-plain-token s (Symbol b) = T.stray
-plain-token s Body = T.stray
-plain-token s End = T.stray
-plain-token s Alias = T.stray
-plain-token s Comment = T.stray
-plain-token s Stray = T.stray
-plain-token s Done = T.stray
-
-module _ (is : List Item) (h : List ℕ) (ts : List T.Token) where
-  plain-step : (s : List ℕ) (r : List T.Token) (t : Token) → plain-of t ≡ true → told (go (in-skipped is h ts)) (spelt s t r) ≡ told (go (in-skipped is h (snoc ts (plain-token s t)))) r
-  unfolding step is-plain
-  plain-step s r (Name a e) q = stepped (in-skipped is h ts) _ r (go (in-skipped is h (snoc ts (plain-token s (Name a e))))) refl
-  plain-step s r (Number v) q = stepped (in-skipped is h ts) _ r (go (in-skipped is h (snoc ts (T.number v)))) refl
-  plain-step s r (Text a e) q = stepped (in-skipped is h ts) _ r (go (in-skipped is h (snoc ts (plain-token s (Text a e))))) refl
-  plain-step s r (Header a e) q = clash false q refl
-  plain-step s r (Symbol b) q = clash false q refl
-  plain-step s r Body q = clash false q refl
-  plain-step s r End q = clash false q refl
-  plain-step s r Alias q = clash false q refl
-  plain-step s r Comment q = clash false q refl
-  plain-step s r Stray q = clash false q refl
-  plain-step s r Done q = clash false q refl
-
-  -- another is read as after a whole item
-  plain-not : (s : List ℕ) (r : List T.Token) (t : Token) → plain-of t ≡ false → told (go (in-skipped is h ts)) (spelt s t r) ≡ told (go (in-items whole (snoc is (skipped h ts)))) (spelt s t r)
-  unfolding told step is-plain ended
-  plain-not s r (Name a e) q = clash true refl q
-  plain-not s r (Number v) q = clash true refl q
-  plain-not s r (Text a e) q = clash true refl q
-  plain-not s r (Header a e) q = refl
-  plain-not s r (Symbol b) q = refl
-  plain-not s r Body q = refl
-  plain-not s r End q = refl
-  plain-not s r Alias q = refl
-  plain-not s r Comment q = refl
-  plain-not s r Stray q = refl
-  plain-not s r Done q = refl
-
-plain-reads : (t : Token) → plain-of t ≡ true → reads-on t ≡ true
-plain-reads (Name a e) q = refl
-plain-reads (Number v) q = refl
-plain-reads (Text a e) q = refl
-plain-reads (Header a e) q = clash false q refl
-plain-reads (Symbol b) q = clash false q refl
-plain-reads Body q = clash false q refl
-plain-reads End q = clash false q refl
-plain-reads Alias q = clash false q refl
-plain-reads Comment q = clash false q refl
-plain-reads Stray q = clash false q refl
-plain-reads Done q = clash false q refl
-
-module _ {s : List ℕ} {at here : ℕ} (a : Plain-so-far s at here) {r : Seen} (n : Sees s T.longest-claim here (claim-tokens s here) r) where
-  pub plain-ahead : plain-of (r .token) ≡ true → Ahead s here (r .next)
-  plain-ahead e = goes-past n (r .token) refl (plain-reads (r .token) e)
-
-  pub plain-again : plain-of (r .token) ≡ true → Plain-so-far s at (r .next)
-  plain-again e =
-      record {
-        plain = snoc (a .plain) (plain-token s (r .token));
-        same = λ is h. a .same is h ∙ (ap (λ (ts : List T.Token). told (go (in-skipped is h (a .plain))) ts) (reads-as n (r .token) refl (plain-reads (r .token) e)) ∙ plain-step is h (a .plain) s _ (r .token) e);
-        past = onward (a .past) (onto (plain-ahead e));
-      }
-
-  pub plain-ended : plain-of (r .token) ≡ false → Skips s at here
-  plain-ended e = record { plain = a .plain; same = λ is h. a .same is h ∙ (at-items is h (claim-tokens s here) (n .reads)); onward = a .past }
-    where
-      at-items : (is : List Item) (h : List ℕ) (ts : List T.Token) → ts ≡ spelt s (r .token) (n .rest) → told (go (in-skipped is h (a .plain))) ts ≡ told (go (in-items whole (snoc is (skipped h (a .plain))))) ts
-      at-items is h ts q = subst (λ (us : List T.Token). told (go (in-skipped is h (a .plain))) us ≡ told (go (in-items whole (snoc is (skipped h (a .plain))))) us) (sym q) (plain-not is h (a .plain) s (n .rest) (r .token) e)
-
--- what the code tells apart
-abbrev plain-keys : List ℕ
-plain-keys = 0 ∷ 2 ∷ 3 ∷ []
-
-pub plain-named : (t : Token) → OneOf plain-keys (tagOf the-type t) → true ≡ plain-of t
-plain-named (Name a e) h = refl
-plain-named (Number v) h = refl
-plain-named (Text a e) h = refl
-plain-named (Header a e) h = absurd (miss plain-keys 1 tt h)
-plain-named (Symbol b) h = absurd (miss plain-keys 4 tt h)
-plain-named Body h = absurd (miss plain-keys 5 tt h)
-plain-named End h = absurd (miss plain-keys 6 tt h)
-plain-named Alias h = absurd (miss plain-keys 7 tt h)
-plain-named Comment h = absurd (miss plain-keys 8 tt h)
-plain-named Stray h = absurd (miss plain-keys 9 tt h)
-plain-named Done h = absurd (miss plain-keys 10 tt h)
-
-abbrev but-plain : List ℕ
-but-plain = 1 ∷ 4 ∷ 5 ∷ 6 ∷ 7 ∷ 8 ∷ 9 ∷ 10 ∷ []
-
-pub plain-other : (t : Token) → OneOf but-plain (tagOf the-type t) → false ≡ plain-of t
-plain-other (Name a e) h = absurd (miss but-plain 0 tt h)
-plain-other (Number v) h = absurd (miss but-plain 2 tt h)
-plain-other (Text a e) h = absurd (miss but-plain 3 tt h)
-plain-other (Header a e) h = refl
-plain-other (Symbol b) h = refl
-plain-other Body h = refl
-plain-other End h = refl
-plain-other Alias h = refl
-plain-other Comment h = refl
-plain-other Stray h = refl
-plain-other Done h = refl

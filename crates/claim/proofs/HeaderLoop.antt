@@ -121,7 +121,7 @@ skipped-gives : (w : List ℕ) (ts : List T.Token) → (state-count (skipped w t
 unfolding state-count start-state
 skipped-gives w ts = (refl, refl)
 
-gives-skipped : {is : List Item} {g : Given} → Gives is g → (w : List ℕ) (ts : List T.Token) → Gives (snoc is (skipped w ts)) g
+pub gives-skipped : {is : List Item} {g : Given} → Gives is g → (w : List ℕ) (ts : List T.Token) → Gives (snoc is (skipped w ts)) g
 gives-skipped {is} {g} h w ts =
     record {
       states = count-append is (skipped w ts ∷ []) ∙ (ap (λ (o : Option ℕ). first-given (state-count is) o) (skipped-gives w ts .0) ∙ (given-none (state-count is) ∙ h .states));
@@ -166,7 +166,7 @@ module _ (s : List ℕ) (k : Kind) (at : ℕ) (g : Given) where
   acceptance-again q e = of-kind Acceptance q (Fault 15) (λ w. second-one s at g wants-sets after-acceptance has-acceptance 15 (λ is i. i .acceptance ∙ e))
 
   pub skipped-read : k ≡ Skipped → (n : ℕ) → Skips s at n → Kind-says s k at g (Read g n)
-  skipped-read q n a = of-kind Skipped q (Read g n) (λ w. (λ is i. (snoc is (skipped w (a .plain)), gives-skipped i w (a .plain), a .same is w), a .onward))
+  skipped-read q n a = of-kind Skipped q (Read g n) (λ w. (λ is i. let m = a .same is w in (m .0, m .2 g i, m .1), a .onward))
 
 -- SIGNS after an item
 module _ (l : Kind) (t : Token) where
@@ -228,7 +228,7 @@ after-acceptance-told is (t ∷ r) = go′ (is-sign (T.symbol 38) t || is-sign (
     go′ false = refl
 
 -- a token after whole items
-header-told : (is : List Item) (w : List ℕ) (r : List T.Token) → told (go (in-items whole is)) (T.header w ∷ r) ≡ told (on-kind is w (kind-of w)) r
+pub header-told : (is : List Item) (w : List ℕ) (r : List T.Token) → told (go (in-items whole is)) (T.header w ∷ r) ≡ told (on-kind is w (kind-of w)) r
 unfolding step header-step
 header-told is w r = stepped (in-items whole is) _ r (on-kind is w (kind-of w)) (by-kind is w)
 

@@ -10,6 +10,7 @@ pub mod LabelCode
 pub mod HeaderCode
 pub mod HeaderItems
 pub mod HeaderLoop
+pub mod Skipping
 pub mod Held
 pub mod BodyCode
 pub mod LineCode

@@ -11,9 +11,9 @@ use Rattle.text.specs.Ascii.{ascii}
 use Rattle.text.specs.Lines.{equal}
 use Rattle.model.specs.ClaimTokens as T
 use Rattle.model.specs.ClaimTokens.{is-small, is-capital}
-use Rattle.model.specs.ClaimGrammar.{Item, acceptance, skipped, state-count, start-state, proposition-names, propositions-in, has-acceptance, header-whole, most-states, most-propositions}
+use Rattle.model.specs.ClaimGrammar.{Item, acceptance, state-count, start-state, proposition-names, propositions-in, has-acceptance, header-whole, most-states, most-propositions}
 use Rattle.model.specs.ClaimTable.{Last, whole, after-start, after-acceptance, Place, in-items, in-skipped, in-lines, wants-count, wants-start, wants-propositions, wants-names, wants-sets, snoc, Next, go, fault, unless, on-number, step, ended, told, refused}
-use Rattle.claim.specs.Reads.{claim-tokens, Ahead, is-symbol-of, fault-of, Onward}
+use Rattle.claim.specs.Reads.{part, claim-tokens, Ahead, is-symbol-of, fault-of, Onward}
 use Rattle.claim.specs.declared.tokens.Token.{Token}
 use Rattle.claim.specs.declared.tokens.Token.the-variants.{Name, Header as Header-name, Number, Text, Symbol, Body, End, Alias, Comment, Stray, Done}
 use Rattle.claim.specs.declared.header.Found.{Found}
@@ -79,24 +79,23 @@ Item-on s x l at g (Read h n) =
     ((is : List Item) → Gives is g → (js : List Item) × Gives js h × (told (x is) (claim-tokens s at) ≡ told (go (in-items l js)) (claim-tokens s n))) × Onward s at n
 Item-on s x l at g (Fault j) = (is : List Item) → Gives is g → told (x is) (claim-tokens s at) ≡ refused j
 
--- SKIPPED HEADERS: the tokens passed over in one
-abbrev pub plain-of : Token → Bool
-plain-of (Name a e) = true
-plain-of (Number v) = true
-plain-of (Text a e) = true
-plain-of (Header-name a e) = false
-plain-of (Symbol b) = false
-plain-of Body = false
-plain-of End = false
-plain-of Alias = false
-plain-of Comment = false
-plain-of Stray = false
-plain-of Done = false
+-- SKIPPED HEADERS: the tokens passed over in one, and the name of another
+abbrev pub passed-of : (text : List ℕ) → Token → Bool
+passed-of s (Name a e) = true
+passed-of s (Number v) = true
+passed-of s (Text a e) = true
+passed-of s (Header-name a e) = is-small (getD (part s a e) 0 0)
+passed-of s (Symbol b) = false
+passed-of s Body = false
+passed-of s End = false
+passed-of s Alias = false
+passed-of s Comment = false
+passed-of s Stray = false
+passed-of s Done = false
 
--- plain tokens stand from a place up to another, and no more
+-- from past the name of one, skipped headers stand up to a place: items that give nothing
 pub record Skips (s : List ℕ) (at next : ℕ) : Type 0 where
-  pub plain : List T.Token
-  pub same : (is : List Item) (h : List ℕ) → told (go (in-skipped is h [])) (claim-tokens s at) ≡ told (go (in-items whole (snoc is (skipped h plain)))) (claim-tokens s next)
+  pub same : (is : List Item) (h : List ℕ) → (js : List Item) × (told (go (in-skipped is h [])) (claim-tokens s at) ≡ told (go (in-items whole js)) (claim-tokens s next)) × ((g : Given) → Gives is g → Gives js g)
   pub onward : Onward s at next
 
 -- NAMES OF HEADERS

@@ -7,7 +7,7 @@ ghost use lib.ListN.{getD};
 ghost use Rattle.model.specs.ClaimGrammar.{most-states, most-propositions};
 ghost use Rattle.model.specs.ClaimTable.{wants-count, wants-start, wants-propositions, wants-sets, wants-inf, wants-open, wants-set, wants-close, named, go, whole, after-start, after-acceptance};
 ghost use Rattle.claim.specs.Reads.{part};
-ghost use Rattle.claim.specs.HeaderSays.{Number-says, String-says, Item-says, Item-on, Step-says, Skips, accepted, most-states-of, plain-of, kind-by, kind-of, continues, items-end, Kind-says, Header-says};
+ghost use Rattle.claim.specs.HeaderSays.{Number-says, String-says, Item-says, Item-on, Step-says, Skips, accepted, most-states-of, passed-of, kind-by, kind-of, continues, items-end, Kind-says, Header-says};
 use crate::Counts;
 use crate::tokens::Token;
 use crate::tokens::claim_token;
@@ -296,32 +296,6 @@ fn propositions_item(text: &[u8], at: usize, g: Given) -> Header
     }
 }
 
-// Whether a token is passed over in a skipped header.
-fn is_plain(t: Token) -> bool
-    ensures { λ r. ⌜ r ≡ plain-of t ⌝ }
-{
-    match t {
-        Token::Name(_, _) | Token::Number(_) | Token::Text(_, _) => true,
-        _ => false,
-    }
-}
-
-// The place past the plain tokens from `at` on.
-fn plain_end(text: &[u8], at: usize) -> usize
-    ensures { λ r. ⌜ Skips (now (text .entry)) at r ⌝ }
-{
-    let mut here = at;
-    loop {
-        let seen = claim_token(text, here);
-        let t = seen.token;
-        let next = seen.next;
-        if !is_plain(t) {
-            return here;
-        }
-        here = next;
-    }
-}
-
 // What a header's name asks for; or the refusal.
 pub enum Kind {
     States,
@@ -342,6 +316,36 @@ fn first_byte(text: &[u8], a: usize, e: usize) -> u8
         }
     }
     0
+}
+
+// Whether a token is passed over from a skipped header on: a plain one, or the name of another such header.
+fn is_passed(text: &[u8], t: Token) -> bool
+    ensures { λ r. ⌜ r ≡ passed-of (now (text .entry)) t ⌝ }
+{
+    match t {
+        Token::Name(_, _) | Token::Number(_) | Token::Text(_, _) => true,
+        Token::Header(a, e) => {
+            let b = first_byte(text, a, e);
+            (b'a' <= b) & (b <= b'z')
+        }
+        _ => false,
+    }
+}
+
+// The place past a skipped header, whose name ends at `at`, and those that follow it.
+fn skipped_end(text: &[u8], at: usize) -> usize
+    ensures { λ r. ⌜ Skips (now (text .entry)) at r ⌝ }
+{
+    let mut here = at;
+    loop {
+        let seen = claim_token(text, here);
+        let t = seen.token;
+        let next = seen.next;
+        if !is_passed(text, t) {
+            return here;
+        }
+        here = next;
+    }
 }
 
 // By its first byte, no small letter, a name that is none of the format's.
@@ -410,7 +414,7 @@ fn item(text: &[u8], at: usize, g: Given, kind: Kind) -> Header
             }
             acceptance_item(text, at, g)
         }
-        Kind::Skipped => Header::Read(g, plain_end(text, at)),
+        Kind::Skipped => Header::Read(g, skipped_end(text, at)),
     }
 }
 

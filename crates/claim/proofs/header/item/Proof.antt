@@ -46,8 +46,8 @@ acceptance-item-requires c κs = search needs
 enum-told-5 : tie.Need-enum-told-5
 enum-told-5 c = search needs
 
-plain-end-requires : tie.Need-plain-end-requires
-plain-end-requires c κs = search needs
+skipped-end-requires : tie.Need-skipped-end-requires
+skipped-end-requires c κs = search needs
 
 returns-5 : tie.Need-returns-5
 returns-5 c = kind-bad (c .before .before .before .before .args .text .now) (c .before .before .before .before .args .kind) (c .before .before .before .before .args .at) (c .before .before .before .before .args .g) _ (c .before .kind .given .1)
@@ -65,7 +65,7 @@ returns-9 : tie.Need-returns-9
 returns-9 c = acceptance-first (c .before .before .before .before .before .args .text .now) (c .before .before .before .before .before .args .kind) (c .before .before .before .before .before .args .at) (c .before .before .before .before .before .args .g) (c .before .before .enum-told4 .given .1) (c .before .if4 .left) (c .acceptance-item .result) (c .acceptance-item .ensures)
 
 returns-10 : tie.Need-returns-10
-returns-10 c = skipped-read (c .before .before .before .before .args .text .now) (c .before .before .before .before .args .kind) (c .before .before .before .before .args .at) (c .before .before .before .before .args .g) (c .before .enum-told5 .given .1) (c .plain-end .result) (c .plain-end .ensures)
+returns-10 c = skipped-read (c .before .before .before .before .args .text .now) (c .before .before .before .before .args .kind) (c .before .before .before .before .args .at) (c .before .before .before .before .args .g) (c .before .enum-told5 .given .1) (c .skipped-end .result) (c .skipped-end .ensures)
 
 pub item-spec : {M : Type 1} → statement M
 item-spec =
@@ -85,7 +85,7 @@ item-spec =
     returns-4
     acceptance-item-requires
     enum-told-5
-    plain-end-requires
+    skipped-end-requires
     returns-5
     returns-6
     returns-7
