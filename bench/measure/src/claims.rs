@@ -29,11 +29,14 @@ pub fn examples() -> Vec<Example> {
     let torn = brackets[..brackets.len() - END.len()].to_string();
     let products = with_edges(|| format!("[{}] {}\n", product(&mut rng), target(&mut rng)));
     let short = with_edges(|| "[t]0".to_owned());
+    let letters = with_edges(|| "[f|f|f|f]0".to_owned());
     let examples = [
         ("labels with brackets", brackets),
         ("labels of all propositions", products),
         ("edges [t]0", short),
+        ("edges [f|f|f|f]0", letters),
         ("skipped headers", with_items(skipped_item)),
+        ("headers of one letter", with_items(|_| "y: ".to_owned())),
         ("blanks", with_blanks()),
         ("the first one, torn at its end", torn),
     ];

@@ -19,7 +19,7 @@ use Rattle.model.specs.ClaimTokens.{is-name}
 use Rattle.model.specs.ClaimGrammar.{Item, states, start, acceptance, state-count, start-state, proposition-names, propositions-in, has-acceptance, below-given, item-fits, most-states}
 use Rattle.model.specs.ClaimTable.{is-sign, otherwise, wants-sets, wants-inf, wants-open, wants-set, wants-close, is-any-name, Last, whole, after-start, after-acceptance, Place, in-items, wants-count, wants-start, Next, go, fault, on-number, snoc, with-item, step, ended, told, refused}
 use Rattle.model.proofs.ClaimItems.{first-given, given-none, count-append, start-append, names-append, acceptance-append}
-use Rattle.claim.specs.Reads.{part, claim-tokens, spelt, reads-on, is-symbol-of, fault-of, Sees, Ahead}
+use Rattle.claim.specs.Reads.{Stands, part, claim-tokens, spelt, reads-on, is-symbol-of, fault-of, Sees, Ahead}
 use Rattle.claim.specs.HeaderSays.{Wants-number, Number-says, shown, Gives, Item-says, Step-says, accepted, most-states-of}
 use Rattle.claim.specs.declared.tokens.Token.{Token}
 use Rattle.claim.specs.declared.tokens.Token.the-variants.{Name, Header, Number, Text, Symbol, Body, End, Alias, Comment, Stray, Done}
@@ -78,7 +78,7 @@ module _ {p : Place} {f : ℕ → Next} (w : Wants-number p f) where
   number-taken v r = stepped p _ r (f v) (w .steps _)
 
 module _ {s : List ℕ} {at : ℕ} {r : Seen} (n : Sees s T.longest-claim at (claim-tokens s at) r) where
-  pub number-is : (v : ℕ) → r .token ≡ Number v → (claim-tokens s at ≡ T.number v ∷ claim-tokens s (r .next)) × Ahead s at (r .next)
+  pub number-is : (v : ℕ) → r .token ≡ Number v → Stands s at (T.number v) (r .next)
   number-is v q = (reads-as n (Number v) q refl, goes-past n (Number v) q refl)
 
   pub number-not : OneOf but-number (tagOf the-type (r .token)) → (j : ℕ) → j ≡ fault-of (r .token) → (p : Place) (f : ℕ → Next) → Wants-number p f → told (go p) (claim-tokens s at) ≡ refused j

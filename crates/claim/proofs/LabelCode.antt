@@ -1,6 +1,6 @@
 -- How the answers of the label readers of src/labels.rt follow from each other: a law for each return and each turn of a loop. Assumes nothing.
 use mathlib.Core.Path.{_≡_, refl, sym, ap, subst, _∙_}
-use mathlib.Core.Bool.{Bool, true, false, not, cond}
+use mathlib.Core.Bool.{Bool, true, false, not, cond, and-true}
 use mathlib.Core.List.{List, [], _∷_}
 use mathlib.Core.Option.{Option, none, some}
 use Prim.Native.Nat.{ℕ, suc, _+_, _≤_, _<_}
@@ -16,7 +16,7 @@ use Rattle.text.specs.Lines.{equal}
 use Rattle.model.specs.ClaimLabels.{not-byte, and-byte, or-byte, open-byte, close-byte, end-label-byte, or-level, and-level, atom, Label, always, never, proposition, term, either, deepest, Under, Reading, due, stands, Label-next, on, broken, depth-of, with-atom, deeper, on-name, atom-step, close-step, operator-step, label-step, label-told, label-is, no-label, label-start, whole-or}
 use Rattle.model.specs.ClaimTable.{is-sign}
 use Rattle.claim.specs.LabelSays.{Truth-of, everything, nothing, intersection-of, union-of, Read, Got, No, Atom-says, And-says, Or-says}
-use Rattle.claim.specs.Reads.{part, claim-tokens, byte-of, Past-blanks, Sign, Lone-letter, Blanks-end, spelt, reads-on, Sees, Ahead, starts, first-fault, Atom-read, And-read, Or-read, negated-of, Closed, Label-says, constant-of, Proposition-read, no-atom-of}
+use Rattle.claim.specs.Reads.{part, claim-tokens, byte-of, Past-blanks, Sign, Stands, Blanks-end, spelt, Sees, Ahead, starts, first-fault, Atom-read, And-read, Or-read, negated-of, Closed, Label-says, constant-by, Proposition-read, no-atom-of}
 use Rattle.claim.specs.declared.tokens.Token.{Token}
 use Rattle.claim.specs.declared.tokens.Token.the-variants.{Name, Header, Number, Text, Symbol, Body, End, Alias, Comment, Stray, Done}
 use Rattle.claim.specs.declared.tokens.Seen.{Seen}
@@ -125,49 +125,45 @@ open-or k us u (either o c) q e f g = open-told k us u (some o) c q e f g
 atom-open : (k d : ℕ) (ts q : List T.Token) (w : Values) → d < deepest → Or-says k (suc d) ts (Got w q) → starts and-byte q ≡ false → starts or-byte q ≡ false → starts close-byte q ≡ false → Atom-says k d (T.symbol open-byte ∷ ts) (No (first-fault q))
 atom-open k d ts q w h (o, t, s) e f g us u p = step-open k us u ts (omega (arith, h, p)) ∙ (s (u ∷ us) (one-deeper us u d p) ∙ open-or k us u o q e f g)
 
--- a number at a leaf
-pub leaf-number : (s : List ℕ) (k d at i next past : ℕ) → (claim-tokens s at ≡ T.number i ∷ claim-tokens s next) × Ahead s at next → Blanks-end s T.longest-claim next past → (l : Truth) → Proposition-read i k past l → Atom-read s k d at l
-leaf-number s k d at i next past (e, h) b (Is w m) (y, t, z) =
-    rw z (subst (λ (ts : List T.Token). Atom-says k d ts (Got w (claim-tokens s past))) (sym (e ∙ ap (λ (ts : List T.Token). T.number i ∷ ts) (b .same))) (leaf k d (proposition i) _ _ w (λ us u. number-step k i us u ∙ rw y refl) t), ahead-onward h (over-blanks b), b .stops)
-leaf-number s k d at i next past (e, h) b (Fault j) (y, z) =
-    rw z (subst (λ (ts : List T.Token). Atom-says k d ts (No 15)) (sym e) (no-leaf k d _ _ 15 (λ us u q. number-step k i us u ∙ rw y refl)))
-
--- the letter t
-pub named-t : {s : List ℕ} {at b : ℕ} → Lone-letter s at b → b ≡ 116 → (claim-tokens s at ≡ T.name (116 ∷ []) ∷ claim-tokens s (at + 1)) × Ahead s at (at + 1)
-named-t {s} {at} n q = subst (λ (x : ℕ). (claim-tokens s at ≡ T.name (x ∷ []) ∷ claim-tokens s (at + 1)) × Ahead s at (at + 1)) q (n (λ z. omega (arith, q, z)))
-
-pub leaf-true : (s : List ℕ) (k d at next past : ℕ) → (claim-tokens s at ≡ T.name (116 ∷ []) ∷ claim-tokens s next) × Ahead s at next → Blanks-end s T.longest-claim next past → (w : Values) → w ≡ everything → Atom-read s k d at (Is w past)
+-- a letter alone
+letter-is : (b c : ℕ) → equal (b ∷ []) (c ∷ []) ≡ eqb b c
 unfolding equal
-leaf-true s k d at next past (e, h) b w z =
-    rw z (subst (λ (ts : List T.Token). Atom-says k d ts (Got everything (claim-tokens s past))) (sym (e ∙ ap (λ (ts : List T.Token). T.name (116 ∷ []) ∷ ts) (b .same))) (leaf k d always _ _ everything (λ us u. name-step k (116 ∷ []) us u) always-everything), ahead-onward h (over-blanks b), b .stops)
+letter-is b c = and-true (eqb b c)
 
--- what the code reads at another
-module _ {s : List ℕ} {at : ℕ} {r : Seen} (n : Sees s T.longest-claim at (claim-tokens s at) r) {past : ℕ} (b : Blanks-end s T.longest-claim (r .next) past) (k d : ℕ) where
-  at-tokens : (R : Read) (ts : List T.Token) → claim-tokens s at ≡ ts → Atom-says k d ts R → Atom-says k d (claim-tokens s at) R
-  at-tokens R ts e a = subst (λ (y : List T.Token). Atom-says k d y R) (sym e) a
+module _ (b n : ℕ) where
+  pub letter-by : (x y : Bool) → eqb b 116 ≡ x → eqb b 102 ≡ y → constant-by (b ∷ []) n ≡ cond x (Is everything n) (cond y (Is nothing n) (Fault 15))
+  letter-by x y p q = rw (letter-is b 116 ∙ p, letter-is b 102 ∙ q) refl
 
-  -- a token, and the blanks past it
-  reads-past : (t : Token) → r .token ≡ t → reads-on t ≡ true → claim-tokens s at ≡ spelt s t (claim-tokens s past)
-  reads-past t q e = reads-as n t q e ∙ ap (spelt s t) (b .same)
+-- what the code reads at a leaf: a token, and the blanks past it
+module _ (s : List ℕ) (k d at : ℕ) (t : T.Token) (next past : ℕ) (h : Stands s at t next) (b : Blanks-end s T.longest-claim next past) where
+  leaf-read : (a : Label atom) (w : Values) → ((us : List Under) (u : Under) → atom-step k us u t ≡ on (with-atom us u a)) → Truth-of a w → Atom-read s k d at (Is w past)
+  leaf-read a w f v =
+      (subst (λ (ts : List T.Token). Atom-says k d ts (Got w (claim-tokens s past))) (sym (h .0 ∙ ap (λ (ts : List T.Token). t ∷ ts) (b .same))) (leaf k d a t _ w f v), ahead-onward (h .1) (over-blanks b), b .stops)
 
-  past-leaf : (t : Token) → r .token ≡ t → reads-on t ≡ true → Ahead s at past
-  past-leaf t q e = ahead-onward (goes-past n t q e) (over-blanks b)
+  leaf-broken : ((us : List Under) (u : Under) → atom-step k us u t ≡ broken 15) → Atom-read s k d at (Fault 15)
+  leaf-broken f = subst (λ (ts : List T.Token). Atom-says k d ts (No 15)) (sym (h .0)) (no-leaf k d t _ 15 (λ us u q. f us u))
 
-  taken : (t : Token) → r .token ≡ t → reads-on t ≡ true → (w : Values) → Atom-says k d (spelt s t (claim-tokens s past)) (Got w (claim-tokens s past)) → Atom-read s k d at (Is w past)
-  taken t q e w a = (at-tokens (Got w (claim-tokens s past)) _ (reads-past t q e) a, past-leaf t q e, b .stops)
+module _ (s : List ℕ) (k d at next past : ℕ) where
+  pub leaf-number : (i : ℕ) → Stands s at (T.number i) next → Blanks-end s T.longest-claim next past → (l : Truth) → Proposition-read i k past l → Atom-read s k d at l
+  leaf-number i h b (Is w m) (y, t, z) = rw z (leaf-read s k d at (T.number i) next past h b (proposition i) w (λ us u. number-step k i us u ∙ rw y refl) t)
+  leaf-number i h b (Fault j) (y, z) = rw z (leaf-broken s k d at (T.number i) next past h b (λ us u. number-step k i us u ∙ rw y refl))
 
-  pub leaf-name : (a e : ℕ) → r .token ≡ Name a e → (l : Truth) → l ≡ constant-of s a e past → Atom-read s k d at l
-  leaf-name a e q l p = subst (λ (y : Truth). Atom-read s k d at y) (sym p) (go (equal (part s a e) (ascii "t")) refl (equal (part s a e) (ascii "f")) refl)
+  pub leaf-name : (w : List ℕ) → Stands s at (T.name w) next → Blanks-end s T.longest-claim next past → (l : Truth) → l ≡ constant-by w past → Atom-read s k d at l
+  leaf-name w h b l p = subst (λ (y : Truth). Atom-read s k d at y) (sym p) (go (equal w (ascii "t")) refl (equal w (ascii "f")) refl)
     where
-      go : (y : Bool) → equal (part s a e) (ascii "t") ≡ y → (z : Bool) → equal (part s a e) (ascii "f") ≡ z → Atom-read s k d at (cond y (Is everything past) (cond z (Is nothing past) (Fault 15)))
-      go true y z′ z = taken (Name a e) q refl everything (leaf k d always _ _ everything (λ us u. name-step k _ us u ∙ rw y refl) always-everything)
-      go false y true z = taken (Name a e) q refl nothing (leaf k d never _ _ nothing (λ us u. name-step k _ us u ∙ rw (y, z) refl) never-nothing)
-      go false y false z = at-tokens (No 15) _ (reads-past (Name a e) q refl) (no-leaf k d _ _ 15 (λ us u h. name-step k _ us u ∙ rw (y, z) refl))
+      go : (y : Bool) → equal w (ascii "t") ≡ y → (z : Bool) → equal w (ascii "f") ≡ z → Atom-read s k d at (cond y (Is everything past) (cond z (Is nothing past) (Fault 15)))
+      go true y z′ z = leaf-read s k d at (T.name w) next past h b always everything (λ us u. name-step k w us u ∙ rw y refl) always-everything
+      go false y true z = leaf-read s k d at (T.name w) next past h b never nothing (λ us u. name-step k w us u ∙ rw (y, z) refl) never-nothing
+      go false y false z = leaf-broken s k d at (T.name w) next past h b (λ us u. name-step k w us u ∙ rw (y, z) refl)
+
+module _ {s : List ℕ} {at : ℕ} {r : Seen} (n : Sees s T.longest-claim at (claim-tokens s at) r) where
+  pub name-is : (a e : ℕ) → r .token ≡ Name a e → Stands s at (T.name (part s a e)) (r .next)
+  name-is a e q = (reads-as n (Name a e) q refl, goes-past n (Name a e) q refl)
 
   -- the token begins no atom
-  pub leaf-refused : OneOf no-atom-keys (tagOf the-type (r .token)) → starts not-byte (claim-tokens s at) ≡ false → starts open-byte (claim-tokens s at) ≡ false → (j : ℕ) → j ≡ no-atom-of (r .token) → Atom-read s k d at (Fault j)
-  leaf-refused h p q j e =
-      at-tokens (No j) _ (n .reads) (subst (λ (i : ℕ). Atom-says k d (spelt s (r .token) (n .rest)) (No i)) (sym e) (none-spelt k d s (n .rest) (r .token) h (ap (starts not-byte) (sym (n .reads)) ∙ p) (ap (starts open-byte) (sym (n .reads)) ∙ q)))
+  pub leaf-refused : (k d : ℕ) → OneOf no-atom-keys (tagOf the-type (r .token)) → starts not-byte (claim-tokens s at) ≡ false → starts open-byte (claim-tokens s at) ≡ false → (j : ℕ) → j ≡ no-atom-of (r .token) → Atom-read s k d at (Fault j)
+  leaf-refused k d h p q j e =
+      subst (λ (ts : List T.Token). Atom-says k d ts (No j)) (sym (n .reads)) (subst (λ (i : ℕ). Atom-says k d (spelt s (r .token) (n .rest)) (No i)) (sym e) (none-spelt k d s (n .rest) (r .token) h (ap (starts not-byte) (sym (n .reads)) ∙ p) (ap (starts open-byte) (sym (n .reads)) ∙ q)))
 
 -- BRACKETS
 module _ (s : List ℕ) (k d here : ℕ) where

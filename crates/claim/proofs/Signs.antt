@@ -18,7 +18,7 @@ use Rattle.model.specs.ClaimLabels.{not-byte, and-byte, or-byte, open-byte, clo
 use Rattle.model.specs.ClaimTable.{is-sign}
 use Rattle.claim.proofs.Lexing.{lexed-by, lexed-before, lexed-cut, tokens-end, digit-low, begin-digit, digit-stops, begin-letter, name-stops}
 use lib.Seq.{drop-cons}
-use Rattle.claim.specs.Reads.{claim-tokens, byte-of, Past-blanks, Sign, Lone-digit, Lone-letter, Ahead, starts}
+use Rattle.claim.specs.Reads.{claim-tokens, byte-of, Past-blanks, Sign, Lone-digit, Lone-letter, Stands, Ahead, starts}
 
 -- inside a token other than a sign
 abbrev inside : Mode → Bool
@@ -231,7 +231,7 @@ module _ (s : List ℕ) (e : ℕ) where
 
 -- ONE BYTE that is a token, told by the byte after it
 module _ (s : List ℕ) (e : ℕ) (some : byte-of s e ≡ 0 → ⊥) (more : byte-of s (e + 1) ≡ 0 → ⊥) where
-  pub alone : (m : Mode) (t : Token) → byte between (byte-of s e) ≡ goes-on m → byte m (byte-of s (e + 1)) ≡ after t (begin (byte-of s (e + 1))) → (claim-tokens s e ≡ t ∷ claim-tokens s (e + 1)) × Ahead s e (e + 1)
+  pub alone : (m : Mode) (t : Token) → byte between (byte-of s e) ≡ goes-on m → byte m (byte-of s (e + 1)) ≡ after t (begin (byte-of s (e + 1))) → Stands s e t (e + 1)
   alone m t p q =
       let (in1, in2, b) = byte-inside s e (byte-of s e) refl some in
       let (in3, in4, c) = byte-inside s (e + 1) (byte-of s (e + 1)) refl more in (
@@ -249,7 +249,7 @@ digit-some b d q = omega (arith, q, digit-low b d)
 
 pub digit-alone : (s : List ℕ) (e : ℕ) → is-digit (byte-of s e) ≡ true → (byte-of s (e + 1) ≡ 0 → ⊥) → is-digit (byte-of s (e + 1)) ≡ false → (v : ℕ) → v ≡ byte-of s e - 48 → Lone-digit s e v
 digit-alone s e d n p v q h =
-    subst (λ (x : ℕ). (claim-tokens s e ≡ number x ∷ claim-tokens s (e + 1)) × Ahead s e (e + 1)) (sym q) (alone s e (digit-some _ d) n _ _ (begin-digit _ (digit-no-blank _ d) d) (digit-stops _ _ p))
+    subst (λ (x : ℕ). Stands s e (number x) (e + 1)) (sym q) (alone s e (digit-some _ d) n _ _ (begin-digit _ (digit-no-blank _ d) d) (digit-stops _ _ p))
 
 -- a letter
 letter-high : (b : ℕ) → is-letter b ≡ true → 65 ≤ b
@@ -269,4 +269,4 @@ letter-some b l q = omega (arith, q, letter-high b l)
 
 pub letter-alone : (s : List ℕ) (e : ℕ) → is-letter (byte-of s e) ≡ true → (byte-of s (e + 1) ≡ 0 → ⊥) → (byte-of s (e + 1) ≡ colon → ⊥) → is-name-byte (byte-of s (e + 1)) ≡ false → (b : ℕ) → b ≡ byte-of s e → Lone-letter s e b
 letter-alone s e l n c p b q h =
-    subst (λ (x : ℕ). (claim-tokens s e ≡ name (x ∷ []) ∷ claim-tokens s (e + 1)) × Ahead s e (e + 1)) (sym q) (alone s e (letter-some _ l) n _ _ (begin-letter _ (letter-no-blank _ l) l) (name-stops _ _ p c))
+    subst (λ (x : ℕ). Stands s e (name (x ∷ [])) (e + 1)) (sym q) (alone s e (letter-some _ l) n _ _ (begin-letter _ (letter-no-blank _ l) l) (name-stops _ _ p c))

@@ -13,7 +13,7 @@ use Rattle.model.specs.ClaimTokens as T
 use Rattle.model.specs.ClaimTokens.{is-small, is-capital}
 use Rattle.model.specs.ClaimGrammar.{Item, acceptance, state-count, start-state, proposition-names, propositions-in, has-acceptance, header-whole, most-states, most-propositions}
 use Rattle.model.specs.ClaimTable.{Last, whole, after-start, after-acceptance, Place, in-items, in-skipped, in-lines, wants-count, wants-start, wants-propositions, wants-names, wants-sets, snoc, Next, go, fault, unless, on-number, step, ended, told, refused}
-use Rattle.claim.specs.Reads.{part, claim-tokens, Ahead, is-symbol-of, fault-of, Onward}
+use Rattle.claim.specs.Reads.{part, claim-tokens, Ahead, Stands, is-symbol-of, fault-of, Onward}
 use Rattle.claim.specs.declared.tokens.Token.{Token}
 use Rattle.claim.specs.declared.tokens.Token.the-variants.{Name, Header as Header-name, Number, Text, Symbol, Body, End, Alias, Comment, Stray, Done}
 use Rattle.claim.specs.declared.header.Found.{Found}
@@ -33,7 +33,7 @@ pub record Wants-number (p : Place) (f : ℕ → Next) : Type 0 where
 
 -- a number is at a place; or whatever place wants one refuses what is there
 abbrev pub Number-says : (text : List ℕ) → (at : ℕ) → Found → Type 0
-Number-says s at (Is v n) = (claim-tokens s at ≡ T.number v ∷ claim-tokens s n) × Ahead s at n
+Number-says s at (Is v n) = Stands s at (T.number v) n
 Number-says s at (Not j) = (p : Place) (f : ℕ → Next) → Wants-number p f → told (go p) (claim-tokens s at) ≡ refused j
 
 -- a value, or none

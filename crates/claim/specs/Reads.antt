@@ -68,13 +68,17 @@ pub record Onward (s : List ℕ) (at next : ℕ) : Type 0 where
   pub more : at ≤ next
   pub inside : at ≤ length s → next ≤ length s
 
+-- a token stands at a place, and ends at another
+abbrev pub Stands : (text : List ℕ) → (at : ℕ) → T.Token → (next : ℕ) → Type 0
+Stands s at t n = (claim-tokens s at ≡ t ∷ claim-tokens s n) × Ahead s at n
+
 -- a number of one digit stands at a place, told by the byte after it; 10 says nothing
 abbrev pub Lone-digit : (text : List ℕ) → (at value : ℕ) → Type 0
-Lone-digit s at v = v < 10 → (claim-tokens s at ≡ T.number v ∷ claim-tokens s (at + 1)) × Ahead s at (at + 1)
+Lone-digit s at v = v < 10 → Stands s at (T.number v) (at + 1)
 
 -- a name of one letter; 0 says nothing
 abbrev pub Lone-letter : (text : List ℕ) → (at byte : ℕ) → Type 0
-Lone-letter s at b = (b ≡ 0 → ⊥) → (claim-tokens s at ≡ T.name (b ∷ []) ∷ claim-tokens s (at + 1)) × Ahead s at (at + 1)
+Lone-letter s at b = (b ≡ 0 → ⊥) → Stands s at (T.name (b ∷ [])) (at + 1)
 
 -- a token of the code and what follows it
 abbrev pub spelt : (text : List ℕ) → Token → (rest : List T.Token) → List T.Token
@@ -211,8 +215,8 @@ Label-says s k at (Is w n) = (o : Label or-level) × Truth-of o w × (label-told
 Label-says s k at (Fault j) = label-told k (on label-start) (claim-tokens s at) ≡ no-label j
 
 -- leaves of a label
-abbrev pub constant-of : (text : List ℕ) → (a e next : ℕ) → Truth
-constant-of s a e n = cond (equal (part s a e) (ascii "t")) (Is everything n) (cond (equal (part s a e) (ascii "f")) (Is nothing n) (Fault 15))
+abbrev pub constant-by : (name : List ℕ) → (next : ℕ) → Truth
+constant-by w n = cond (equal w (ascii "t")) (Is everything n) (cond (equal w (ascii "f")) (Is nothing n) (Fault 15))
 
 abbrev pub Proposition-read : (i count next : ℕ) → Truth → Type 0
 Proposition-read i k n (Is w m) = (ltb i k ≡ true) × Truth-of (proposition i) w × (m ≡ n)

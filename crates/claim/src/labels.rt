@@ -2,11 +2,12 @@
 // negations deep. Signs are told by their bytes; the place that a reader gives is past blanks.
 ghost use mathlib.Core.Path.{_≡_};
 ghost use mathlib.Core.Bool.{false};
+ghost use mathlib.Core.List.{[], _∷_};
 ghost use Prim.Native.Nat.{ℕ, _<_, _≤_};
 ghost use Rattle.model.specs.ClaimLabels.{proposition, not-byte, open-byte};
 ghost use Rattle.model.specs.ClaimGrammar.{most-propositions};
 ghost use Rattle.claim.specs.LabelSays.{Truth-of, repeated-of, complement-of, intersection-of, union-of};
-ghost use Rattle.claim.specs.Reads.{claim-tokens, Sign, starts, Atom-read, And-read, Or-read, negated-of, Closed, Label-says, constant-of, Proposition-read, no-atom-of};
+ghost use Rattle.claim.specs.Reads.{part, claim-tokens, Sign, starts, Atom-read, And-read, Or-read, negated-of, Closed, Label-says, constant-by, Proposition-read, no-atom-of};
 use crate::tokens::Token;
 use crate::tokens::byte_at;
 use crate::tokens::claim_token;
@@ -140,12 +141,25 @@ fn closed(text: &[u8], l: Truth, b: u8) -> Truth
 
 // The atom t or f.
 fn constant(text: &[u8], a: usize, e: usize, next: usize) -> Truth
-    ensures { λ r. ⌜ r ≡ constant-of (now (text .entry)) a e next ⌝ }
+    ensures { λ r. ⌜ r ≡ constant-by (part (now (text .entry)) a e) next ⌝ }
 {
     if word(text, a, e, b"t") {
         return Truth::Is(repeated(ALL), next);
     }
     if word(text, a, e, b"f") {
+        return Truth::Is(repeated(0), next);
+    }
+    Truth::Fault(15)
+}
+
+// The same by its letter.
+fn letter_constant(b: u8, next: usize) -> Truth
+    ensures { λ r. ⌜ r ≡ constant-by (b ∷ []) next ⌝ }
+{
+    if b == b't' {
+        return Truth::Is(repeated(ALL), next);
+    }
+    if b == b'f' {
         return Truth::Is(repeated(0), next);
     }
     Truth::Fault(15)
@@ -183,8 +197,9 @@ fn leaf(text: &[u8], at: usize, count: u32) -> Truth
     if v < 10 {
         return proposition(v, count, past_blanks(text, at + 1));
     }
-    if lone_letter(text, at) == b't' {
-        return Truth::Is(repeated(ALL), past_blanks(text, at + 1));
+    let b = lone_letter(text, at);
+    if b != 0 {
+        return letter_constant(b, past_blanks(text, at + 1));
     }
     let seen = claim_token(text, at);
     let t = seen.token;

@@ -1,6 +1,6 @@
 -- `labels::leaf` meets its contract. Assumes nothing.
 use native.Mathlib.Omega.{arith}
-use Rattle.claim.proofs.LabelCode.{leaf-name, leaf-number, leaf-refused, named-t, leaf-true}
+use Rattle.claim.proofs.LabelCode.{leaf-number, leaf-name, name-is, leaf-refused}
 use Rattle.claim.proofs.HeaderCode.{number-is}
 use borrow.Author.Needs.{needs}
 use Rattle.claim.proofs.labels.leaf.Statement.{statement}
@@ -24,17 +24,17 @@ returns c = λ d. leaf-number _ (c .before .before .before .before .before .args
 lone-letter-requires : tie.Need-lone-letter-requires
 lone-letter-requires c κs = search needs
 
-repeated-requires : tie.Need-repeated-requires
-repeated-requires c κs = search needs
-
 add-past-blanks-2 : tie.Need-add-past-blanks-2
-add-past-blanks-2 c = let h = named-t (c .before .before .lone-letter .ensures) (c .before .if2 .taken) .1 in omega (arith, h .inside)
+add-past-blanks-2 c = let h = c .before .lone-letter .ensures (c .if2 .taken) .1 in omega (arith, h .inside)
 
 past-blanks-requires-2 : tie.Need-past-blanks-requires-2
 past-blanks-requires-2 c κs = search needs
 
+letter-constant-requires : tie.Need-letter-constant-requires
+letter-constant-requires c κs = search needs
+
 returns-2 : tie.Need-returns-2
-returns-2 c = λ d. leaf-true _ _ d _ _ _ (named-t (c .before .before .before .lone-letter .ensures) (c .before .before .if2 .taken)) (c .past-blanks2 .ensures) _ (c .before .repeated .ensures)
+returns-2 c = λ d. leaf-name _ _ d _ _ _ _ (c .before .before .before .lone-letter .ensures (c .before .before .if2 .taken)) (c .before .past-blanks2 .ensures) _ (c .letter-constant .ensures)
 
 claim-token-requires : tie.Need-claim-token-requires
 claim-token-requires c κs = search needs
@@ -58,13 +58,13 @@ no-atom-requires : tie.Need-no-atom-requires
 no-atom-requires c κs = search needs
 
 returns-3 : tie.Need-returns-3
-returns-3 c = λ d. leaf-name (c .before .before .before .before .before .claim-token .ensures) (c .before .before .before .before .past-blanks3 .ensures) _ d _ _ (c .before .before .t .given .1) _ (c .constant .ensures)
+returns-3 c = λ d. leaf-name _ _ d _ _ _ _ (name-is (c .before .before .before .before .before .claim-token .ensures) _ _ (c .before .before .t .given .1)) (c .before .before .before .before .past-blanks3 .ensures) _ (c .constant .ensures)
 
 returns-4 : tie.Need-returns-4
 returns-4 c = λ d. leaf-number _ (c .before .before .before .before .before .before .before .before .before .before .before .args .count) d _ _ _ _ (number-is (c .before .before .before .before .before .claim-token .ensures) _ (c .before .before .t2 .given .1)) (c .before .before .before .before .past-blanks3 .ensures) (c .proposition2 .result) (c .proposition2 .ensures)
 
 returns-5 : tie.Need-returns-5
-returns-5 c = λ d. leaf-refused (c .before .before .before .claim-token .ensures) (c .before .before .past-blanks3 .ensures) _ d (c .before .match .keys3) (c .before .before .before .before .before .before .before .before .before .pre .1 .0) (c .before .before .before .before .before .before .before .before .before .pre .1 .1) _ (c .no-atom .ensures)
+returns-5 c = λ d. leaf-refused (c .before .before .before .claim-token .ensures) _ d (c .before .match .keys3) (c .before .before .before .before .before .before .before .before .before .pre .1 .0) (c .before .before .before .before .before .before .before .before .before .pre .1 .1) _ (c .no-atom .ensures)
 
 pub leaf-spec : {M : Type 1} → statement M
 leaf-spec =
@@ -76,9 +76,9 @@ leaf-spec =
     proposition-requires
     returns
     lone-letter-requires
-    repeated-requires
     add-past-blanks-2
     past-blanks-requires-2
+    letter-constant-requires
     returns-2
     claim-token-requires
     past-blanks-requires-3
