@@ -19,7 +19,7 @@ use Rattle.model.specs.ClaimTokens.{is-name}
 use Rattle.model.specs.ClaimGrammar.{Item, states, start, acceptance, state-count, start-state, proposition-names, propositions-in, has-acceptance, below-given, item-fits, most-states}
 use Rattle.model.specs.ClaimTable.{is-sign, otherwise, wants-sets, wants-inf, wants-open, wants-set, wants-close, is-any-name, Last, whole, after-start, after-acceptance, Place, in-items, wants-count, wants-start, Next, go, fault, on-number, snoc, with-item, step, ended, told, refused}
 use Rattle.model.proofs.ClaimItems.{first-given, given-none, count-append, start-append, names-append, acceptance-append}
-use Rattle.claim.specs.Reads.{Stands, part, claim-tokens, spelt, reads-on, is-symbol-of, fault-of, Sees, Ahead}
+use Rattle.claim.specs.Reads.{Stands, part, claim-tokens, spelt, reads-on, is-symbol-of, fault-of, Sees}
 use Rattle.claim.specs.HeaderSays.{Wants-number, Number-says, shown, Gives, Item-says, Step-says, accepted, most-states-of}
 use Rattle.claim.specs.declared.tokens.Token.{Token}
 use Rattle.claim.specs.declared.tokens.Token.the-variants.{Name, Header, Number, Text, Symbol, Body, End, Alias, Comment, Stray, Done}

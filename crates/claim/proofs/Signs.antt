@@ -1,5 +1,5 @@
--- A sign is told by its byte, without reading a token: where no blank stands, the tokens begin with it exactly if the byte
--- does. Assumes nothing.
+-- Tokens of one byte, told without the reader of tokens: where no blank stands, the tokens begin with a sign exactly if the byte
+-- is its; a digit or a letter is alone where the byte after it does not go on with it. Assumes nothing.
 use mathlib.Core.Path.{_≡_, refl, sym, ap, subst, _∙_}
 use mathlib.Core.Bool.{Bool, true, false, _||_, cond, and-false}
 use mathlib.Core.List.{List, [], _∷_, _++_}
