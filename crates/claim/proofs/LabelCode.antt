@@ -16,7 +16,7 @@ use Rattle.text.specs.Lines.{equal}
 use Rattle.model.specs.ClaimLabels.{not-byte, and-byte, or-byte, open-byte, close-byte, end-label-byte, or-level, and-level, atom, Label, always, never, proposition, term, either, deepest, Under, Reading, due, stands, Label-next, on, broken, depth-of, with-atom, deeper, on-name, atom-step, close-step, operator-step, label-step, label-told, label-is, no-label, label-start, whole-or}
 use Rattle.model.specs.ClaimTable.{is-sign}
 use Rattle.claim.specs.LabelSays.{Truth-of, everything, nothing, intersection-of, union-of, Read, Got, No, Atom-says, And-says, Or-says}
-use Rattle.claim.specs.Reads.{part, claim-tokens, byte-of, Past-blanks, Sign, Stands, Blanks-end, spelt, Sees, Ahead, starts, first-fault, Atom-read, And-read, Or-read, negated-of, Closed, Label-says, constant-by, Proposition-read, no-atom-of}
+use Rattle.claim.specs.Reads.{part, claim-tokens, byte-of, Past-blanks, Sign, Stands, Blanks-end, spelt, Sees, Ahead, starts, first-fault, Atom-read, And-read, Or-read, negated-of, Closed, Label-says, constant-if, Proposition-read, no-atom-of}
 use Rattle.claim.specs.declared.tokens.Token.{Token}
 use Rattle.claim.specs.declared.tokens.Token.the-variants.{Name, Header, Number, Text, Symbol, Body, End, Alias, Comment, Stray, Done}
 use Rattle.claim.specs.declared.tokens.Seen.{Seen}
@@ -126,13 +126,9 @@ atom-open : (k d : ℕ) (ts q : List T.Token) (w : Values) → d < deepest → O
 atom-open k d ts q w h (o, t, s) e f g us u p = step-open k us u ts (omega (arith, h, p)) ∙ (s (u ∷ us) (one-deeper us u d p) ∙ open-or k us u o q e f g)
 
 -- a letter alone
-letter-is : (b c : ℕ) → equal (b ∷ []) (c ∷ []) ≡ eqb b c
+pub letter-is : (b c : ℕ) → equal (b ∷ []) (c ∷ []) ≡ eqb b c
 unfolding equal
 letter-is b c = and-true (eqb b c)
-
-module _ (b n : ℕ) where
-  pub letter-by : (x y : Bool) → eqb b 116 ≡ x → eqb b 102 ≡ y → constant-by (b ∷ []) n ≡ cond x (Is everything n) (cond y (Is nothing n) (Fault 15))
-  letter-by x y p q = rw (letter-is b 116 ∙ p, letter-is b 102 ∙ q) refl
 
 -- what the code reads at a leaf: a token, and the blanks past it
 module _ (s : List ℕ) (k d at : ℕ) (t : T.Token) (next past : ℕ) (h : Stands s at t next) (b : Blanks-end s T.longest-claim next past) where
@@ -148,10 +144,10 @@ module _ (s : List ℕ) (k d at next past : ℕ) where
   leaf-number i h b (Is w m) (y, t, z) = rw z (leaf-read s k d at (T.number i) next past h b (proposition i) w (λ us u. number-step k i us u ∙ rw y refl) t)
   leaf-number i h b (Fault j) (y, z) = rw z (leaf-broken s k d at (T.number i) next past h b (λ us u. number-step k i us u ∙ rw y refl))
 
-  pub leaf-name : (w : List ℕ) → Stands s at (T.name w) next → Blanks-end s T.longest-claim next past → (l : Truth) → l ≡ constant-by w past → Atom-read s k d at l
-  leaf-name w h b l p = subst (λ (y : Truth). Atom-read s k d at y) (sym p) (go (equal w (ascii "t")) refl (equal w (ascii "f")) refl)
+  pub leaf-name : (w : List ℕ) → Stands s at (T.name w) next → Blanks-end s T.longest-claim next past → (t f : Bool) → equal w (ascii "t") ≡ t → equal w (ascii "f") ≡ f → (l : Truth) → l ≡ constant-if t f past → Atom-read s k d at l
+  leaf-name w h b t f x x′ l p = subst (λ (y : Truth). Atom-read s k d at y) (sym p) (go t x f x′)
     where
-      go : (y : Bool) → equal w (ascii "t") ≡ y → (z : Bool) → equal w (ascii "f") ≡ z → Atom-read s k d at (cond y (Is everything past) (cond z (Is nothing past) (Fault 15)))
+      go : (y : Bool) → equal w (ascii "t") ≡ y → (z : Bool) → equal w (ascii "f") ≡ z → Atom-read s k d at (constant-if y z past)
       go true y z′ z = leaf-read s k d at (T.name w) next past h b always everything (λ us u. name-step k w us u ∙ rw y refl) always-everything
       go false y true z = leaf-read s k d at (T.name w) next past h b never nothing (λ us u. name-step k w us u ∙ rw (y, z) refl) never-nothing
       go false y false z = leaf-broken s k d at (T.name w) next past h b (λ us u. name-step k w us u ∙ rw (y, z) refl)

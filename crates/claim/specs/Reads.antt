@@ -215,8 +215,8 @@ Label-says s k at (Is w n) = (o : Label or-level) × Truth-of o w × (label-told
 Label-says s k at (Fault j) = label-told k (on label-start) (claim-tokens s at) ≡ no-label j
 
 -- leaves of a label
-abbrev pub constant-by : (name : List ℕ) → (next : ℕ) → Truth
-constant-by w n = cond (equal w (ascii "t")) (Is everything n) (cond (equal w (ascii "f")) (Is nothing n) (Fault 15))
+abbrev pub constant-if : (always never : Bool) → (next : ℕ) → Truth
+constant-if t f n = cond t (Is everything n) (cond f (Is nothing n) (Fault 15))
 
 abbrev pub Proposition-read : (i count next : ℕ) → Truth → Type 0
 Proposition-read i k n (Is w m) = (ltb i k ≡ true) × Truth-of (proposition i) w × (m ≡ n)

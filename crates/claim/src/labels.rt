@@ -2,12 +2,11 @@
 // negations deep. Signs are told by their bytes; the place that a reader gives is past blanks.
 ghost use mathlib.Core.Path.{_≡_};
 ghost use mathlib.Core.Bool.{false};
-ghost use mathlib.Core.List.{[], _∷_};
 ghost use Prim.Native.Nat.{ℕ, _<_, _≤_};
 ghost use Rattle.model.specs.ClaimLabels.{proposition, not-byte, open-byte};
 ghost use Rattle.model.specs.ClaimGrammar.{most-propositions};
 ghost use Rattle.claim.specs.LabelSays.{Truth-of, repeated-of, complement-of, intersection-of, union-of};
-ghost use Rattle.claim.specs.Reads.{part, claim-tokens, Sign, starts, Atom-read, And-read, Or-read, negated-of, Closed, Label-says, constant-by, Proposition-read, no-atom-of};
+ghost use Rattle.claim.specs.Reads.{claim-tokens, Sign, starts, Atom-read, And-read, Or-read, negated-of, Closed, Label-says, constant-if, Proposition-read, no-atom-of};
 use crate::tokens::Token;
 use crate::tokens::byte_at;
 use crate::tokens::claim_token;
@@ -139,27 +138,14 @@ fn closed(text: &[u8], l: Truth, b: u8) -> Truth
     }
 }
 
-// The atom t or f.
-fn constant(text: &[u8], a: usize, e: usize, next: usize) -> Truth
-    ensures { λ r. ⌜ r ≡ constant-by (part (now (text .entry)) a e) next ⌝ }
+// A name as an atom: t, f or none.
+fn constant(always: bool, never: bool, next: usize) -> Truth
+    ensures { λ r. ⌜ r ≡ constant-if always never next ⌝ }
 {
-    if word(text, a, e, b"t") {
+    if always {
         return Truth::Is(repeated(ALL), next);
     }
-    if word(text, a, e, b"f") {
-        return Truth::Is(repeated(0), next);
-    }
-    Truth::Fault(15)
-}
-
-// The same by its letter.
-fn letter_constant(b: u8, next: usize) -> Truth
-    ensures { λ r. ⌜ r ≡ constant-by (b ∷ []) next ⌝ }
-{
-    if b == b't' {
-        return Truth::Is(repeated(ALL), next);
-    }
-    if b == b'f' {
+    if never {
         return Truth::Is(repeated(0), next);
     }
     Truth::Fault(15)
@@ -199,13 +185,13 @@ fn leaf(text: &[u8], at: usize, count: u32) -> Truth
     }
     let b = lone_letter(text, at);
     if b != 0 {
-        return letter_constant(b, past_blanks(text, at + 1));
+        return constant(b == b't', b == b'f', past_blanks(text, at + 1));
     }
     let seen = claim_token(text, at);
     let t = seen.token;
     let past = past_blanks(text, seen.next);
     match t {
-        Token::Name(a, e) => constant(text, a, e, past),
+        Token::Name(a, e) => constant(word(text, a, e, b"t"), word(text, a, e, b"f"), past),
         Token::Number(i) => proposition(i, count, past),
         _ => Truth::Fault(no_atom(t)),
     }
