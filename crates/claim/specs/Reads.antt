@@ -5,8 +5,6 @@ use mathlib.Core.List.{List, [], _∷_}
 use Prim.Native.Nat.{ℕ, _+_, _-_, _<_, _≤_, min}
 use lib.Dec.{ltb, eqb}
 use lib.ListN.{length, getD, take, drop}
-use Rattle.text.specs.Ascii.{ascii}
-use Rattle.text.specs.Lines.{equal}
 use Rattle.model.specs.ClaimTokens as T
 use Rattle.model.specs.ClaimLabels.{and-byte, or-byte, Label, or-level, proposition, on, label-start, label-told, label-is, no-label}
 use Rattle.model.specs.ClaimTokens.{Mode, between, lex, is-blank, is-name-byte, is-symbol}
