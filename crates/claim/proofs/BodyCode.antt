@@ -16,7 +16,7 @@ use borrow.Author.Tests.{lt-ltb, le-leb, lt-leb, eq-eqb, ne-eqb}
 use Rattle.text.specs.Ascii.{line-feed}
 use Rattle.model.specs.Run.{member}
 use Rattle.model.specs.ClaimTokens as T
-use Rattle.model.specs.ClaimLabels.{bit}
+use Rattle.model.specs.ClaimLabels.{mark-byte, bit}
 use Rattle.model.specs.ClaimGrammar.{Item, State, most-states, title-fits}
 use Rattle.model.specs.ClaimTable.{numbered, titled, marked, bare, line-at, Place, in-line, in-marks, Next, go, fault, is-sign, on-string, snoc, edge-step, marks-step, part-step, step, ended, told, refused}
 use Rattle.model.specs.Claim.{is-marked}
@@ -220,34 +220,34 @@ module _ (s : List ℕ) (c : ℕ) (w : List ℕ) (hc : c < most-states) (room : 
   marked-adds o = adds s c (bare c o none) (bare c o (some ms)) w (set w c (boolByte any)) refl refl (marked-row o) (λ d hd n. off-row d c (boolByte any) w (mark-off c d hc hd n))
 
 module _ (is : List Item) (ls : List State) (c : ℕ) (o : Option (List ℕ)) where
-  open-mark-on : (ts : List T.Token) → from-step (marks-step is ls c o) (T.symbol 123 ∷ ts) ≡ told (go (in-marks is ls c o [])) ts
+  open-mark-on : (ts : List T.Token) → from-step (marks-step is ls c o) (T.symbol mark-byte ∷ ts) ≡ told (go (in-marks is ls c o [])) ts
   unfolding from-step marks-step is-sign
   open-mark-on ts = refl
 
-  no-mark-on : (ts : List T.Token) → starts 123 ts ≡ false → from-step (marks-step is ls c o) ts ≡ from-step (edge-step (line-at is ls (bare c o none))) ts
+  no-mark-on : (ts : List T.Token) → starts mark-byte ts ≡ false → from-step (marks-step is ls c o) ts ≡ from-step (edge-step (line-at is ls (bare c o none))) ts
   unfolding from-step marks-step starts
   no-mark-on [] e = refl
   no-mark-on (t ∷ ts) e = rw e refl
 
 module _ {s : List ℕ} {at here : ℕ} (n : Blanks-end s T.longest-claim at here) (c : ℕ) where
-  pub mark-none : (byte-of s here ≡ 123 → ⊥) → (w : List ℕ) → Mark-says s c at (To here) w w
-  mark-none e w = (none, λ is ls o. ap (λ (ts : List T.Token). from-step (marks-step is ls c o) ts) (n .same) ∙ no-mark-on is ls c o _ (sign-not s here 123 (n .stops) e), λ o. adds-nothing s c (bare c o none) w, over-blanks n)
+  pub mark-none : (byte-of s here ≡ mark-byte → ⊥) → (w : List ℕ) → Mark-says s c at (To here) w w
+  mark-none e w = (none, λ is ls o. ap (λ (ts : List T.Token). from-step (marks-step is ls c o) ts) (n .same) ∙ no-mark-on is ls c o _ (sign-not s here mark-byte (n .stops) e), λ o. adds-nothing s c (bare c o none) w, over-blanks n)
 
   -- past its {
   abbrev inner : ℕ
   inner = here + 1
 
-  mark-opens : byte-of s here ≡ 123 → (is : List Item) (ls : List State) (o : Option (List ℕ)) → from-step (marks-step is ls c o) (claim-tokens s at) ≡ told (go (in-marks is ls c o [])) (claim-tokens s inner)
-  mark-opens e is ls o = ap (λ (ts : List T.Token). from-step (marks-step is ls c o) ts) (n .same ∙ sign-is s here 123 mark-sign e) ∙ open-mark-on is ls c o _
+  mark-opens : byte-of s here ≡ mark-byte → (is : List Item) (ls : List State) (o : Option (List ℕ)) → from-step (marks-step is ls c o) (claim-tokens s at) ≡ told (go (in-marks is ls c o [])) (claim-tokens s inner)
+  mark-opens e is ls o = ap (λ (ts : List T.Token). from-step (marks-step is ls c o) ts) (n .same ∙ sign-is s here mark-byte mark-sign e) ∙ open-mark-on is ls c o _
 
-  pub mark-broken : byte-of s here ≡ 123 → (l : Marks) (j : ℕ) → l ≡ Bad j → Marks-say s inner l → Mark-says s c at (Fault j) [] []
+  pub mark-broken : byte-of s here ≡ mark-byte → (l : Marks) (j : ℕ) → l ≡ Bad j → Marks-say s inner l → Mark-says s c at (Fault j) [] []
   mark-broken e l j q a is ls o = mark-opens e is ls o ∙ go′ (rw q at a)
     where
       go′ : Marks-say s inner (Bad j) → told (go (in-marks is ls c o [])) (claim-tokens s inner) ≡ refused j
       go′ b = b is ls c o
 
-  pub mark-read : byte-of s here ≡ 123 → (l : Marks) (any : Bool) (z : ℕ) → l ≡ Read any z → Marks-say s inner l → c < most-states → (w : List ℕ) → claim-cells ≤ length w → Mark-says s c at (To z) w (set w c (boolByte any))
+  pub mark-read : byte-of s here ≡ mark-byte → (l : Marks) (any : Bool) (z : ℕ) → l ≡ Read any z → Marks-say s inner l → c < most-states → (w : List ℕ) → claim-cells ≤ length w → Mark-says s c at (To z) w (set w c (boolByte any))
   mark-read e l any z q a hc w room = go′ (rw q at a)
     where
       go′ : Marks-say s inner (Read any z) → Mark-says s c at (To z) w (set w c (boolByte any))
-      go′ (ms, p, b, past) = (some ms, λ is ls o. mark-opens e is ls o ∙ (b is ls c o ∙ marked-on is ls c o ms _), λ o. marked-adds s c w hc room any ms p o, onward (over-blanks n) (onward (onto (sign-past s here 123 mark-sign e)) past))
+      go′ (ms, p, b, past) = (some ms, λ is ls o. mark-opens e is ls o ∙ (b is ls c o ∙ marked-on is ls c o ms _), λ o. marked-adds s c w hc room any ms p o, onward (over-blanks n) (onward (onto (sign-past s here mark-byte mark-sign e)) past))

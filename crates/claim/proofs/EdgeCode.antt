@@ -10,7 +10,7 @@ use lib.Dec.{ltb, eqb}
 use lib.ListN.{length, replicate}
 use borrow.Author.Tests.{lt-ltb, le-ltb, ne-eqb}
 use Rattle.model.specs.ClaimTokens as T
-use Rattle.model.specs.ClaimLabels.{or-level, Label, bit, on, label-start, label-told, Label-read}
+use Rattle.model.specs.ClaimLabels.{label-byte, mark-byte, or-level, Label, bit, on, label-start, label-told, Label-read}
 use Rattle.model.specs.ClaimGrammar.{Item, Edge, State, count-in, propositions-in, most-states}
 use Rattle.model.specs.ClaimTable.{Line, in-lines, in-line, in-label, wants-target, edged, line-at, snoc, with-edge, Next, go, fault, is-sign, line-step, edge-step, part-step, from-label, step, ended, told, refused}
 use Rattle.model.proofs.ClaimComplete.{finish, through-label}
@@ -48,7 +48,7 @@ unfolding step ended
 target-wants l o = record { steps = λ t. refl; open-ended = refl }
 
 -- AN EDGE MARK after it
-edged-told : (is : List Item) (ls : List State) (l : State) (t : T.Token) (ts : List T.Token) → told (go (in-line is ls (edged l))) (t ∷ ts) ≡ told (cond (is-sign (T.symbol 123) t) (fault 16) (edge-step (line-at is ls l) t)) ts
+edged-told : (is : List Item) (ls : List State) (l : State) (t : T.Token) (ts : List T.Token) → told (go (in-line is ls (edged l))) (t ∷ ts) ≡ told (cond (is-sign (T.symbol mark-byte) t) (fault 16) (edge-step (line-at is ls l) t)) ts
 unfolding told step part-step
 edged-told is ls l t ts = refl
 
@@ -56,14 +56,14 @@ edged-ended : (is : List Item) (ls : List State) (l : State) → told (go (in-li
 unfolding told ended
 edged-ended is ls l = refl
 
-edged-on : (is : List Item) (ls : List State) (l : State) (ts : List T.Token) → starts 123 ts ≡ false → told (go (in-line is ls (edged l))) ts ≡ from-step (edge-step (line-at is ls l)) ts
+edged-on : (is : List Item) (ls : List State) (l : State) (ts : List T.Token) → starts mark-byte ts ≡ false → told (go (in-line is ls (edged l))) ts ≡ from-step (edge-step (line-at is ls l)) ts
 unfolding starts from-step
 edged-on is ls l [] e = edged-ended is ls l
 edged-on is ls l (t ∷ ts) e = edged-told is ls l t ts ∙ ap (λ (b : Bool). told (cond b (fault 16) (edge-step (line-at is ls l) t)) ts) e
 
-edged-marked : (is : List Item) (ls : List State) (l : State) (ts : List T.Token) → told (go (in-line is ls (edged l))) (T.symbol 123 ∷ ts) ≡ refused 16
+edged-marked : (is : List Item) (ls : List State) (l : State) (ts : List T.Token) → told (go (in-line is ls (edged l))) (T.symbol mark-byte ∷ ts) ≡ refused 16
 unfolding is-sign
-edged-marked is ls l ts = edged-told is ls l (T.symbol 123) ts ∙ told-fault 16 ts
+edged-marked is ls l ts = edged-told is ls l (T.symbol mark-byte) ts ∙ told-fault 16 ts
 
 -- AN EDGE
 module _ (s : List ℕ) (n k at : ℕ) (w v : List ℕ) (x : Truth) (said : Label-says s k at x) where
@@ -102,27 +102,27 @@ module _ (s : List ℕ) (n k at : ℕ) (w v : List ℕ) (x : Truth) (said : Labe
           past-target : (is : List Item) (ls : List State) (l : State) → d < n → count-in is ≡ n → propositions-in is ≡ k → told (go (in-label (line-at is ls l) label-start)) (claim-tokens s at) ≡ told (go (in-line is ls (edged (with-edge l (record { label = label-there .0; to = d }))))) (claim-tokens s z)
           past-target is ls l h en ek = near is ls l h en ek ∙ ap (λ (ts : List T.Token). told (go (in-line is ls (edged (with-edge l (record { label = label-there .0; to = d }))))) ts) (b .same)
 
-          pub edge-marked : d < n → byte-of s z ≡ 123 → Edge-says s n k at (Not 16) w v
-          edge-marked h m is ls l en ek = past-target is ls l h en ek ∙ (ap (λ (ts : List T.Token). told (go (in-line is ls (edged (with-edge l (record { label = label-there .0; to = d }))))) ts) (sign-is s z 123 mark-sign m) ∙ edged-marked is ls _ _)
+          pub edge-marked : d < n → byte-of s z ≡ mark-byte → Edge-says s n k at (Not 16) w v
+          edge-marked h m is ls l en ek = past-target is ls l h en ek ∙ (ap (λ (ts : List T.Token). told (go (in-line is ls (edged (with-edge l (record { label = label-there .0; to = d }))))) ts) (sign-is s z mark-byte mark-sign m) ∙ edged-marked is ls _ _)
 
-          pub edge-taken : d < n → (byte-of s z ≡ 123 → ⊥) → Gathered d set w v → Edge-says s n k at (Found-is d z) w v
+          pub edge-taken : d < n → (byte-of s z ≡ mark-byte → ⊥) → Gathered d set w v → Edge-says s n k at (Found-is d z) w v
           edge-taken h m g = (
             record { label = label-there .0; to = d },
             refl,
             h,
-            λ is ls l en ek. past-target is ls l h en ek ∙ edged-on is ls _ _ (sign-not s z 123 (b .stops) m),
+            λ is ls l en ek. past-target is ls l h en ek ∙ edged-on is ls _ _ (sign-not s z mark-byte (b .stops) m),
             λ t f i. g .gathered t f ∙ ap (λ (b : Bool). holds (set-of w t) f || (b && eqb t d)) (sym (label-there .1 .agrees f i)),
             record { more = omega (arith, label-there .3 .more, number-there .1 .more, b .ahead); inside = λ i. b .inside (number-there .1 .inside) },
             b .stops,
           )
 
 -- EDGES: from where one may stand
-not-labelled : (is : List Item) (ls : List State) (l : State) (ts : List T.Token) → starts 91 ts ≡ false → from-step (edge-step (line-at is ls l)) ts ≡ told (go (in-lines is (snoc ls l))) ts
+not-labelled : (is : List Item) (ls : List State) (l : State) (ts : List T.Token) → starts label-byte ts ≡ false → from-step (edge-step (line-at is ls l)) ts ≡ told (go (in-lines is (snoc ls l))) ts
 unfolding starts from-step edge-step told step ended
 not-labelled is ls l [] e = refl
 not-labelled is ls l (t ∷ ts) e = ap (λ (b : Bool). told (cond b (go (in-label (line-at is ls l) label-start)) (line-step is (snoc ls l) t)) ts) e
 
-is-labelled : (is : List Item) (ls : List State) (l : State) (ts : List T.Token) → from-step (edge-step (line-at is ls l)) (T.symbol 91 ∷ ts) ≡ told (go (in-label (line-at is ls l) label-start)) ts
+is-labelled : (is : List Item) (ls : List State) (l : State) (ts : List T.Token) → from-step (edge-step (line-at is ls l)) (T.symbol label-byte ∷ ts) ≡ told (go (in-label (line-at is ls l) label-start)) ts
 unfolding from-step edge-step is-sign
 is-labelled is ls l ts = refl
 
@@ -154,12 +154,12 @@ edges-begun s n k at here b =
     }
 
 module _ {s : List ℕ} {n k at : ℕ} {sets : List ℕ} {leads here : ℕ} (f : Edges-so-far s n k at sets leads here) where
-  pub edges-done : (c : ℕ) (w v : List ℕ) → (byte-of s here ≡ 91 → ⊥) → c < most-states → Led c leads sets w v → Edges-say s n k c at (To here) w v
-  edges-done c w v e hc m = (f .so-far, λ is ls l en ek. f .goes is ls l en ek ∙ not-labelled is ls _ _ (sign-not s here 91 (f .stops) e), λ l q. edges-add m hc s (f .so-far) l (f .in-sets) q, f .onward)
+  pub edges-done : (c : ℕ) (w v : List ℕ) → (byte-of s here ≡ label-byte → ⊥) → c < most-states → Led c leads sets w v → Edges-say s n k c at (To here) w v
+  edges-done c w v e hc m = (f .so-far, λ is ls l en ek. f .goes is ls l en ek ∙ not-labelled is ls _ _ (sign-not s here label-byte (f .stops) e), λ l q. edges-add m hc s (f .so-far) l (f .in-sets) q, f .onward)
 
-  module _ (e : byte-of s here ≡ 91) (u : List ℕ) (x : Found) (said : Edge-says s n k (here + 1) x sets u) where
+  module _ (e : byte-of s here ≡ label-byte) (u : List ℕ) (x : Found) (said : Edge-says s n k (here + 1) x sets u) where
     through : (is : List Item) (ls : List State) (l : State) → count-in is ≡ n → propositions-in is ≡ k → from-step (edge-step (line-at is ls l)) (claim-tokens s at) ≡ told (go (in-label (line-at is ls (with-edges l (f .so-far))) label-start)) (claim-tokens s (here + 1))
-    through is ls l en ek = f .goes is ls l en ek ∙ (ap (λ (ts : List T.Token). from-step (edge-step (line-at is ls (with-edges l (f .so-far)))) ts) (sign-is s here 91 label-sign e) ∙ is-labelled is ls _ _)
+    through is ls l en ek = f .goes is ls l en ek ∙ (ap (λ (ts : List T.Token). from-step (edge-step (line-at is ls (with-edges l (f .so-far)))) ts) (sign-is s here label-byte label-sign e) ∙ is-labelled is ls _ _)
 
     pub edges-broken : (c : ℕ) (w v : List ℕ) (j : ℕ) → x ≡ Not j → Edges-say s n k c at (Fault j) w v
     edges-broken c w v j q is ls l en ek = through is ls l en ek ∙ subst (λ (y : Found). Edge-says s n k (here + 1) y sets u) q said is ls (with-edges l (f .so-far)) en ek
@@ -173,7 +173,7 @@ module _ {s : List ℕ} {n k at : ℕ} {sets : List ℕ} {leads here : ℕ} (f :
 
       pub edges-ahead : Ahead s here z
       edges-ahead =
-          let a = sign-past s here 91 label-sign e in
+          let a = sign-past s here label-byte label-sign e in
           let b = edge-there .5 in
           record { more = omega (arith, a .more, b .more); inside = b .inside (a .inside) }
 

@@ -36,6 +36,7 @@ use Rattle.claim.proofs.header.Header.{the-type as header-type}
 use Rattle.claim.proofs.Lexing.{part-cons, part-past, part-cut}
 use Rattle.claim.proofs.Seeing.{reads-as, goes-past, ends-as, starts-as}
 use Rattle.claim.proofs.HeaderCode.{told-end, told-fault, stepped, refuses, Plain-item, count-kept, named-kept, acceptance-kept}
+use Rattle.model.specs.ClaimLabels.{and-byte, or-byte}
 
 -- THE FIRST BYTE of a name
 module _ (s : List ℕ) (a e : ℕ) where
@@ -170,10 +171,10 @@ module _ (s : List ℕ) (k : Kind) (at : ℕ) (g : Given) where
 
 -- SIGNS after an item
 module _ (l : Kind) (t : Token) where
-  pub continues-start : l ≡ Start → (x : Bool) → x ≡ is-symbol-of t 38 → x ≡ continues l t
+  pub continues-start : l ≡ Start → (x : Bool) → x ≡ is-symbol-of t and-byte → x ≡ continues l t
   continues-start q x e = e ∙ sym (ap (λ (k : Kind). continues k t) q)
 
-  pub continues-acceptance : l ≡ Acceptance → (x y : Bool) → x ≡ is-symbol-of t 38 → y ≡ is-symbol-of t 124 → (x || y) ≡ continues l t
+  pub continues-acceptance : l ≡ Acceptance → (x y : Bool) → x ≡ is-symbol-of t and-byte → y ≡ is-symbol-of t or-byte → (x || y) ≡ continues l t
   continues-acceptance q x y e f = rw (e, f) (sym (ap (λ (k : Kind). continues k t) q))
 
 abbrev but-signed : List ℕ
@@ -209,19 +210,19 @@ module _ (n : ℕ) (g : Given) (l : Kind) where
   body-not Done h b e = ap (λ (x : Bool). Fault (cond x 16 15)) e
 
 -- what stands last asks for a sign or none; all else is as after whole items
-after-start-told : (is : List Item) (ts : List T.Token) → told (go (in-items after-start is)) ts ≡ cond (starts 38 ts) (refused 16) (told (go (in-items whole is)) ts)
+after-start-told : (is : List Item) (ts : List T.Token) → told (go (in-items after-start is)) ts ≡ cond (starts and-byte ts) (refused 16) (told (go (in-items whole is)) ts)
 unfolding told step ended starts
 after-start-told is [] = refl
-after-start-told is (t ∷ r) = go′ (is-sign (T.symbol 38) t)
+after-start-told is (t ∷ r) = go′ (is-sign (T.symbol and-byte) t)
   where
     go′ : (b : Bool) → told (cond b (fault 16) (header-step is t)) r ≡ cond b (refused 16) (told (header-step is t) r)
     go′ true = told-fault 16 r
     go′ false = refl
 
-after-acceptance-told : (is : List Item) (ts : List T.Token) → told (go (in-items after-acceptance is)) ts ≡ cond (starts 38 ts || starts 124 ts) (refused 16) (told (go (in-items whole is)) ts)
+after-acceptance-told : (is : List Item) (ts : List T.Token) → told (go (in-items after-acceptance is)) ts ≡ cond (starts and-byte ts || starts or-byte ts) (refused 16) (told (go (in-items whole is)) ts)
 unfolding told step ended starts
 after-acceptance-told is [] = refl
-after-acceptance-told is (t ∷ r) = go′ (is-sign (T.symbol 38) t || is-sign (T.symbol 124) t)
+after-acceptance-told is (t ∷ r) = go′ (is-sign (T.symbol and-byte) t || is-sign (T.symbol or-byte) t)
   where
     go′ : (b : Bool) → told (cond b (fault 16) (header-step is t)) r ≡ cond b (refused 16) (told (header-step is t) r)
     go′ true = told-fault 16 r
@@ -253,7 +254,7 @@ gives-nothing = record { states = refl; start = refl; count = refl; named = refl
 pub items-begun : (s : List ℕ) (at : ℕ) → Items-so-far s at nothing-yet Skipped at
 items-begun s at = record { items = []; gives = gives-nothing; same = refl; past = stays }
 
-no-sign : (l : Kind) (t : Token) → is-symbol-of t 38 ≡ false → is-symbol-of t 124 ≡ false → continues l t ≡ false
+no-sign : (l : Kind) (t : Token) → is-symbol-of t and-byte ≡ false → is-symbol-of t or-byte ≡ false → continues l t ≡ false
 no-sign Start t e f = e
 no-sign Acceptance t e f = rw (e, f) refl
 no-sign States t e f = refl
@@ -266,22 +267,22 @@ but-header = 0 ∷ 2 ∷ 3 ∷ 4 ∷ 5 ∷ 6 ∷ 7 ∷ 8 ∷ 9 ∷ 10 ∷ []
 
 module _ {s : List ℕ} {at : ℕ} {g : Given} {l : Kind} {here : ℕ} (a : Items-so-far s at g l here) {r : Seen} (n : Sees s T.longest-claim here (claim-tokens s here) r) where
   last-told : (k : Kind) (is : List Item) → told (go (in-items (last-of k) is)) (claim-tokens s here) ≡ cond (continues k (r .token)) (refused 16) (told (go (in-items whole is)) (claim-tokens s here))
-  last-told Start is = after-start-told is _ ∙ rw (starts-as n 38 _ refl) refl
-  last-told Acceptance is = after-acceptance-told is _ ∙ rw (starts-as n 38 _ refl, starts-as n 124 _ refl) refl
+  last-told Start is = after-start-told is _ ∙ rw (starts-as n and-byte _ refl) refl
+  last-told Acceptance is = after-acceptance-told is _ ∙ rw (starts-as n and-byte _ refl, starts-as n or-byte _ refl) refl
   last-told States is = refl
   last-told Propositions is = refl
   last-told Skipped is = refl
   last-told (Bad k) is = refl
 
   -- a token that is no sign
-  whole-told : is-symbol-of (r .token) 38 ≡ false → is-symbol-of (r .token) 124 ≡ false → told (go (in-items whole [])) (claim-tokens s at) ≡ told (go (in-items whole (a .items))) (claim-tokens s here)
+  whole-told : is-symbol-of (r .token) and-byte ≡ false → is-symbol-of (r .token) or-byte ≡ false → told (go (in-items whole [])) (claim-tokens s at) ≡ told (go (in-items whole (a .items))) (claim-tokens s here)
   whole-told e f = a .same ∙ (last-told l (a .items) ∙ rw (no-sign l (r .token) e f) refl)
 
   -- a header
   module _ (b e : ℕ) (q : r .token ≡ Header b e) (k : Kind) (o : k ≡ kind-of (part s b e)) where
     kind-told : told (go (in-items whole [])) (claim-tokens s at) ≡ told (on-kind (a .items) (part s b e) k) (claim-tokens s (r .next))
     kind-told =
-        whole-told (ap (λ (t : Token). is-symbol-of t 38) q) (ap (λ (t : Token). is-symbol-of t 124) q)
+        whole-told (ap (λ (t : Token). is-symbol-of t and-byte) q) (ap (λ (t : Token). is-symbol-of t or-byte) q)
         ∙ (ap (λ (ts : List T.Token). told (go (in-items whole (a .items))) ts) (reads-as n (Header b e) q refl)
         ∙ (header-told (a .items) (part s b e) _ ∙ ap (λ (i : Kind). told (on-kind (a .items) (part s b e) i) (claim-tokens s (r .next))) (sym o)))
 
@@ -306,7 +307,7 @@ module _ {s : List ℕ} {at : ℕ} {g : Given} {l : Kind} {here : ℕ} (a : Item
   body-ended q b e = go′ b (whole-given (a .gives) ∙ e)
     where
       body-next : told (go (in-items whole [])) (claim-tokens s at) ≡ told (go (in-items whole (a .items))) (T.body-mark ∷ claim-tokens s (r .next))
-      body-next = whole-told (ap (λ (t : Token). is-symbol-of t 38) q) (ap (λ (t : Token). is-symbol-of t 124) q) ∙ ap (λ (ts : List T.Token). told (go (in-items whole (a .items))) ts) (reads-as n Body q refl)
+      body-next = whole-told (ap (λ (t : Token). is-symbol-of t and-byte) q) (ap (λ (t : Token). is-symbol-of t or-byte) q) ∙ ap (λ (ts : List T.Token). told (go (in-items whole (a .items))) ts) (reads-as n Body q refl)
 
       past : Ahead s here (r .next)
       past = goes-past n Body q refl

@@ -12,7 +12,7 @@ use borrow.Author.Tests.{leb-true, leb-false, lt-leb, ltb-true, ltb-false, eq-eq
 use Rattle.text.specs.Numbers.{is-digit}
 use Rattle.model.specs.Run.{member}
 use Rattle.text.specs.Lines.{equal, begins}
-use Rattle.model.specs.ClaimTokens.{Token, name, header, number, string, symbol, body-mark, end-mark, alias, comment, stray, Mode, between, at-sign, slash, in-name, in-number, in-string, escaped, in-mark, Lexed, goes-on, ends, breaks, after, is-blank, is-letter, is-capital, is-small, is-name-byte, is-symbol, begin, digit-more, mark-more, byte, at-end, lex, number-end}
+use Rattle.model.specs.ClaimTokens.{quote, backslash, colon, at-byte, slash-byte, Token, name, header, number, string, symbol, body-mark, end-mark, alias, comment, stray, Mode, between, at-sign, slash, in-name, in-number, in-string, escaped, in-mark, Lexed, goes-on, ends, breaks, after, is-blank, is-letter, is-capital, is-small, is-name-byte, is-symbol, begin, digit-more, mark-more, byte, at-end, lex, number-end}
 use Rattle.text.specs.Ascii.{ascii}
 use Rattle.text.proofs.Tests.{clash, and-both, or-false}
 use Rattle.text.proofs.Lines.{equal-true}
@@ -130,13 +130,13 @@ module _ (w : List ℕ) (b : ℕ) where
   unfolding byte
   name-goes e = rw e refl
 
-  name-colon : is-name-byte b ≡ false → b ≡ 58 → byte (in-name w) b ≡ ends (header w)
+  name-colon : is-name-byte b ≡ false → b ≡ colon → byte (in-name w) b ≡ ends (header w)
   unfolding byte
-  name-colon e f = rw (e, eq-eqb b 58 f) refl
+  name-colon e f = rw (e, eq-eqb b colon f) refl
 
-  pub name-stops : is-name-byte b ≡ false → (b ≡ 58 → ⊥) → byte (in-name w) b ≡ after (name w) (begin b)
+  pub name-stops : is-name-byte b ≡ false → (b ≡ colon → ⊥) → byte (in-name w) b ≡ after (name w) (begin b)
   unfolding byte
-  name-stops e f = rw (e, ne-eqb b 58 f) refl
+  name-stops e f = rw (e, ne-eqb b colon f) refl
 
 pub name-more : (s : List ℕ) (limit at e : ℕ) → at < e → e < length s → e < limit → is-name-byte (getD s e 0) ≡ true → lexed s limit (in-name (part s at e)) e ≡ lexed s limit (in-name (part s at (e + 1))) (e + 1)
 name-more s limit at e k h g q = lexed-by s limit _ e _ (name-goes _ _ q) h g ∙ ap (λ (x : List ℕ). lexed s limit (in-name x) (e + 1)) (sym (part-snoc s at e (omega arith) h))
@@ -160,10 +160,10 @@ module _ {s : List ℕ} {limit at e : ℕ} (n : Name-end s limit at e) where
   pub name-cut : e < length s → limit ≤ e → Sees s limit at (named-from s limit at) (seen Stray e)
   name-cut h g = sees-last s limit at _ _ e refl [] (n .same ∙ lexed-cut s limit _ e h g)
 
-  pub name-header : e < length s → e < limit → getD s e 0 ≡ 58 → Sees s limit at (named-from s limit at) (seen (Header at e) (e + 1))
+  pub name-header : e < length s → e < limit → getD s e 0 ≡ colon → Sees s limit at (named-from s limit at) (seen (Header at e) (e + 1))
   name-header h g q = sees s limit at _ _ (e + 1) (n .same ∙ lexed-by s limit _ e _ (name-colon _ _ (n .stops h g) q) h g) (omega (arith, n .ahead)) (omega arith) tt
 
-  pub name-whole : e < length s → e < limit → (getD s e 0 ≡ 58 → ⊥) → Sees s limit at (named-from s limit at) (seen (Name at e) e)
+  pub name-whole : e < length s → e < limit → (getD s e 0 ≡ colon → ⊥) → Sees s limit at (named-from s limit at) (seen (Name at e) e)
   name-whole h g q = sees s limit at _ _ e (n .same ∙ lexed-before s limit _ e _ (name-stops _ _ (n .stops h g) q) h g) (n .ahead) (n .inside) tt
 
 -- NUMBERS
@@ -220,17 +220,17 @@ module _ {s : List ℕ} {limit at : ℕ} {ts : List Token} {v e : ℕ} (n : Digi
 
 -- STRINGS
 module _ (w : List ℕ) (b : ℕ) where
-  string-ends : b ≡ 34 → byte (in-string w) b ≡ ends (string w)
+  string-ends : b ≡ quote → byte (in-string w) b ≡ ends (string w)
   unfolding byte
-  string-ends e = rw (eq-eqb b 34 e) refl
+  string-ends e = rw (eq-eqb b quote e) refl
 
-  string-goes : (b ≡ 34 → ⊥) → (b ≡ 92 → ⊥) → byte (in-string w) b ≡ goes-on (in-string (w ++ (b ∷ [])))
+  string-goes : (b ≡ quote → ⊥) → (b ≡ backslash → ⊥) → byte (in-string w) b ≡ goes-on (in-string (w ++ (b ∷ [])))
   unfolding byte
-  string-goes e f = rw (ne-eqb b 34 e, ne-eqb b 92 f) refl
+  string-goes e f = rw (ne-eqb b quote e, ne-eqb b backslash f) refl
 
-  string-escapes : (b ≡ 34 → ⊥) → b ≡ 92 → byte (in-string w) b ≡ goes-on (escaped (w ++ (b ∷ [])))
+  string-escapes : (b ≡ quote → ⊥) → b ≡ backslash → byte (in-string w) b ≡ goes-on (escaped (w ++ (b ∷ [])))
   unfolding byte
-  string-escapes e f = rw (ne-eqb b 34 e, eq-eqb b 92 f) refl
+  string-escapes e f = rw (ne-eqb b quote e, eq-eqb b backslash f) refl
 
   escaped-goes : byte (escaped w) b ≡ goes-on (in-string (w ++ (b ∷ [])))
   unfolding byte
@@ -264,14 +264,14 @@ pub string-none : (s : List ℕ) (limit at : ℕ) → String-so-far s limit at (
 string-none s limit at = record { same = ap (λ (w : List ℕ). lexed s limit (in-string w) (at + 1)) (sym (part-cut s (at + 1) (at + 1) (omega arith))); ahead = omega arith }
 
 module _ {s : List ℕ} {limit at : ℕ} {ts : List Token} {e : ℕ} (n : String-so-far s limit at ts e) where
-  pub string-more : e < length s → e < limit → (getD s e 0 ≡ 34 → ⊥) → (getD s e 0 ≡ 92 → ⊥) → String-so-far s limit at ts (e + 1)
+  pub string-more : e < length s → e < limit → (getD s e 0 ≡ quote → ⊥) → (getD s e 0 ≡ backslash → ⊥) → String-so-far s limit at ts (e + 1)
   string-more h g q p =
       record {
         same = n .same ∙ (lexed-by s limit _ e _ (string-goes _ _ q p) h g ∙ ap (λ (w : List ℕ). lexed s limit (in-string w) (e + 1)) (sym (part-snoc s (at + 1) e (omega (arith, n .ahead)) h)));
         ahead = omega (arith, n .ahead);
       }
 
-  pub string-escape : e < length s → e < limit → (getD s e 0 ≡ 34 → ⊥) → getD s e 0 ≡ 92 → String-so-far s limit at ts (e + 2)
+  pub string-escape : e < length s → e < limit → (getD s e 0 ≡ quote → ⊥) → getD s e 0 ≡ backslash → String-so-far s limit at ts (e + 2)
   string-escape h g q p =
       let z : e + 1 + 1 ≡ e + 2 = omega arith in
       record {
@@ -283,7 +283,7 @@ module _ {s : List ℕ} {limit at : ℕ} {ts : List Token} {e : ℕ} (n : String
         ahead = omega (arith, n .ahead);
       }
 
-  pub string-whole : e < length s → e < limit → getD s e 0 ≡ 34 → Sees s limit at ts (seen (Text (at + 1) e) (e + 1))
+  pub string-whole : e < length s → e < limit → getD s e 0 ≡ quote → Sees s limit at ts (seen (Text (at + 1) e) (e + 1))
   string-whole h g q = sees s limit at ts _ (e + 1) (n .same ∙ lexed-by s limit _ e _ (string-ends _ _ q) h g) (omega (arith, n .ahead)) (omega arith) (record { past-quote = omega arith; ahead = omega (arith, n .ahead); inside = omega arith; looked-at = g })
 
   pub string-torn : min limit (length s) ≤ e → Sees s limit at ts (seen Stray e)
@@ -506,11 +506,11 @@ module _ (b : ℕ) (blank : is-blank b ≡ false) where
   unfolding byte begin
   begin-symbol l d e = rw (blank, l, d, e) refl
 
-  begin-other : is-letter b ≡ false → is-digit b ≡ false → is-symbol b ≡ false → (b ≡ 34 → ⊥) → (b ≡ 45 → ⊥) → (b ≡ 64 → ⊥) → (b ≡ 47 → ⊥) → byte between b ≡ breaks stray
+  begin-other : is-letter b ≡ false → is-digit b ≡ false → is-symbol b ≡ false → (b ≡ quote → ⊥) → (b ≡ 45 → ⊥) → (b ≡ at-byte → ⊥) → (b ≡ slash-byte → ⊥) → byte between b ≡ breaks stray
   unfolding byte begin
-  begin-other l d y p q r t = rw (blank, l, d, y, ne-eqb b 34 p, ne-eqb b 45 q, ne-eqb b 64 r, ne-eqb b 47 t) refl
+  begin-other l d y p q r t = rw (blank, l, d, y, ne-eqb b quote p, ne-eqb b 45 q, ne-eqb b at-byte r, ne-eqb b slash-byte t) refl
 
-begin-quote : (b : ℕ) → b ≡ 34 → byte between b ≡ goes-on (in-string [])
+begin-quote : (b : ℕ) → b ≡ quote → byte between b ≡ goes-on (in-string [])
 unfolding byte begin is-blank is-letter is-capital is-small is-digit is-symbol member
 begin-quote b e = rw e refl
 
@@ -518,11 +518,11 @@ begin-mark : (b : ℕ) → b ≡ 45 → byte between b ≡ byte (in-mark []) b
 unfolding byte begin is-blank is-letter is-capital is-small is-digit is-symbol member mark-more equal begins
 begin-mark b e = rw e refl
 
-begin-at : (b : ℕ) → b ≡ 64 → byte between b ≡ goes-on at-sign
+begin-at : (b : ℕ) → b ≡ at-byte → byte between b ≡ goes-on at-sign
 unfolding byte begin is-blank is-letter is-capital is-small is-digit is-symbol member
 begin-at b e = rw e refl
 
-begin-slash : (b : ℕ) → b ≡ 47 → byte between b ≡ goes-on slash
+begin-slash : (b : ℕ) → b ≡ slash-byte → byte between b ≡ goes-on slash
 unfolding byte begin is-blank is-letter is-capital is-small is-digit is-symbol member
 begin-slash b e = rw e refl
 
@@ -544,19 +544,19 @@ module _ {s : List ℕ} {limit at : ℕ} (h : at < length s) (g : at < limit) wh
   pub first-symbol : is-blank (getD s at 0) ≡ false → is-letter (getD s at 0) ≡ false → is-digit (getD s at 0) ≡ false → is-symbol (getD s at 0) ≡ true → Sees s limit at (tokens-at s limit at) (seen (Symbol (getD s at 0)) (at + 1))
   first-symbol b l d y = sees s limit at _ _ (at + 1) (lexed-by s limit between at _ (begin-symbol _ b l d y) h g) (omega arith) (omega arith) tt
 
-  pub first-quote : {r : Seen} → getD s at 0 ≡ 34 → Sees s limit at (lexed s limit (in-string []) (at + 1)) r → Sees s limit at (tokens-at s limit at) r
+  pub first-quote : {r : Seen} → getD s at 0 ≡ quote → Sees s limit at (lexed s limit (in-string []) (at + 1)) r → Sees s limit at (tokens-at s limit at) r
   first-quote q n = sees-of (lexed-by s limit between at _ (begin-quote _ q) h g) n
 
   pub first-mark : {r : Seen} → getD s at 0 ≡ 45 → Sees s limit at (lexed s limit (in-mark []) at) r → Sees s limit at (tokens-at s limit at) r
   first-mark q n = sees-of (lexed-by s limit between at _ (begin-mark _ q) h g ∙ sym (lexed-step s limit (in-mark []) at h g)) n
 
-  pub first-at : {r : Seen} → getD s at 0 ≡ 64 → Sees s limit at (lexed s limit at-sign (at + 1)) r → Sees s limit at (tokens-at s limit at) r
+  pub first-at : {r : Seen} → getD s at 0 ≡ at-byte → Sees s limit at (lexed s limit at-sign (at + 1)) r → Sees s limit at (tokens-at s limit at) r
   first-at q n = sees-of (lexed-by s limit between at _ (begin-at _ q) h g) n
 
-  pub first-slash : {r : Seen} → getD s at 0 ≡ 47 → Sees s limit at (lexed s limit slash (at + 1)) r → Sees s limit at (tokens-at s limit at) r
+  pub first-slash : {r : Seen} → getD s at 0 ≡ slash-byte → Sees s limit at (lexed s limit slash (at + 1)) r → Sees s limit at (tokens-at s limit at) r
   first-slash q n = sees-of (lexed-by s limit between at _ (begin-slash _ q) h g) n
 
-  pub first-other : is-blank (getD s at 0) ≡ false → is-letter (getD s at 0) ≡ false → is-digit (getD s at 0) ≡ false → is-symbol (getD s at 0) ≡ false → (getD s at 0 ≡ 34 → ⊥) → (getD s at 0 ≡ 45 → ⊥) → (getD s at 0 ≡ 64 → ⊥) → (getD s at 0 ≡ 47 → ⊥) → Sees s limit at (tokens-at s limit at) (seen Stray at)
+  pub first-other : is-blank (getD s at 0) ≡ false → is-letter (getD s at 0) ≡ false → is-digit (getD s at 0) ≡ false → is-symbol (getD s at 0) ≡ false → (getD s at 0 ≡ quote → ⊥) → (getD s at 0 ≡ 45 → ⊥) → (getD s at 0 ≡ at-byte → ⊥) → (getD s at 0 ≡ slash-byte → ⊥) → Sees s limit at (tokens-at s limit at) (seen Stray at)
   first-other b l d y p q r t = sees-last s limit at _ Stray at refl _ (lexed-by s limit between at _ (begin-other _ b l d y p q r t) h g)
 
 -- after blanks

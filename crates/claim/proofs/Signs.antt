@@ -239,17 +239,17 @@ module _ (s : List ℕ) (e : ℕ) (some : byte-of s e ≡ 0 → ⊥) (more : byt
         record { more = omega arith; inside = omega (arith, in1) },
       )
 
--- a digit
-digit-no-blank : (b : ℕ) → is-digit b ≡ true → is-blank b ≡ false
+no-blank : (b : ℕ) → 32 < b → is-blank b ≡ false
 unfolding is-blank
-digit-no-blank b d = let h = digit-low b d in rw (ne-eqb b 32 (λ q. omega (arith, h, q)), lt-leb b 13 (omega (arith, h))) (and-false (leb 9 b))
+no-blank b h = rw (ne-eqb b 32 (λ q. omega (arith, h, q)), lt-leb b 13 (omega (arith, h))) (and-false (leb 9 b))
 
+-- a digit
 pub digit-some : (b : ℕ) → is-digit b ≡ true → b ≡ 0 → ⊥
 digit-some b d q = omega (arith, q, digit-low b d)
 
 pub digit-alone : (s : List ℕ) (e : ℕ) → is-digit (byte-of s e) ≡ true → (byte-of s (e + 1) ≡ 0 → ⊥) → is-digit (byte-of s (e + 1)) ≡ false → (v : ℕ) → v ≡ byte-of s e - 48 → Lone-digit s e v
 digit-alone s e d n p v q h =
-    subst (λ (x : ℕ). Stands s e (number x) (e + 1)) (sym q) (alone s e (digit-some _ d) n _ _ (begin-digit _ (digit-no-blank _ d) d) (digit-stops _ _ p))
+    subst (λ (x : ℕ). Stands s e (number x) (e + 1)) (sym q) (alone s e (digit-some _ d) n _ _ (begin-digit _ (no-blank _ (omega (arith, digit-low (byte-of s e) d))) d) (digit-stops _ _ p))
 
 -- a letter
 letter-high : (b : ℕ) → is-letter b ≡ true → 65 ≤ b
@@ -260,13 +260,9 @@ letter-high b l = go (ltb b 65) refl
     go false x = ltb-false b 65 x
     go true x = let h = ltb-true b 65 x in clash false (rw (lt-leb 65 b h, lt-leb 97 b (omega (arith, h)), ne-eqb b 95 (λ q. omega (arith, h, q))) at l) refl
 
-letter-no-blank : (b : ℕ) → is-letter b ≡ true → is-blank b ≡ false
-unfolding is-blank
-letter-no-blank b l = let h = letter-high b l in rw (ne-eqb b 32 (λ q. omega (arith, h, q)), lt-leb b 13 (omega (arith, h))) (and-false (leb 9 b))
-
 pub letter-some : (b : ℕ) → is-letter b ≡ true → b ≡ 0 → ⊥
 letter-some b l q = omega (arith, q, letter-high b l)
 
 pub letter-alone : (s : List ℕ) (e : ℕ) → is-letter (byte-of s e) ≡ true → (byte-of s (e + 1) ≡ 0 → ⊥) → (byte-of s (e + 1) ≡ colon → ⊥) → is-name-byte (byte-of s (e + 1)) ≡ false → (b : ℕ) → b ≡ byte-of s e → Lone-letter s e b
 letter-alone s e l n c p b q h =
-    subst (λ (x : ℕ). Stands s e (name (x ∷ [])) (e + 1)) (sym q) (alone s e (letter-some _ l) n _ _ (begin-letter _ (letter-no-blank _ l) l) (name-stops _ _ p c))
+    subst (λ (x : ℕ). Stands s e (name (x ∷ [])) (e + 1)) (sym q) (alone s e (letter-some _ l) n _ _ (begin-letter _ (no-blank _ (omega (arith, letter-high (byte-of s e) l))) l) (name-stops _ _ p c))

@@ -24,13 +24,13 @@ use Rattle.claim.proofs.HeaderCode.{stepped}
 use Rattle.claim.specs.declared.header.Kind.{Kind}
 use Rattle.claim.proofs.HeaderLoop.{gives-skipped, header-told, small-skipped}
 
--- so many are passed: the items, the header under way and its plain tokens
-abbrev Skipping : (s : List ℕ) → List Item → List ℕ → (at here : ℕ) → Type 0
-Skipping s is h at here =
-    (js : List Item) × (w : List ℕ) × (ts : List T.Token) × (told (go (in-skipped is h [])) (claim-tokens s at) ≡ told (go (in-skipped js w ts)) (claim-tokens s here)) × ((g : Given) → Gives is g → Gives js g)
+-- from inside a skipped header, with plain tokens so far, tokens lead on to the inside of one, with items that give the same
+abbrev Skipping : List Item → (header : List ℕ) → (plain from to : List T.Token) → Type 0
+Skipping is h ts us r = (js : List Item) × (w : List ℕ) × (vs : List T.Token) × (told (go (in-skipped is h ts)) us ≡ told (go (in-skipped js w vs)) r) × ((g : Given) → Gives is g → Gives js g)
 
+-- so many are passed
 pub record Passed-so-far (s : List ℕ) (at here : ℕ) : Type 0 where
-  pub same : (is : List Item) (h : List ℕ) → Skipping s is h at here
+  pub same : (is : List Item) (h : List ℕ) → Skipping is h [] (claim-tokens s at) (claim-tokens s here)
   pub past : Onward s at here
 
 pub passed-none : (s : List ℕ) (at : ℕ) → Passed-so-far s at at
@@ -47,10 +47,7 @@ module _ (is : List Item) (h : List ℕ) (ts : List T.Token) (s : List ℕ) (r :
   plain-not t q = rw q refl
 
   -- the header under way, or the next one, goes on
-  abbrev On : List T.Token → Type 0
-  On us = (js : List Item) × (w : List ℕ) × (vs : List T.Token) × (told (go (in-skipped is h ts)) us ≡ told (go (in-skipped js w vs)) r) × ((g : Given) → Gives is g → Gives js g)
-
-  passed-step : (t : Token) → passed-of s t ≡ true → On (spelt s t r)
+  passed-step : (t : Token) → passed-of s t ≡ true → Skipping is h ts (spelt s t r) r
   unfolding is-plain T.is-small
   passed-step (Name a e) q = (is, h, snoc ts (T.name (part s a e)), plain-step (T.name (part s a e)) refl, λ g i. i)
   passed-step (Number v) q = (is, h, snoc ts (T.number v), plain-step (T.number v) refl, λ g i. i)
@@ -104,13 +101,13 @@ module _ {s : List ℕ} {at here : ℕ} (a : Passed-so-far s at here) {r : Seen}
   pub passed-again : passed-of s (r .token) ≡ true → Passed-so-far s at (r .next)
   passed-again e = record { same = λ is h. on is h (a .same is h); past = onward (a .past) (onto (passed-ahead e)) }
     where
-      on : (is : List Item) (h : List ℕ) → Skipping s is h at here → Skipping s is h at (r .next)
+      on : (is : List Item) (h : List ℕ) → Skipping is h [] (claim-tokens s at) (claim-tokens s here) → Skipping is h [] (claim-tokens s at) (claim-tokens s (r .next))
       on is h (js, w, ts, q, k) = let (js′, w′, ts′, q′, k′) = passed-step js w ts s (claim-tokens s (r .next)) (r .token) e in (js′, w′, ts′, q ∙ (ap (λ (us : List T.Token). told (go (in-skipped js w ts)) us) (reads-as n (r .token) refl (passed-reads s (r .token) e)) ∙ q′), λ g i. k′ g (k g i))
 
   pub passed-ended : passed-of s (r .token) ≡ false → Skips s at here
   passed-ended e = record { same = λ is h. on is h (a .same is h); onward = a .past }
     where
-      on : (is : List Item) (h : List ℕ) → Skipping s is h at here → (js : List Item) × (told (go (in-skipped is h [])) (claim-tokens s at) ≡ told (go (in-items whole js)) (claim-tokens s here)) × ((g : Given) → Gives is g → Gives js g)
+      on : (is : List Item) (h : List ℕ) → Skipping is h [] (claim-tokens s at) (claim-tokens s here) → (js : List Item) × (told (go (in-skipped is h [])) (claim-tokens s at) ≡ told (go (in-items whole js)) (claim-tokens s here)) × ((g : Given) → Gives is g → Gives js g)
       on is h (js, w, ts, q, k) = (snoc js (skipped w ts), q ∙ subst (λ (us : List T.Token). told (go (in-skipped js w ts)) us ≡ told (go (in-items whole (snoc js (skipped w ts)))) us) (sym (n .reads)) (passed-not js w ts s (n .rest) (r .token) e), λ g i. gives-skipped (k g i) w ts)
 
 -- what the code tells apart

@@ -25,6 +25,7 @@ use Rattle.claim.specs.declared.header.Kind.{Kind}
 use Rattle.claim.specs.declared.header.Kind.the-variants.{States, Start, Propositions, Acceptance, Skipped, Fault as Bad}
 use Rattle.claim.specs.declared.header.Header.{Header}
 use Rattle.claim.specs.declared.header.Header.the-variants.{Read, Fault}
+use Rattle.model.specs.ClaimLabels.{and-byte, or-byte}
 
 -- a place that takes a number and nothing else
 pub record Wants-number (p : Place) (f : ℕ → Next) : Type 0 where
@@ -137,8 +138,8 @@ Kind-says s k at g r = (name : List ℕ) → Item-on s (λ is. on-kind is name k
 
 -- whether a token goes on with the item before it: other starts, another acceptance
 abbrev pub continues : Kind → Token → Bool
-continues Start t = is-symbol-of t 38
-continues Acceptance t = is-symbol-of t 38 || is-symbol-of t 124
+continues Start t = is-symbol-of t and-byte
+continues Acceptance t = is-symbol-of t and-byte || is-symbol-of t or-byte
 continues States t = false
 continues Propositions t = false
 continues Skipped t = false
