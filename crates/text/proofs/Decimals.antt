@@ -16,7 +16,8 @@ use mir.Syntax.{w32}
 use mir.Val.{SFits, Fits, toZ, ofZ}
 use mir.Facts.{fits-natAbs, toZ-ofZ}
 use borrow.Author.Tests.{ltb-true, ltb-false, le-ltb, leb-true, leb-false, le-leb, eq-eqb, ne-eqb}
-use Rattle.text.specs.Numbers.{is-digit, all-digits, no-leading-zero, is-number, value-from, value, has-minus, without-minus, is-signed, signed-value, digits, decimal, signed-decimal}
+use Rattle.text.specs.Numbers.{is-digit, all-digits, no-leading-zero, is-number, value-from, value, has-minus, without-minus, is-signed, signed-value, digits, decimal, signed-decimal, sign-length, Width}
+use Rattle.text.specs.Promise.{Numbers-shortest, One-length}
 use Rattle.text.specs.Writing.{put, Writes}
 use Rattle.text.proofs.Tests.{or-left, or-right, and-both, both-true}
 use Rattle.text.proofs.Writing.{put-before, put-none, writes-fits}
@@ -97,7 +98,7 @@ digits-least (suc k) v m p h = go m (size-of v) h (λ j a b. digits-least k (v /
     go (suc m) (large s) h r = omega (arith, pow-succ' 10 m, r m (omega arith) (omega (arith, length-more k v s)))
 
 -- WIDTH of a decimal
-pub decimal-some : (v : ℕ) → 1 ≤ length (decimal v)
+decimal-some : (v : ℕ) → 1 ≤ length (decimal v)
 unfolding decimal
 decimal-some v = digits-some 9 v
 
@@ -105,13 +106,9 @@ pub decimal-most : (v : ℕ) → length (decimal v) ≤ 10
 unfolding decimal
 decimal-most v = digits-most 10 v
 
-pub decimal-holds : (v : ℕ) → v < 10 ^ 10 → v < 10 ^ length (decimal v)
+decimal-holds : (v : ℕ) → v < 10 ^ 10 → v < 10 ^ length (decimal v)
 unfolding decimal
 decimal-holds v h = digits-hold 10 v h
-
-pub decimal-least : (v : ℕ) → 1 ≤ v → 10 ^ (length (decimal v) - 1) ≤ v
-unfolding decimal
-decimal-least v p = digits-least 10 v (length (digits 10 v) - 1) p (omega (arith, digits-some 9 v))
 
 pub decimal-short : (v k : ℕ) → 1 ≤ k → v < 10 ^ k → length (decimal v) ≤ k
 unfolding decimal
@@ -121,6 +118,31 @@ decimal-short v k p h = go (size-of v) (leb (length (digits 10 v)) k) refl
     go (small s) t e = omega (arith, length-one 9 v s)
     go (large s) true e = leb-true (length (digits 10 v)) k e
     go (large s) false e = absurd (omega (arith, digits-least 10 v k (omega arith) (omega (arith, leb-false))))
+
+signed-length : (z : ℤ) → length (signed-decimal z) ≡ sign-length z + length (decimal (natAbs z))
+unfolding signed-decimal sign-length
+signed-length (pos v) = omega arith
+signed-length (negsuc v) = omega arith
+
+decimal-width : (v : ℕ) → v < 10 ^ 10 → Width v (length (decimal v))
+decimal-width v h =
+    record {
+      shortest = record { some-digit = decimal-some v; holds = decimal-holds v h; least = λ j p l. decimal-short v j p l };
+      places = λ z e. signed-length z ∙ ap (λ (m : ℕ). sign-length z + length (decimal m)) e;
+    }
+
+pub numbers-shortest : Numbers-shortest
+unfolding Numbers-shortest
+numbers-shortest v h = decimal-width v (omega arith)
+
+pub one-length : One-length
+unfolding One-length
+one-length v j k a b = omega (arith, a .least k (b .some-digit) (b .holds), b .least j (a .some-digit) (a .holds))
+
+-- what is counted is the length of the decimal
+pub width-length : {v k : ℕ} → Width v k → k ≡ length (decimal v)
+unfolding signed-decimal sign-length
+width-length {v} {k} w = omega (arith, w .places (pos v) refl)
 
 -- COUNTING the digits: n are counted, the last of them the last of w, and so many more may come
 pub record Counted (v w n : ℕ) : Type 0 where
@@ -141,8 +163,10 @@ counted-step v w n r h = go (r .fuel) (r .left) (r .long) (r .low)
     go (suc k) a b s =
         record { fuel = k; left = omega arith; long = omega (arith, length-more (suc k) w (omega arith)); low = omega (arith, pow-succ' 10 (suc k)) }
 
-pub counted-end : (v w n : ℕ) → Counted v w n → w ≤ 9 → n ≡ length (decimal v)
-counted-end v w n r h = omega (arith, r .long, length-one (r .fuel) w (omega arith))
+pub counted-end : (v w n : ℕ) → Counted v w n → w ≤ 9 → v < 10 ^ 10 → Width v n
+counted-end v w n r h l =
+    let e : length (decimal v) ≡ n = omega (arith, r .long, length-one (r .fuel) w (omega arith)) in
+    rw e at (decimal-width v l)
 
 -- WRITING from the last digit to the first: those from place i on are written, those of w are left
 pub record Written (at v w i : ℕ) (o z : List ℕ) : Type 0 where
@@ -155,9 +179,10 @@ pub record Written (at v w i : ℕ) (o z : List ℕ) : Type 0 where
   pub place : i ≡ at + length (digits fuel w)
   pub holds : z ≡ put i done o
 
-pub written-start : (at size v : ℕ) (o : List ℕ) → size ≡ length (decimal v) → at + size ≤ length o → Written at v v (at + size) o o
+pub written-start : (at size v : ℕ) (o : List ℕ) → Width v size → at + size ≤ length o → Written at v v (at + size) o o
 unfolding decimal
-written-start at size v o e h =
+written-start at size v o k h =
+    let e : size ≡ length (decimal v) = width-length k in
     record {
       room = omega arith;
       within = omega arith;
@@ -201,8 +226,9 @@ written-step at v w i o z r h = go (r .fuel) (r .whole) (r .place)
         by (large s) =
             next k (sym (append-snoc (digits k (w / 10)) (48 + w % 10) (r .done)) ∙ (rw (digits-more k w s) at a)) (omega (arith, length-more k w s))
 
-pub written-end : (at size v w i : ℕ) (o z : List ℕ) → size ≡ length (decimal v) → Written at v w i o z → i ≤ at → Writes at (decimal v) (at + size) o z
-written-end at size v w i o z q r h = writes-fits at (decimal v) (at + size) o z (r .room) (rw q refl) (go (digits (r .fuel) w) (r .whole) (r .place))
+pub written-end : (at size v w i : ℕ) (o z : List ℕ) → Width v size → Written at v w i o z → i ≤ at → Writes at (decimal v) (at + size) o z
+written-end at size v w i o z k r h =
+    writes-fits at (decimal v) (at + size) o z (r .room) (ap (λ (n : ℕ). at + n) (width-length k)) (go (digits (r .fuel) w) (r .whole) (r .place))
   where
     go : (f : List ℕ) → f ++ r .done ≡ decimal v → i ≡ at + length f → z ≡ put at (decimal v) o
     go [] a p = let e : i ≡ at = omega arith in r .holds ∙ rw (e, a)

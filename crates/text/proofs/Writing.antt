@@ -3,15 +3,17 @@
 use mathlib.Core.Path.{_≡_, refl, sym, ap, _∙_}
 use mathlib.Core.Bool.{Bool, true, false, not}
 use mathlib.Core.List.{List, [], _∷_, _++_, append-assoc}
+use mathlib.Core.Logic.{inl, inr}
 use Prim.Native.Nat.{ℕ, suc, _+_, _-_, _≤_, _<_}
 use native.Mathlib.Nat.{add-zero, zero-add}
 use native.Mathlib.Numerals.{add-one}
 use native.Mathlib.Omega.{arith}
 use lib.Dec.{leb}
 use lib.ListN.{length, getD, set, take, drop, length-append, length-set}
-use lib.Seq.{append-snoc, length-take-le, take-length, take-suc, set-at, sets, sets-eq, length-sets, paste, paste-zero, paste-suc}
+use lib.Seq.{append-snoc, length-take-le, take-length, take-suc, set-at, getD-set-other, sets, sets-eq, length-sets, paste, paste-zero, paste-suc}
 use borrow.Author.Tests.{leb-true, leb-false, le-leb, lt-leb, not-true, not-false}
-use Rattle.text.specs.Writing.{put, no-room, Writes}
+use Rattle.text.specs.Writing.{put, no-room, Writes, Outside}
+use Rattle.text.specs.Promise.{Only-there}
 
 -- PUT is a run of stores
 put-sets : (at : ℕ) (bs o : List ℕ) → at + length bs ≤ length o → put at bs o ≡ sets o at bs
@@ -47,6 +49,29 @@ writes-length {at} {bs} {r} {o} {z} w = go (leb (at + length bs) (length o)) ref
     go : (t : Bool) → leb (at + length bs) (length o) ≡ t → length z ≡ length o
     go true e = let h = leb-true (at + length bs) (length o) e in ap length (w .fits h .1) ∙ length-put at bs o h
     go false e = ap length (w .full (leb-false (at + length bs) (length o) e) .1)
+
+-- no byte outside the place changes
+sets-outside : (at : ℕ) (bs o : List ℕ) (i : ℕ) → Outside at (length bs) i → getD (sets o at bs) i 0 ≡ getD o i 0
+sets-outside at [] o i h = refl
+sets-outside at (b ∷ bs) o i h = sets-outside (suc at) bs (set o at b) i (next h) ∙ getD-set-other o at i b 0 (other h)
+  where
+    next : Outside at (suc (length bs)) i → Outside (suc at) (length bs) i
+    next (inl l) = inl (omega arith)
+    next (inr l) = inr (omega arith)
+
+    other : Outside at (suc (length bs)) i → i ≡ at → ⊥
+    other (inl l) e = omega arith
+    other (inr l) e = omega arith
+
+pub only-there : Only-there
+unfolding Only-there
+only-there at bs r o z w = (writes-length w, λ i h. go i h (leb (at + length bs) (length o)) refl)
+  where
+    go : (i : ℕ) → Outside at (length bs) i → (t : Bool) → leb (at + length bs) (length o) ≡ t → getD z i 0 ≡ getD o i 0
+    go i h true e =
+        let f = leb-true (at + length bs) (length o) e in
+        rw (w .fits f .1, put-sets at bs o f) (sets-outside at bs o i h)
+    go i h false e = rw (w .full (leb-false (at + length bs) (length o) e) .1) refl
 
 -- a writer that had room, one that had none
 pub writes-fits : (at : ℕ) (bs : List ℕ) (r : ℕ) (o z : List ℕ) → at + length bs ≤ length o → r ≡ at + length bs → z ≡ put at bs o → Writes at bs r o z

@@ -4,3 +4,4 @@ pub mod Lines
 pub mod Numbers
 pub mod Reading
 pub mod Writing
+pub mod Promise

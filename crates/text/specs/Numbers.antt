@@ -1,11 +1,12 @@
 -- "Numbers decimal of 1 to 9 digits without leading zeros", read and written, and the same with a minus sign. Assumes
 -- nothing: these are definitions.
+use mathlib.Core.Path.{_≡_}
 use mathlib.Core.Bool.{Bool, true, false, _&&_, _||_, not, cond}
 use mathlib.Core.List.{List, [], _∷_, _++_}
-use Prim.Native.Nat.{ℕ, zero, suc, _+_, _*_, _-_, _/_, _%_}
+use Prim.Native.Nat.{ℕ, zero, suc, _+_, _*_, _-_, _/_, _%_, _^_, _≤_, _<_}
 use lib.Dec.{ltb, leb, eqb}
 use lib.ListN.{length, getD}
-use lib.IntN.{ℤ, pos, negsuc, negℤ}
+use lib.IntN.{ℤ, pos, negsuc, negℤ, natAbs}
 use Rattle.text.specs.Ascii.{minus, digit-0, digit-9}
 use Rattle.text.specs.Lines.{Line, fields, field}
 
@@ -72,3 +73,19 @@ decimal v = digits 10 v
 unfoldable pub signed-decimal : ℤ → List ℕ
 signed-decimal (pos v) = decimal v
 signed-decimal (negsuc v) = minus ∷ decimal (suc v)
+
+-- LENGTH of what is written: "the least number of digits that holds the value"; 0 needs one
+pub record Shortest (v k : ℕ) : Type 0 where
+  pub some-digit : 1 ≤ k
+  pub holds : v < 10 ^ k
+  pub least : (j : ℕ) → 1 ≤ j → v < 10 ^ j → k ≤ j
+
+-- "and one more for a minus sign"
+unfoldable pub sign-length : ℤ → ℕ
+sign-length (pos v) = 0
+sign-length (negsuc v) = 1
+
+-- so many digits are the width of v: the least that hold it, and every number so far from zero takes them and its sign
+pub record Width (v k : ℕ) : Type 0 where
+  pub shortest : Shortest v k
+  pub places : (z : ℤ) → natAbs z ≡ v → length (signed-decimal z) ≡ sign-length z + k

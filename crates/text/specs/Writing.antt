@@ -3,6 +3,7 @@
 use mathlib.Core.Path.{_≡_}
 use mathlib.Core.Bool.{cond}
 use mathlib.Core.List.{List, [], _∷_, _++_}
+use mathlib.Core.Logic.{_⊎_}
 use Prim.Native.Nat.{ℕ, _+_, _≤_, _<_}
 use lib.Dec.{leb}
 use lib.ListN.{length, take, drop}
@@ -24,6 +25,10 @@ pub record Writes (at : ℕ) (bs : List ℕ) (r : ℕ) (o z : List ℕ) : Type 0
 -- what a caller with room uses of it
 pub record Puts (at : ℕ) (bs : List ℕ) (r : ℕ) (o z : List ℕ) : Type 0 where
   pub fits : at + length bs ≤ length o → (r ≡ at + length bs) × (z ≡ put at bs o)
+
+-- "outside that place": a byte before it, or past its so many bytes
+abbrev pub Outside : (at many i : ℕ) → Type 0
+Outside at k i = (i < at) ⊎ (at + k ≤ i)
 
 -- A CHAIN OF WRITERS: each part goes to its place if it has room there, and the next one's place is past it; else the
 -- output stays as it is, and the next one's place is where nothing has room

@@ -1,11 +1,11 @@
 // Writers of bytes and decimals: each puts its bytes straight into their place, or nothing where they have no room.
 ghost use mathlib.Core.Path.{_≡_};
 ghost use mathlib.Core.List.{[], _∷_};
-ghost use Prim.Native.Nat.{_+_};
+ghost use Prim.Native.Nat.{_+_, _≤_};
 ghost use lib.Dec.{leb};
 ghost use lib.IntN.{natAbs};
 ghost use lib.ListN.{length};
-ghost use Rattle.text.specs.Numbers.{decimal, signed-decimal};
+ghost use Rattle.text.specs.Numbers.{decimal, signed-decimal, Width};
 ghost use Rattle.text.specs.Writing.{Writes};
 
 // What a writer answers where it has no room.
@@ -44,9 +44,9 @@ pub fn write_bytes(output: &mut [u8], at: usize, bytes: &[u8]) -> usize
     at + i
 }
 
-// How many digits a number has.
+// The least number of digits that holds the value; a number so far below zero takes one more, for its minus sign.
 fn width(v: u32) -> usize
-    ensures { λ r. ⌜ r ≡ length (decimal v) ⌝ }
+    ensures { λ r. ⌜ Width v r ⌝ }
 {
     let mut w = v;
     let mut n: usize = 1;
@@ -57,14 +57,12 @@ fn width(v: u32) -> usize
     n
 }
 
-// A number in decimal, from its last digit to its first.
-pub fn write_number(output: &mut [u8], at: usize, v: u32) -> usize
+// The digits of a number straight into their places, from the last to the first.
+fn write_digits(output: &mut [u8], at: usize, size: usize, v: u32) -> usize
+    requires { ⌜ Width v size ⌝ }
+    requires { ⌜ at + size ≤ length (now output) ⌝ }
     ensures { λ r. ⌜ Writes at (decimal v) r (now (output .entry)) (now (output .exit)) ⌝ }
 {
-    let size = width(v);
-    if !room(output.len(), at, size) {
-        return NO_ROOM;
-    }
     let end = at + size;
     let mut w = v;
     let mut i = end;
@@ -74,6 +72,17 @@ pub fn write_number(output: &mut [u8], at: usize, v: u32) -> usize
         w = w / 10;
     }
     end
+}
+
+// A number in decimal.
+pub fn write_number(output: &mut [u8], at: usize, v: u32) -> usize
+    ensures { λ r. ⌜ Writes at (decimal v) r (now (output .entry)) (now (output .exit)) ⌝ }
+{
+    let size = width(v);
+    if !room(output.len(), at, size) {
+        return NO_ROOM;
+    }
+    write_digits(output, at, size, v)
 }
 
 // How far a number is from zero; the lowest of all is farther than the highest.
@@ -94,9 +103,10 @@ pub fn write_signed(output: &mut [u8], at: usize, v: i32) -> usize
     if 0 <= v {
         return write_number(output, at, far);
     }
-    if !room(output.len(), at, 1 + width(far)) {
+    let size = width(far);
+    if !room(output.len(), at, 1 + size) {
         return NO_ROOM;
     }
     let next = write_byte(output, at, b'-');
-    write_number(output, next, far)
+    write_digits(output, next, size, far)
 }

@@ -23,7 +23,7 @@ loop-again : tie.Need-loop-again Inv-loop μ-loop
 loop-again c = counted-step _ _ _ (c .before .loop .inv) (omega arith)
 
 returns : tie.Need-returns Inv-loop μ-loop
-returns c = counted-end _ _ _ (c .before .loop .inv) (omega arith)
+returns c = counted-end _ _ _ (c .before .loop .inv) (omega arith) (omega arith)
 
 pub width-spec : {M : Type 1} → statement M
 width-spec = tie.close (tie.spec Inv-loop μ-loop loop-holds add-n loop-less loop-again returns)
