@@ -11,3 +11,4 @@ pub mod Decimals
 pub mod Writing
 pub mod Chains
 pub mod Rows
+pub mod WidthRows
