@@ -18,6 +18,7 @@ pub fn compare_all(comparison: &mut Comparison) -> Result<(), Mismatch> {
     compare_kept_runs(comparison)?;
     compare_buffer_lengths(comparison)?;
     compare_limits(comparison)?;
+    compare_number_lengths(comparison)?;
     compare_long_files(comparison)?;
     compare_small_changes(comparison)?;
     compare_small_graphs(comparison)?;
@@ -102,6 +103,38 @@ fn compare_limits(comparison: &mut Comparison) -> Result<(), Mismatch> {
     let mut owner_too_large = case_of(3, 3, 2);
     owner_too_large.owners[2] = 2;
     compare_whole(comparison, &text_of(&owner_too_large))
+}
+
+/// Answers whose numbers stand where a number gets one digit more: every
+/// distance down to the lowest, and a lasso's edges.
+fn compare_number_lengths(comparison: &mut Comparison) -> Result<(), Mismatch> {
+    let path = Case {
+        accepting: vec![true; MOST_VERTICES],
+        ..case_of(MOST_VERTICES, MOST_VERTICES - 1, 1)
+    };
+    compare_whole(comparison, &text_of(&path))?;
+    for cycle in [9, 10, 99, 100, 999, 1_000, MOST_EDGES - 1] {
+        for stem in [0, 9, 10, 99, 100].into_iter().filter(|&stem| stem < cycle) {
+            compare_whole(comparison, &text_of(&lasso_by(stem, cycle)))?;
+        }
+    }
+    Ok(())
+}
+
+/// A case whose answer is one edge of this number as stem, from vertex 0 to the
+/// last, and one as cycle: the loop there, the last edge of all.
+fn lasso_by(stem: usize, cycle: usize) -> Case {
+    let last = MOST_VERTICES - 1;
+    let from_source = (last - stem..=last).map(|to| (0, to));
+    let rising = (1..last).flat_map(|from| (from + 1..=last).map(move |to| (from, to)));
+    let before_loop = from_source.chain(rising).take(cycle);
+    Case {
+        source: 0,
+        workers: 1,
+        accepting: (0..=last).map(|vertex| vertex == last).collect(),
+        owners: vec![0; MOST_VERTICES],
+        edges: before_loop.chain([(last, last)]).collect(),
+    }
 }
 
 /// A run by rounds and the check of its own answer.

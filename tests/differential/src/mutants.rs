@@ -217,6 +217,7 @@ fn case_mutants() -> Vec<Mutant> {
         mutant("accepting on the stem counts", AcceptingOnStem),
         mutant("cells past 16,384 not zeroed", FarCellsKept),
         mutant("output changed on refusal 10", OutputChanged),
+        mutant("byte past the answer changed", PastAnswerChanged),
         mutant("9 only up to the run's end", NineUpToEnd),
         mutant("-0 accepted", MinusZero),
         mutant("trailing bytes accepted", TrailingBytes),
@@ -321,6 +322,16 @@ impl Faulty for OutputChanged {
     fn leave(&self, outcome: Outcome, before: &Buffers, output: &mut [u8], _work: &mut [i32]) {
         if outcome.refusal == Refusal::ActsRanOut.number() {
             output[0] = !before.output[0];
+        }
+    }
+}
+
+struct PastAnswerChanged;
+impl Faulty for PastAnswerChanged {
+    fn leave(&self, outcome: Outcome, before: &Buffers, output: &mut [u8], _work: &mut [i32]) {
+        if outcome.refusal == 0 {
+            let past = outcome.written as usize;
+            output[past] = !before.output[past];
         }
     }
 }
