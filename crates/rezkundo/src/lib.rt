@@ -49,7 +49,7 @@ pub extern "C" fn rezkundo_claim_moves(text: &[u8], state: u32, values: u32) -> 
 }
 
 // `REZKUNDO_VERSION` in the header that goes with this library.
-const VERSION: u32 = 10200;
+const VERSION: u32 = 10300;
 
 // The product's version as one number.
 #[no_mangle]
