@@ -204,6 +204,9 @@ bad_line 'the first of two bad lines' 2 $'0\nx\ny\n'
 list_fails 'a bad list before a bad case' $'bad: line 2: expected an act, a number of 1 to 9 digits without leading zeros, and a line feed\n' k10 bad
 
 same() { awk -v n="$1" -v s="$2" 'BEGIN { for (i = 0; i < n; i++) print s }'; }
+for line in 9 10 99 100; do
+    bad_line "line $line is bad" "$line" "$(same $((line - 1)) 0)"$'\nx\n'
+done
 same 400000 0 >most
 same 400001 0 >too.many
 same 400000 999999999 >most.wide

@@ -3,7 +3,7 @@ use Rattle.text.proofs.Tests.{and-both}
 use mathlib.Core.Path.{_≡_, refl, sym, ap, _∙_}
 use mathlib.Core.Bool.{Bool, true, false, _&&_, cond}
 use mathlib.Core.List.{List, [], _∷_, _++_, append-assoc, append-nil}
-use Prim.Native.Nat.{ℕ, suc, _+_, _-_, _^_, _≤_, _<_}
+use Prim.Native.Nat.{ℕ, zero, suc, _+_, _-_, _^_, _≤_, _<_}
 use native.Mathlib.Numerals.{add-one}
 use native.Mathlib.Omega.{arith}
 use lib.Dec.{eqb, lit<}
@@ -16,6 +16,7 @@ use Rattle.text.specs.declared.read.Row1.{Row1}
 use Rattle.text.specs.declared.read.Row1.the-variants.{Read, Fault}
 use Rattle.text.proofs.Reading.{some-lines, no-lines, Row, row-rest, row1-read, row1-fault}
 use Rattle.looplist.specs.Listing.{listed, numbers-of, Lists}
+use Rattle.looplist.specs.declared.acts.Listed.{Listed}
 use Rattle.looplist.specs.declared.acts.Listed.the-variants.{Acts, NoAct, TooMany}
 
 -- THE LINE at a place before the text's end, and those after it
@@ -124,3 +125,23 @@ row-past s at p q = row-rises (row1-read p q)
 -- the acts that were read are few: no more than the buffer has room for
 pub few-taken : (n : ℕ) (l : List ℕ) → n ≤ length l → length l ≡ 400000 → length (take n l) < 2 ^ 32
 few-taken n l h e = omega (arith, length-take-le n l h)
+
+-- and so is the line that is no act
+never-act : {A : Type 0} {k n : ℕ} → NoAct n ≡ Acts k → A
+never-act e = let z : _≡_ {A = ℕ} 0 1 = cc in absurd (omega arith)
+
+never-full : {A : Type 0} {n : ℕ} → NoAct n ≡ TooMany → A
+never-full e = let z : _≡_ {A = ℕ} 0 1 = cc in absurd (omega arith)
+
+no-act-near : (room k n : ℕ) (ls : List Line) → NoAct n ≡ listed room k ls → n ≤ k + room
+unfolding listed
+no-act-near room k n [] e = never-act e
+no-act-near zero k n (l ∷ ls) e = never-full e
+no-act-near (suc room) k n (l ∷ ls) e = go (numbers-line 1 l) e (no-act-near room (suc k) n ls)
+  where
+    go : (b : Bool) → NoAct n ≡ cond b (listed room (suc k) ls) (NoAct (suc k)) → (NoAct n ≡ listed room (suc k) ls → n ≤ suc k + room) → n ≤ k + suc room
+    go true e near = omega (arith, near e)
+    go false e near = let s : n ≡ suc k = cc in omega arith
+
+pub few-lines : {s : List ℕ} {r : Listed} {n : ℕ} {xs ys : List ℕ} → Lists s r xs ys → r ≡ NoAct n → length xs ≡ 400000 → n < 2 ^ 32
+few-lines {s} {n = n} {xs} l e k = omega (arith, no-act-near (length xs) 0 n (lines s) (sym e ∙ l .says))

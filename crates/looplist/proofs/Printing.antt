@@ -27,6 +27,10 @@ use Rattle.desk.proofs.Buffers.{long-buffers}
 use Rattle.desk.proofs.Writing.{puts-shows}
 use Rattle.looplist.specs.Printing.{verdict-word, verdict-line, count-line, tally-lines, head, head-room, page, printed}
 
+-- A NUMBER BETWEEN WORDS ends within a buffer that has room for the words and the longest number
+pub between-within : (a b : List ℕ) (v : ℕ) {r : ℕ} {o z : List ℕ} → Puts 0 (a ++ decimal v ++ b) r o z → length a + 10 + length b ≤ length o → r ≤ length z
+between-within a b v p h = puts-shows p (omega (arith, length-append (a ++ decimal v) b, length-append a (decimal v), decimal-most v)) .within
+
 -- THE LINE OF THE VERDICT
 lasso-line : (v : ℕ) → v ≡ 1 → ascii "verdict lasso" ++ (10 ∷ []) ≡ verdict-line v
 unfolding verdict-line verdict-word text joined

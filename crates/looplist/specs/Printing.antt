@@ -32,6 +32,10 @@ head k v n t = count-line (ascii "refusal") k ++ verdict-line v ++ count-line (a
 abbrev pub head-room : ℕ
 head-room = 128
 
+-- words and a number on standard error have room here
+abbrev pub complaint-room : ℕ
+complaint-room = 128
+
 -- THE PAGE: refused; ended, with the answer; or cut short, refusal 10
 unfoldable pub page : (refusal : ℕ) → (ended : Bool) → Case → State → List ℕ
 page (suc k) b c x = head (suc k) no-verdict 0 no-tallies

@@ -1,11 +1,13 @@
-// What standard error says of a list that is not run.
+// What standard error says of a list that is not run: the name of its file, and a number between words.
+ghost use Prim.Native.Nat.{_+_, _≤_};
+ghost use lib.ListN.{length};
+ghost use Rattle.looplist.specs.Printing.{complaint-room};
 use crate::ACTS;
+use crate::page::write_between;
 use desk::complain;
-use libc::STDERR_FILENO;
 
-fn complain_number(n: usize) {
-    io::print_decimal(STDERR_FILENO, n as u64);
-}
+// Room for the words and the number.
+const LINE: usize = 128;
 
 // The name of the list's file.
 fn complain_file() {
@@ -14,18 +16,23 @@ fn complain_file() {
     complain(&name[..n]);
 }
 
-pub(crate) fn complain_of_line(line: usize) {
+fn complain_between(before: &[u8], number: u32, after: &[u8])
+    requires { ⌜ length (now before) + 10 + length (now after) ≤ complaint-room ⌝ }
+{
+    let mut line = [0u8; LINE];
+    let n = write_between(&mut line, 0, before, number, after);
     complain_file();
-    complain(b": line ");
-    complain_number(line);
-    complain(
+    complain(&line[..n]);
+}
+
+pub(crate) fn complain_of_line(line: u32) {
+    complain_between(
+        b": line ",
+        line,
         b": expected an act, a number of 1 to 9 digits without leading zeros, and a line feed\n",
     );
 }
 
-pub(crate) fn complain_of_length(most: usize) {
-    complain_file();
-    complain(b": more than ");
-    complain_number(most);
-    complain(b" acts\n");
+pub(crate) fn complain_of_length(most: u32) {
+    complain_between(b": more than ", most, b" acts\n");
 }

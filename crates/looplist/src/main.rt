@@ -62,8 +62,8 @@ fn replay_text(case: &[u8], text: &[u8]) {
     let mut acts = [0u32; MOST_ACTS];
     match list_acts(text, &mut acts) {
         Listed::Acts(n) => print_replay(case, &acts[..n]),
-        Listed::NoAct(line) => complain_of_line(line),
-        Listed::TooMany => complain_of_length(MOST_ACTS),
+        Listed::NoAct(line) => complain_of_line(line as u32),
+        Listed::TooMany => complain_of_length(MOST_ACTS as u32),
     }
 }
 

@@ -1,7 +1,10 @@
 -- `replay_text`: the acts read are within the buffer.
 use mathlib.Core.Path.{sym}
+use Prim.Native.Nat.{ℕ}
+use native.Mathlib.Omega.{arith}
+use lib.ListN.{length-replicate}
 use lib.Seq.{length-take-le}
-use Rattle.looplist.proofs.Listing.{few-taken}
+use Rattle.looplist.proofs.Listing.{few-taken, few-lines}
 use borrow.Author.Needs.{needs}
 use Rattle.looplist.proofs.replay_text.Statement.{statement}
 use Rattle.looplist.proofs.replay_text.Tie as tie
@@ -29,11 +32,18 @@ print-replay-requires c κs =
 enum-known-line : tie.Need-enum-known-line
 enum-known-line c = search needs
 
+cast-complain-of-line : tie.Need-cast-complain-of-line
+cast-complain-of-line c =
+    omega (arith, few-lines (c .before .before .before .before .list-acts .ensures) (c .before .line .given .1) (length-replicate {0} {A = ℕ} 400000 0))
+
 complain-of-line-requires : tie.Need-complain-of-line-requires
 complain-of-line-requires c κs = search needs
 
 enum-told : tie.Need-enum-told
 enum-told c = search needs
+
+cast-complain-of-length : tie.Need-cast-complain-of-length
+cast-complain-of-length c = search needs
 
 complain-of-length-requires : tie.Need-complain-of-length-requires
 complain-of-length-requires c κs = search needs
@@ -58,8 +68,10 @@ replay-text-spec =
     slice-aggregate-print-replay
     print-replay-requires
     enum-known-line
+    cast-complain-of-line
     complain-of-line-requires
     enum-told
+    cast-complain-of-length
     complain-of-length-requires
     returns
     returns-2
