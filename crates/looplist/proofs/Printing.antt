@@ -27,9 +27,12 @@ use Rattle.desk.proofs.Buffers.{long-buffers}
 use Rattle.desk.proofs.Writing.{puts-shows}
 use Rattle.looplist.specs.Printing.{verdict-word, verdict-line, count-line, tally-lines, head, head-room, page, printed}
 
--- A NUMBER BETWEEN WORDS ends within a buffer that has room for the words and the longest number
-pub between-within : (a b : List ℕ) (v : ℕ) {r : ℕ} {o z : List ℕ} → Puts 0 (a ++ decimal v ++ b) r o z → length a + 10 + length b ≤ length o → r ≤ length z
-between-within a b v p h = puts-shows p (omega (arith, length-append (a ++ decimal v) b, length-append a (decimal v), decimal-most v)) .within
+-- A NUMBER BETWEEN WORDS is no longer than the words and the longest number, and ends where there is room for them
+between-short : (a : List ℕ) (v : ℕ) (b : List ℕ) → length (a ++ decimal v ++ b) ≤ length a + 10 + length b
+between-short a v b = omega (arith, length-append (a ++ decimal v) b, length-append a (decimal v), decimal-most v)
+
+pub between-within : (a : List ℕ) (v : ℕ) (b : List ℕ) {r : ℕ} {o z : List ℕ} → Puts 0 (a ++ decimal v ++ b) r o z → length a + 10 + length b ≤ length o → r ≤ length z
+between-within a v b p h = puts-shows p (omega (arith, between-short a v b)) .within
 
 -- THE LINE OF THE VERDICT
 lasso-line : (v : ℕ) → v ≡ 1 → ascii "verdict lasso" ++ (10 ∷ []) ≡ verdict-line v
@@ -76,7 +79,7 @@ unfolding head count-line text joined
 head-parts k v n t = refl
 
 counted-short : (s : List ℕ) (n : ℕ) → length (counted s n) ≤ length s + 11
-counted-short s n = omega (arith, length-append (s ++ decimal n) (10 ∷ []), length-append s (decimal n), decimal-most n)
+counted-short s n = omega (arith, between-short s n (10 ∷ []))
 
 tally-short : (t : Tallies) → length (tally-lines t) ≤ 55
 tally-short t =

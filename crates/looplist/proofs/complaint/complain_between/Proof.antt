@@ -12,7 +12,7 @@ written-within : (c : tie.After-write-between) → c .write-between .result ≤ 
 written-within c =
     let start = c .before .before .before .before in
     let a = start .args in
-    between-within (a .before .now) (a .after .now) (a .number) (c .write-between .ensures) (start .pre)
+    between-within (a .before .now) (a .number) (a .after .now) (c .write-between .ensures) (start .pre)
 
 slice-aggregate-write-between : tie.Need-slice-aggregate-write-between
 slice-aggregate-write-between c = search needs
