@@ -127,16 +127,10 @@ pub few-taken : (n : ℕ) (l : List ℕ) → n ≤ length l → length l ≡ 400
 few-taken n l h e = omega (arith, length-take-le n l h)
 
 -- and so is the line that is no act
-never-act : {A : Type 0} {k n : ℕ} → NoAct n ≡ Acts k → A
-never-act e = let z : _≡_ {A = ℕ} 0 1 = cc in absurd (omega arith)
-
-never-full : {A : Type 0} {n : ℕ} → NoAct n ≡ TooMany → A
-never-full e = let z : _≡_ {A = ℕ} 0 1 = cc in absurd (omega arith)
-
 no-act-near : (room k n : ℕ) (ls : List Line) → NoAct n ≡ listed room k ls → n ≤ k + room
 unfolding listed
-no-act-near room k n [] e = never-act e
-no-act-near zero k n (l ∷ ls) e = never-full e
+no-act-near room k n [] e = let z : _≡_ {A = ℕ} 0 1 = cc in absurd (omega arith)
+no-act-near zero k n (l ∷ ls) e = let z : _≡_ {A = ℕ} 0 1 = cc in absurd (omega arith)
 no-act-near (suc room) k n (l ∷ ls) e = go (numbers-line 1 l) e (no-act-near room (suc k) n ls)
   where
     go : (b : Bool) → NoAct n ≡ cond b (listed room (suc k) ls) (NoAct (suc k)) → (NoAct n ≡ listed room (suc k) ls → n ≤ suc k + room) → n ≤ k + suc room
