@@ -1,12 +1,14 @@
 -- The bits of words under &, |, ^ and <<, and with them sets of flag values. Assumes nothing.
 use mathlib.Core.Path.{_≡_, refl, sym, ap, _∙_}
 use mathlib.Core.Bool.{Bool, true, false, _&&_, _||_, not, cond}
-use Prim.Native.Nat.{ℕ, zero, suc, _-_, _*_, _/_, _%_, _^_, _<_}
+use mathlib.Core.List.{[], _∷_}
+use Prim.Native.Nat.{ℕ, zero, suc, _+_, _-_, _*_, _/_, _%_, _^_, _<_}
 use native.Mathlib.Nat.{mod-lt, zero-lt-suc, le-refl, zero-div, div-one, zero-mul}
 use native.Mathlib.Numerals.{one-add}
 use native.Mathlib.Omega.{arith}
 use lib.Dec.{ltb, eqb, eqb·zero-suc, eqb·suc-zero, eqb·suc-suc}
 use lib.Bits.{bitAnd, bitOr, bitXor, and-shr, or-shr, xor-shr, and-mod, or-mod, xor-mod, shifted-half, shifted-even}
+use lib.ListN.{getD}
 use lib.Pow.{shr-shr, shl-exact}
 use Rattle.text.proofs.Tests.{clash, and-both, Same, same, other, same?}
 use Rattle.model.specs.ClaimLabels.{Level, Label, always, never, proposition, bit, truth}
@@ -137,8 +139,19 @@ pub never-nothing : Truth-of never nothing
 unfolding true-on
 never-nothing = tabled never nothing refl
 
-pub proposition-tabled : (i j : ℕ) (r w : Values) → i ≡ j → r ≡ w → true-on (proposition j) w ≡ true → Truth-of (proposition i) r
-proposition-tabled i j r w p q e = rw (p, q) (tabled (proposition j) w e)
+-- the flags by their table: up to 5 one word for all, 6 and 7 by words without any or with all
+abbrev flag-word : ℕ → ℕ
+flag-word k =
+    getD
+    (12297829382473034410 ∷ 14757395258967641292 ∷ 17361641481138401520 ∷ 18374966859414961920 ∷ 18446462603027742720 ∷ 18446744069414584320 ∷ 0 ∷ (2 ^ 64 - 1) ∷ [])
+    k 0
+
+abbrev flag-values : ℕ → Values
+flag-values i = record { a = flag-word (i - i / 7); b = flag-word (i + i / 6 - 2 * (i / 7)); c = flag-word i; d = flag-word (i + i / 6 - i / 7) }
+
+pub flag-truth : (i : ℕ) → i < 8 → Truth-of (proposition i) (flag-values i)
+unfolding true-on
+flag-truth i h = tabled (proposition i) (flag-values i) (below 8 (λ i. true-on (proposition i) (flag-values i)) refl i h)
 
 pub holds-everything : (x : ℕ) → x < most-values → holds everything x ≡ true
 unfolding truth

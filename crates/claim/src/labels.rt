@@ -78,30 +78,30 @@ pub(crate) fn union(v: Values, w: Values) -> Values
     }
 }
 
-// The values with the flag `i`.
+// The values with the flag `i`. Up to 5 a flag comes and goes within 64 values; 6 and 7 take words without any or with all.
+// Read from a table: a branch by the flag is often mispredicted.
 fn flagged(i: u32) -> Values
     requires { ⌜ i < 8 ⌝ }
     ensures { λ r. ⌜ Truth-of (proposition i) r ⌝ }
 {
-    match i {
-        0 => repeated(0xAAAA_AAAA_AAAA_AAAA),
-        1 => repeated(0xCCCC_CCCC_CCCC_CCCC),
-        2 => repeated(0xF0F0_F0F0_F0F0_F0F0),
-        3 => repeated(0xFF00_FF00_FF00_FF00),
-        4 => repeated(0xFFFF_0000_FFFF_0000),
-        5 => repeated(0xFFFF_FFFF_0000_0000),
-        6 => Values {
-            a: 0,
-            b: ALL,
-            c: 0,
-            d: ALL,
-        },
-        _ => Values {
-            a: 0,
-            b: 0,
-            c: ALL,
-            d: ALL,
-        },
+    let words = [
+        0xAAAA_AAAA_AAAA_AAAA,
+        0xCCCC_CCCC_CCCC_CCCC,
+        0xF0F0_F0F0_F0F0_F0F0,
+        0xFF00_FF00_FF00_FF00,
+        0xFFFF_0000_FFFF_0000,
+        0xFFFF_FFFF_0000_0000,
+        0,
+        ALL,
+    ];
+    let k = i as usize;
+    let six = k / 6;
+    let seven = k / 7;
+    Values {
+        a: words[k - seven],
+        b: words[k + six - 2 * seven],
+        c: words[k],
+        d: words[k + six - seven],
     }
 }
 
