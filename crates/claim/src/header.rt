@@ -14,6 +14,7 @@ use crate::tokens::claim_token;
 use crate::tokens::fault;
 use crate::tokens::is_symbol;
 use crate::tokens::lone_digit;
+use crate::tokens::name_or_token;
 use crate::tokens::word;
 
 // A number and the place past it; or the refusal.
@@ -338,7 +339,7 @@ fn skipped_end(text: &[u8], at: usize) -> usize
 {
     let mut here = at;
     loop {
-        let seen = claim_token(text, here);
+        let seen = name_or_token(text, here);
         let t = seen.token;
         let next = seen.next;
         if !is_passed(text, t) {

@@ -383,6 +383,17 @@ pub(crate) fn byte_at(text: &[u8], at: usize) -> u8
     }
 }
 
+// The token at `at` of a claim, as `claim_token` tells it: for a loop over names, where a call for each takes long.
+pub(crate) fn name_or_token(text: &[u8], at: usize) -> Seen
+    ensures { λ r. ⌜ Sees (now (text .entry)) longest-claim at (claim-tokens (now (text .entry)) at) r ⌝ }
+{
+    let e = past_blanks(text, at);
+    if letter(byte_at(text, e)) {
+        return name_from(text, e, Counts::LONGEST);
+    }
+    claim_token(text, e)
+}
+
 // The number at `at` of a claim, where it has one digit and a byte follows it; else 10, which says nothing.
 pub(crate) fn lone_digit(text: &[u8], at: usize) -> u32
     ensures { λ r. ⌜ Lone-digit (now (text .entry)) at r ⌝ }

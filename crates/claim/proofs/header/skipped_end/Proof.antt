@@ -18,20 +18,20 @@ abbrev μ-loop : tie.MeasureT-loop
 loop-holds : tie.Need-loop-holds Inv-loop μ-loop
 loop-holds c = passed-none _ _
 
-claim-token-requires : tie.Need-claim-token-requires Inv-loop μ-loop
-claim-token-requires c κs = search needs
+name-or-token-requires : tie.Need-name-or-token-requires Inv-loop μ-loop
+name-or-token-requires c κs = search needs
 
 is-passed-requires : tie.Need-is-passed-requires Inv-loop μ-loop
 is-passed-requires c κs = search needs
 
 returns : tie.Need-returns Inv-loop μ-loop
-returns c = passed-ended (c .before .before .before .loop .inv) (c .before .before .claim-token .ensures) (sym (c .before .is-passed .ensures) ∙ refuted _ _ (c .if1 .taken) refl)
+returns c = passed-ended (c .before .before .before .loop .inv) (c .before .before .name-or-token .ensures) (sym (c .before .is-passed .ensures) ∙ refuted _ _ (c .if1 .taken) refl)
 
 loop-less : tie.Need-loop-less Inv-loop μ-loop
-loop-less c = let h = passed-ahead (c .before .before .before .loop .inv) (c .before .before .claim-token .ensures) (sym (c .before .is-passed .ensures) ∙ upheld _ _ (c .if1 .left) refl) in omega (arith, h .more, h .inside)
+loop-less c = let h = passed-ahead (c .before .before .before .loop .inv) (c .before .before .name-or-token .ensures) (sym (c .before .is-passed .ensures) ∙ upheld _ _ (c .if1 .left) refl) in omega (arith, h .more, h .inside)
 
 loop-again : tie.Need-loop-again Inv-loop μ-loop
-loop-again c = passed-again (c .before .before .before .loop .inv) (c .before .before .claim-token .ensures) (sym (c .before .is-passed .ensures) ∙ upheld _ _ (c .if1 .left) refl)
+loop-again c = passed-again (c .before .before .before .loop .inv) (c .before .before .name-or-token .ensures) (sym (c .before .is-passed .ensures) ∙ upheld _ _ (c .if1 .left) refl)
 
 pub skipped-end-spec : {M : Type 1} → statement M
 skipped-end-spec =
@@ -40,7 +40,7 @@ skipped-end-spec =
     Inv-loop
     μ-loop
     loop-holds
-    claim-token-requires
+    name-or-token-requires
     is-passed-requires
     returns
     loop-less
