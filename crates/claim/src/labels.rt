@@ -79,7 +79,7 @@ pub(crate) fn union(v: Values, w: Values) -> Values
 }
 
 // The values with the flag `i`. Up to 5 a flag comes and goes within 64 values; 6 and 7 take words without any or with all.
-// Read from a table: a branch by the flag is often mispredicted.
+// Read from a table: with a branch by the flag, labels with brackets take longer (docs/BENCH.md).
 fn flagged(i: u32) -> Values
     requires { ⌜ i < 8 ⌝ }
     ensures { λ r. ⌜ Truth-of (proposition i) r ⌝ }

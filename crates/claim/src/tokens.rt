@@ -383,7 +383,7 @@ pub(crate) fn byte_at(text: &[u8], at: usize) -> u8
     }
 }
 
-// The token at `at` of a claim, as `claim_token` tells it: for a loop over names, where a call for each takes long.
+// The token at `at` of a claim, as `claim_token` tells it; a name is read without a call, for a loop over many.
 pub(crate) fn name_or_token(text: &[u8], at: usize) -> Seen
     ensures { λ r. ⌜ Sees (now (text .entry)) longest-claim at (claim-tokens (now (text .entry)) at) r ⌝ }
 {

@@ -16,7 +16,7 @@ fn complain_file() {
     complain(&name[..n]);
 }
 
-// Says of the list's file a number between words.
+// Prints the name of the list's file, and then the number between the words.
 fn complain_between(before: &[u8], number: u32, after: &[u8])
     requires { ⌜ length (now before) + 10 + length (now after) ≤ complaint-room ⌝ }
 {
