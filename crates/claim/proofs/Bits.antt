@@ -1,17 +1,17 @@
--- The bits of words under &, |, ^ and <<, and with them sets of flag values. Assumes nothing.
+-- The bits of shifted words, and sets of flag values under complement, intersection and union. Assumes nothing.
 use mathlib.Core.Path.{_≡_, refl, sym, ap, _∙_}
 use mathlib.Core.Bool.{Bool, true, false, _&&_, _||_, not, cond}
 use mathlib.Core.List.{[], _∷_}
 use Prim.Native.Nat.{ℕ, zero, suc, _+_, _-_, _*_, _/_, _%_, _^_, _<_}
 use native.Mathlib.Nat.{mod-lt, zero-lt-suc, le-refl, zero-div, div-one, zero-mul}
-use native.Mathlib.Numerals.{one-add}
 use native.Mathlib.Omega.{arith}
 use lib.Dec.{ltb, eqb, eqb·zero-suc, eqb·suc-zero, eqb·suc-suc}
-use lib.Bits.{bitAnd, bitOr, bitXor, and-shr, or-shr, xor-shr, and-mod, or-mod, xor-mod, shifted-half, shifted-even}
+use lib.Bits.{bitAnd, bitOr, bitXor, shifted-half, shifted-even}
 use lib.ListN.{getD}
-use lib.Pow.{shr-shr, shl-exact}
+use lib.Pow.{shl-exact}
 use Rattle.text.proofs.Tests.{clash, and-both, Same, same, other, same?}
 use Rattle.model.specs.ClaimLabels.{Level, Label, always, never, proposition, bit, truth}
+use Rattle.model.proofs.Bits.{bit-and, bit-or, flip-if, bit-xor, bit-half, bit-zero}
 use Rattle.claim.specs.LabelSays.{most-values, holds, Truth-of, everything, nothing, word-by-word, complement-of, intersection-of, union-of}
 use Rattle.claim.specs.declared.labels.Values.{Values}
 
@@ -29,40 +29,7 @@ below (suc n) p e v h = go (and-both (p n) (all-below n p) e) (same? v n) (λ f 
     go (d, f) (same q) less = ap p q ∙ d
     go (d, f) (other q) less = less f (omega (arith, h, q))
 
--- WORDS: an operation digit by digit
-on-digits : (P : ℕ → ℕ → Type 0) → P 0 0 → P 0 1 → P 1 0 → P 1 1 → (x y : ℕ) → x < 2 → y < 2 → P x y
-on-digits P p q r s zero zero h k = p
-on-digits P p q r s zero (suc zero) h k = q
-on-digits P p q r s (suc zero) zero h k = r
-on-digits P p q r s (suc zero) (suc zero) h k = s
-on-digits P p q r s (suc (suc x)) y h k = absurd (omega (arith, h))
-on-digits P p q r s zero (suc (suc y)) h k = absurd (omega (arith, k))
-on-digits P p q r s (suc zero) (suc (suc y)) h k = absurd (omega (arith, k))
-
-module _ (op : ℕ → ℕ → ℕ) (f : Bool → Bool → Bool) (shifted : (a b k : ℕ) → op a b / 2 ^ k ≡ op (a / 2 ^ k) (b / 2 ^ k)) (lowest : (a b k : ℕ) → op a b % 2 ^ k ≡ op (a % 2 ^ k) (b % 2 ^ k)) (digits : (x y : ℕ) → x < 2 → y < 2 → eqb (op x y) 1 ≡ f (eqb x 1) (eqb y 1)) where
-  bit-by : (a b i : ℕ) → bit (op a b) i ≡ f (bit a i) (bit b i)
-  unfolding bit
-  bit-by a b i =
-      ap (λ (x : ℕ). eqb (x % 2) 1) (shifted a b i)
-      ∙ (ap (λ (x : ℕ). eqb x 1) (lowest (a / 2 ^ i) (b / 2 ^ i) 1) ∙ digits (a / 2 ^ i % 2) (b / 2 ^ i % 2) (mod-lt _ (zero-lt-suc 1)) (mod-lt _ (zero-lt-suc 1)))
-
-pub bit-and : (a b i : ℕ) → bit (bitAnd a b) i ≡ (bit a i && bit b i)
-bit-and = bit-by bitAnd _&&_ and-shr and-mod (on-digits (λ (x y : ℕ). eqb (bitAnd x y) 1 ≡ (eqb x 1 && eqb y 1)) refl refl refl refl)
-
-pub bit-or : (a b i : ℕ) → bit (bitOr a b) i ≡ (bit a i || bit b i)
-bit-or = bit-by bitOr _||_ or-shr or-mod (on-digits (λ (x y : ℕ). eqb (bitOr x y) 1 ≡ (eqb x 1 || eqb y 1)) refl refl refl refl)
-
-abbrev flip-if : Bool → Bool → Bool
-flip-if a b = cond b (not a) a
-
-pub bit-xor : (a b i : ℕ) → bit (bitXor a b) i ≡ cond (bit b i) (not (bit a i)) (bit a i)
-bit-xor = bit-by bitXor flip-if xor-shr xor-mod (on-digits (λ (x y : ℕ). eqb (bitXor x y) 1 ≡ flip-if (eqb x 1) (eqb y 1)) refl refl refl refl)
-
 -- `1 << t`
-pub bit-half : (x d : ℕ) → bit x (suc d) ≡ bit (x / 2) d
-unfolding bit
-bit-half x d = ap (λ (y : ℕ). eqb (y % 2) 1) (ap (λ (k : ℕ). x / 2 ^ k) (sym (one-add d)) ∙ sym (shr-shr x 1 d))
-
 bit-one : (t d : ℕ) → bit (1 * 2 ^ t) d ≡ eqb d t
 unfolding bit
 bit-one zero zero = refl
@@ -72,10 +39,6 @@ bit-one (suc t) (suc d) = bit-half (1 * 2 ^ suc t) d ∙ (ap (λ (y : ℕ). bit 
 
 bit-shifted : (t d : ℕ) → t < 32 → bit (1 * 2 ^ t % 2 ^ 32) d ≡ eqb d t
 bit-shifted t d h = rw (shl-exact 1 t 32 (le-refl 2) (omega (arith, h))) (bit-one t d)
-
-pub bit-zero : (d : ℕ) → bit 0 d ≡ false
-unfolding bit
-bit-zero d = rw (zero-div (2 ^ d)) refl
 
 -- `x % 2 << t`
 pub bit-digit : (x t d : ℕ) → t < 32 → bit (x % 2 * 2 ^ t % 2 ^ 32) d ≡ (bit x 0 && eqb d t)

@@ -31,7 +31,8 @@ use Rattle.claim.specs.declared.body.Whole.the-variants.{Taken, Refused}
 use Rattle.claim.proofs.Places.{onward}
 use Rattle.claim.proofs.header.Past.{the-type as past-type}
 use Rattle.claim.proofs.header.Found.{the-type as found-type}
-use Rattle.claim.proofs.Bits.{bit-zero, bit-set}
+use Rattle.model.proofs.Bits.{bit-zero}
+use Rattle.claim.proofs.Bits.{bit-set}
 use Rattle.claim.proofs.Held.{line-here, line-other, adds-then}
 
 -- WHAT FOLLOWS A NUMBER: name, mark, edges

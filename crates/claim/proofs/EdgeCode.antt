@@ -28,7 +28,8 @@ use Rattle.claim.specs.declared.header.Past.the-variants.{To, Fault}
 use Rattle.claim.proofs.HeaderCode.{told-fault, number-taken}
 use Rattle.claim.proofs.Places.{over-blanks}
 use Rattle.claim.proofs.Signs.{label-sign, mark-sign, sign-is, sign-past, sign-not}
-use Rattle.claim.proofs.Bits.{bit-zero, bit-set}
+use Rattle.model.proofs.Bits.{bit-zero}
+use Rattle.claim.proofs.Bits.{bit-set}
 use Rattle.claim.proofs.MoveCode.{Gathers, gathers-none, gathers-one, edges-add}
 
 -- THE LABEL, from its [ on

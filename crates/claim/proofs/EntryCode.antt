@@ -24,7 +24,7 @@ use Rattle.claim.specs.Judging.{counts-of, judged-claim, Copied}
 use Rattle.claim.specs.declared.Counts.{Counts}
 use Rattle.claim.specs.declared.Judged.{Judged}
 use Rattle.claim.specs.declared.Judged.the-variants.{Refused, Accepted}
-use Rattle.claim.proofs.Bits.{bit-zero}
+use Rattle.model.proofs.Bits.{bit-zero}
 use Rattle.claim.proofs.JudgeCode.{no-claim}
 
 -- A PART copied, so many cells

@@ -43,7 +43,7 @@ use Rattle.claim.specs.declared.Counts.{Counts}
 use Rattle.claim.specs.declared.Judged.{Judged}
 use Rattle.claim.specs.declared.Judged.the-variants.{Refused, Accepted}
 use Rattle.claim.proofs.Judged.{the-type as judged-type}
-use Rattle.claim.proofs.Bits.{bit-zero}
+use Rattle.model.proofs.Bits.{bit-zero}
 
 -- THE OPENING of the whole text, and of the part that is looked at
 all-tokens : (s : List ℕ) → tokens-at s (length s) 0 ≡ lex (length s) T.between s

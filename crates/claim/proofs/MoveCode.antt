@@ -20,7 +20,8 @@ use Rattle.claim.specs.LabelSays.{most-values, holds, union-of}
 use Rattle.claim.specs.Cells.{name-cell, length-cell, lead-cell, move-cell, moves-from, claim-cells, set-words, set-of, word-moves, set-moves, Added, Gathered, Led, Line-held, Adds}
 use Rattle.claim.specs.BodySays.{with-edges}
 use Rattle.claim.specs.declared.labels.Values.{Values}
-use Rattle.claim.proofs.Bits.{bit-or, bit-half, bit-digit, bit-zero, bit-set, holds-union, never-nothing}
+use Rattle.model.proofs.Bits.{bit-or, bit-half, bit-zero}
+use Rattle.claim.proofs.Bits.{bit-digit, bit-set, holds-union, never-nothing}
 use Rattle.claim.proofs.Held.{Same-row, adds}
 
 eqb-turn : (a b : ℕ) → eqb a b ≡ eqb b a
