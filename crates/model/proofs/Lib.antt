@@ -38,3 +38,6 @@ pub mod ClaimDefinite
 pub mod ClaimSound
 pub mod ClaimWhole
 pub mod ClaimRows
+pub mod Charts
+pub mod ChartBits
+pub mod ChartRows

@@ -13,6 +13,9 @@ pub mod ClaimTable
 pub mod Claim
 pub mod ClaimEntry
 pub mod ClaimPromise
+pub mod Chart
+pub mod ChartPromise
 pub mod Promise
 pub mod KeptRuns
 pub mod ClaimRows
+pub mod ChartRows

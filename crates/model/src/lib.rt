@@ -41,3 +41,12 @@ pub struct Claimed {
     pub name_at: [u32; 15],
     pub name_length: [u32; 15],
 }
+
+// Of a chart: refusal 0, 17, 18 or 19; with 18 and 19 the first pair of a mode and a combination of flags that has no rule
+// or two, else 0 and 0.
+#[repr(C)]
+pub struct Charted {
+    pub refusal: u32,
+    pub mode: u32,
+    pub combination: u32,
+}
