@@ -105,11 +105,11 @@ pub record Line-named (s : List ℕ) (at : ℕ) (names : List ℕ) (z : ℕ) : T
   pub line : line-is names (line-here s at) ≡ true
   pub past : past-line s at ≡ z
 
-named-go : (t : Bool) (x z : ℕ) → cond t (Past x) Other ≡ Past z → (t ≡ true) × (x ≡ z)
+pub named-go : (t : Bool) (x z : ℕ) → cond t (Past x) Other ≡ Past z → (t ≡ true) × (x ≡ z)
 named-go true x z h = (refl, cc)
 named-go false x z h = (cc, cc)
 
-other-go : (t : Bool) (x : ℕ) → cond t (Past x) Other ≡ Other → t ≡ false
+pub other-go : (t : Bool) (x : ℕ) → cond t (Past x) Other ≡ Other → t ≡ false
 other-go true x h = cc
 other-go false x h = refl
 
