@@ -1,9 +1,11 @@
 // The C interface: the entries under their exported names, and the version. include/rezkundo.h declares them; a
-// slice crosses as a pointer and a length. The entries' contracts are `model`'s Entry and ClaimEntry definitions.
+// slice crosses as a pointer and a length. The entries' contracts are `model`'s Entry, ClaimEntry and Chart definitions.
 ghost use mathlib.Core.Path.{_≡_};
 ghost use Rattle.model.specs.Entry.{Check-says, List-says, Rounds-say};
 ghost use Rattle.model.specs.ClaimEntry.{Claim-says, Moves-say};
+ghost use Rattle.model.specs.Chart.{chart-says};
 ghost use Rattle.rezkundo.specs.Version.{product-version};
+use model::Charted;
 use model::Checked;
 use model::Claimed;
 use model::Outcome;
@@ -46,6 +48,13 @@ pub extern "C" fn rezkundo_claim_moves(text: &[u8], state: u32, values: u32) -> 
     ensures { λ r. ⌜ Moves-say (now (text .entry)) state values r ⌝ }
 {
     claim::claim_moves(text, state, values)
+}
+
+#[no_mangle]
+pub extern "C" fn rezkundo_check_chart(chart: &[u8]) -> Charted
+    ensures { λ r. ⌜ r ≡ chart-says (now (chart .entry)) ⌝ }
+{
+    chart::check_chart(chart)
 }
 
 // `REZKUNDO_VERSION` in the header that goes with this library.
