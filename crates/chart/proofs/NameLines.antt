@@ -9,7 +9,7 @@ use native.Mathlib.Numerals.{add-one}
 use lib.Dec.{leb, eqb}
 use lib.ListN.{length, getD, take, drop, drop-of-length-le}
 use lib.Seq.{drop-cons}
-use borrow.Author.Tests.{eq-eqb, ne-eqb, le-leb, lt-leb}
+use borrow.Author.Tests.{eq-eqb, ne-eqb, leb-true, le-leb, lt-leb}
 use Rattle.text.specs.Ascii.{line-feed, space}
 use Rattle.text.specs.Lines.{Line, lines, line-at, put-first, fields, field, open-line, closed-line}
 use Rattle.text.specs.Numbers.{is-digit}
@@ -162,7 +162,7 @@ module _ {s : List ℕ} {at n here q : ℕ} (g : Names-left s at n here q) where
       let t = named-go (name-line (line-here s here)) (past-line s here) z (sym a ∙ b) in
       record { way = lines-more (g .way) h (sym (t .1)); left = rw (← t .1) (sym (names-next h ∙ (rw (t .0) refl))) }
 
--- a name has one field, which is the whole line
+-- A NAME has one field, which is the whole line
 name-no-space : (b : ℕ) → is-alphanumeric b ≡ true → eqb b space ≡ false
 name-no-space b h = ne-eqb b space (λ e. clash (is-alphanumeric b) h (rw e (unfold is-alphanumeric is-capital is-small is-digit in refl)))
 
@@ -173,12 +173,17 @@ one-field (b ∷ w) h =
     let n = and-both (is-alphanumeric b) (all-alphanumeric w) h in
     rw (name-no-space b (n .0), one-field w (n .1)) refl
 
-pub name-field : (l : Line) → name-line l ≡ true → field l 0 ≡ l .text
+pub record Named-line (l : Line) : Type 0 where
+  pub field : field l 0 ≡ l .text
+  pub short : length (l .text) ≤ longest-name
+
+pub named-line : (l : Line) → name-line l ≡ true → Named-line l
 unfolding name-line is-name field
-name-field l h =
+named-line l h =
     let a = and-both (l .closed) ((leb 1 (length (l .text)) && leb (length (l .text)) longest-name) && all-alphanumeric (l .text)) h in
     let n = and-both (leb 1 (length (l .text)) && leb (length (l .text)) longest-name) (all-alphanumeric (l .text)) (a .1) in
-    rw (one-field (l .text) (n .1)) refl
+    let m = and-both (leb 1 (length (l .text))) (leb (length (l .text)) longest-name) (n .0) in
+    record { field = rw (one-field (l .text) (n .1)) refl; short = leb-true (length (l .text)) longest-name (m .1) }
 
 line-later : (ls : List Line) (q : ℕ) → line-at ls (suc q) ≡ line-at (drop 1 ls) q
 unfolding line-at

@@ -3,12 +3,13 @@
 use mathlib.Core.Path.{_≡_, refl, sym, ap, _∙_}
 use mathlib.Core.Bool.{Bool, true, false, _&&_, cond, and-false}
 use mathlib.Core.List.{List, [], _∷_, _++_}
+use mathlib.Core.Logic.{_⊎_}
 use Prim.Native.Nat.{ℕ, _+_, _*_, _^_, _≤_, _<_}
 use native.Mathlib.Omega.{arith}
 use native.Mathlib.Nat.{pow-le-pow-right, one-le-pow}
 use lib.Dec.{ltb, leb, eqb, lit<}
 use lib.ListN.{length, getD, take, drop, replicate, length-replicate, getD-replicate, List·getD-append}
-use borrow.Author.Tests.{le-leb, lt-leb, leb-true, leb-false, eq-eqb, ne-eqb}
+use borrow.Author.Tests.{le-leb, lt-leb, leb-true, leb-false, eq-eqb, ne-eqb, eqb-false}
 use Rattle.text.specs.Lines.{Line, lines, line-at, line-is, field}
 use Rattle.text.specs.Numbers.{numbers-line, number-at}
 use Rattle.text.specs.Reading.{line-here, field-here, skip}
@@ -19,9 +20,10 @@ use Rattle.text.proofs.Tests.{and-both}
 use Rattle.text.proofs.Writing.{put-front}
 use Rattle.text.proofs.Reading.{Row, No-row, Line-named, named-go, other-go}
 use Rattle.model.specs.Case.{known-version, longest-file}
-use Rattle.model.specs.Chart.{most-modes, most-flags, Rule, combinations, next-mode, chart-names, mode-names, rule-names, chart-counts-good, chart-head-good, names-right, rules-in, first-bad, charted, rules-fit, chart-head-right, chart-rest-right, chart-right, chart-in, chart-says}
+use Rattle.model.specs.Chart.{most-modes, most-flags, longest-name, mode-name, name-line, Rule, combinations, next-mode, chart-names, mode-names, rule-names, chart-counts-good, chart-head-good, names-right, rules-in, first-bad, charted, rules-fit, chart-head-right, chart-rest-right, chart-right, chart-in, chart-says}
 use Rattle.model.specs.declared.Charted.{Charted}
-use Rattle.model.proofs.Charts.{chart-passed, next-base}
+use Rattle.model.specs.ChartPromise.{First-bad-pair}
+use Rattle.model.proofs.Charts.{chart-passed, next-base, right-bad, first-bad-pair}
 use Rattle.text.proofs.Places.{skip-one, skip-add, skip-last, skip-lines, skip-line}
 use Rattle.chart.specs.Pairs.{most-combinations, most-pairs, Fresh, Marked, Rules-read, table-says, chart-entries, table-after}
 use Rattle.chart.specs.Reading.{names-here, name-place, counts-in, head-says, rules-place, rest-right, Chart-laid, returned, read-says, Chart-read}
@@ -30,7 +32,7 @@ use Rattle.chart.specs.declared.Head.{Head}
 use Rattle.chart.specs.declared.Head.the-variants.{Fault, Counts}
 use Rattle.chart.specs.declared.Read.{Read}
 use Rattle.chart.specs.declared.Read.the-variants.{Faulty, Bad, Accepted}
-use Rattle.chart.proofs.NameLines.{name-field, names-each, text-at}
+use Rattle.chart.proofs.NameLines.{named-line, names-each, text-at}
 use Rattle.chart.proofs.Entries.{pairs-fit}
 use Rattle.chart.proofs.BadPairs.{table-first, table-entries, entries-long, entry-at}
 
@@ -297,16 +299,52 @@ module _ {s : List ℕ} {at m c : ℕ} {r : Named} where
 pub read-returns : {s t t′ : List ℕ} {r x : Read} → Chart-read s r t t′ → r ≡ x → returned x ≡ chart-says s
 read-returns g q = ap returned (sym q) ∙ g .returns
 
+-- A BAD PAIR is told of a right text, and its mode is the chart's
+pub record Bad-read (s : List ℕ) (h : Chart) (c : Charted) : Type 0 where
+  pub right : chart-right s ≡ true
+  pub counts : counts-in s ≡ h
+  pub said : chart-says s ≡ c
+  pub refusal : (c .refusal ≡ 18) ⊎ (c .refusal ≡ 19)
+
+pub bad-read : {s t t′ : List ℕ} {h : Chart} {c : Charted} {r : Read} → Chart-read s r t t′ → r ≡ Bad h c → Bad-read s h c
+unfolding read-says
+bad-read {s} {h = h} {c = c} g q = go (chart-right s) (eqb (chart-says s .refusal) 0) refl refl (sym (g .answer) ∙ q)
+  where
+    go : (a b : Bool) → chart-right s ≡ a → eqb (chart-says s .refusal) 0 ≡ b → cond a (cond b (Accepted (counts-in s)) (Bad (counts-in s) (chart-says s))) Faulty ≡ Bad h c → Bad-read s h c
+    go false b e z q = let y : _≡_ {A = ℕ} 0 1 = cc in absurd (omega arith)
+    go true true e z q = let y : _≡_ {A = ℕ} 0 1 = cc in absurd (omega arith)
+    go true false e z q =
+        let y : chart-says s ≡ c = cc in
+        record { right = e; counts = cc; said = y; refusal = rw y at (right-bad s e (eqb-false (chart-says s .refusal) 0 z)) }
+
+pub bad-mode : {s : List ℕ} {h : Chart} {c : Charted} → Bad-read s h c → c .mode < chart-in s .modes
+unfolding First-bad-pair
+bad-mode {s} g = rw (g .said) at (first-bad-pair s (rw (g .said) (g .refusal)) .mode-within)
+
+pub bad-flags : {s : List ℕ} {h : Chart} {c : Charted} → Bad-read s h c → (chart-in s .flags ≡ h .flags) × (h .flags ≤ most-flags)
+unfolding chart-in counts-in chart-right
+bad-flags {s} g =
+    let r = and-both (chart-head-right s) (chart-rest-right s) (g .right) in
+    (ap (λ (x : Chart). x .flags) (g .counts), in-range (record { right = r .0; counts = g .counts; place = refl }) .flags)
+
 -- THE NAME OF A MODE is the field that stands there
-pub name-part : (s : List ℕ) → chart-right s ≡ true → (q : ℕ) → q < chart-in s .modes → field-here s (name-place s q) ≡ getD (chart-in s .names) q []
-unfolding chart-right chart-rest-right chart-in
-name-part s h q l =
-    let ls = drop 3 (lines s) in
-    let m = number-at (line-at (lines s) 1) 1 in
-    let rest = rules-fit m (2 ^ number-at (line-at (lines s) 1) 3) (drop (4 + m) (lines s)) in
-    let n : names-right m ls ≡ true = and-both (names-right m ls) (line-is rule-names (line-at (lines s) (3 + m)) && rest) (and-both (chart-head-right s) _ h .1) .0 in
-    let e : line-here s (name-place s q) ≡ line-at ls q = skip-line q s (skip 3 s 0) ∙ ap (λ (x : List Line). line-at x q) (skip-lines 3 s 0) in
-    ap (λ (x : Line). field x 0) e ∙ name-field (line-at ls q) (names-each m ls q l n) ∙ sym (text-at m ls q l)
+module _ (s : List ℕ) (h : chart-right s ≡ true) (q : ℕ) (l : q < chart-in s .modes) where
+  mode-line : (name-line (line-at (drop 3 (lines s)) q) ≡ true) × (mode-name (chart-in s) q ≡ line-at (drop 3 (lines s)) q .text)
+  unfolding chart-right chart-rest-right chart-in mode-name
+  mode-line =
+      let ls = drop 3 (lines s) in
+      let m = number-at (line-at (lines s) 1) 1 in
+      let rest = rules-fit m (2 ^ number-at (line-at (lines s) 1) 3) (drop (4 + m) (lines s)) in
+      let n : names-right m ls ≡ true = and-both (names-right m ls) (line-is rule-names (line-at (lines s) (3 + m)) && rest) (and-both (chart-head-right s) _ h .1) .0 in
+      (names-each m ls q l n, text-at m ls q l)
+
+  pub name-part : field-here s (name-place s q) ≡ mode-name (chart-in s) q
+  name-part =
+      let e : line-here s (name-place s q) ≡ line-at (drop 3 (lines s)) q = skip-line q s (skip 3 s 0) ∙ ap (λ (x : List Line). line-at x q) (skip-lines 3 s 0) in
+      ap (λ (x : Line). field x 0) e ∙ named-line (line-at (drop 3 (lines s)) q) (mode-line .0) .field ∙ sym (mode-line .1)
+
+  pub name-short : length (mode-name (chart-in s) q) ≤ longest-name
+  name-short = rw (mode-line .1) (named-line (line-at (drop 3 (lines s)) q) (mode-line .0) .short)
 
 -- THE TABLE of an accepted chart has the next mode and 2 at each pair
 pub handed-at : (s t : List ℕ) → chart-says s .refusal ≡ 0 → let h = chart-in s in h .modes * combinations h ≤ length t → (q f : ℕ) → q < h .modes → f < combinations h

@@ -51,13 +51,6 @@ pub enum Read {
     Accepted(Chart),
 }
 
-// "17, layout, range, version not 1, or a value bit outside care; 18, no rule for a pair; 19, two rules"
-const BAD_TEXT: u32 = 17;
-
-const GAP: u32 = 18;
-
-const OVERLAP: u32 = 19;
-
 // Of a text without a bad pair: a refusal that is of the whole, or none.
 fn without_pair(refusal: u32) -> Charted
     ensures { λ r. ⌜ r ≡ record { refusal = refusal; mode = 0; combination = 0 } ⌝ }
@@ -153,10 +146,10 @@ fn entry_refusal(entry: u8) -> u32
     ensures { λ r. ⌜ r ≡ entry-refusal entry ⌝ }
 {
     if entry == rules::NO_RULE {
-        return GAP;
+        return Charted::GAP;
     }
     if entry == rules::TWO_RULES {
-        return OVERLAP;
+        return Charted::OVERLAP;
     }
     0
 }
@@ -210,7 +203,7 @@ pub fn check_chart(text: &[u8]) -> Charted
     ensures { λ r. ⌜ r ≡ chart-says (now (text .entry)) ⌝ }
 {
     match read_chart(text, &mut []) {
-        Read::Faulty => without_pair(BAD_TEXT),
+        Read::Faulty => without_pair(Charted::FAULTY),
         Read::Bad(_, said) => said,
         Read::Accepted(_) => without_pair(0),
     }

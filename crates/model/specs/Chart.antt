@@ -5,7 +5,7 @@ use mathlib.Core.List.{List, [], _∷_}
 use Prim.Native.Nat.{ℕ, zero, suc, _+_, _*_, _/_, _%_, _^_}
 use lib.Bits.{bitAnd}
 use lib.Dec.{ltb, leb, eqb}
-use lib.ListN.{length, take, drop}
+use lib.ListN.{length, getD, take, drop}
 use Rattle.text.specs.Ascii.{ascii}
 use Rattle.text.specs.Lines.{Line, lines, line-at, line-is}
 use Rattle.text.specs.Numbers.{is-digit, numbers-line, number-at}
@@ -39,6 +39,9 @@ pub record Chart : Type 0 where
   pub flags : ℕ
   pub names : List (List ℕ)
   pub rules : List Rule
+
+unfoldable pub mode-name : Chart → (mode : ℕ) → List ℕ
+mode-name h q = getD (h .names) q []
 
 -- RULES. "Flag i is the bit worth 2 to the power i": a combination of flags is a number below this
 unfoldable pub combinations : Chart → ℕ

@@ -50,3 +50,12 @@ pub struct Charted {
     pub mode: u32,
     pub combination: u32,
 }
+
+impl Charted {
+    // "17, layout, range, version not 1, or a value bit outside care; 18, no rule for a pair; 19, two rules"
+    pub const FAULTY: u32 = 17;
+
+    pub const GAP: u32 = 18;
+
+    pub const OVERLAP: u32 = 19;
+}
