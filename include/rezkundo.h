@@ -2,7 +2,7 @@
  *
  * Buffers. Every pointer must be valid for its length, and no two buffers may overlap. A buffer of length 0 is neither
  * read nor written, so its pointer may be null: null text is a file of no bytes (2, as a claim 14), null acts a list of no
- * acts, null output or work a buffer that is too short (11), a null answer a file of no bytes (12).
+ * acts, null output or work a buffer that is too short (11), a null answer or chart a file of no bytes (12, 17).
  *
  * Calls. Each call returns, for all contents of the buffers. The library takes no memory of its own and keeps nothing
  * between calls, so calls may run side by side on different buffers; what is only read may be shared. A call takes less
@@ -38,6 +38,12 @@ uint32_t rezkundo_version(void);
 #define REZKUNDO_MOST_STATES 15
 #define REZKUNDO_LONGEST_CLAIM 16384
 
+/* A chart's most modes, flags and rules, and the longest name of a mode in bytes. */
+#define REZKUNDO_MOST_MODES 32
+#define REZKUNDO_MOST_FLAGS 8
+#define REZKUNDO_MOST_RULES 512
+#define REZKUNDO_LONGEST_NAME 16
+
 /* Verdicts. None stands with every refusal. */
 enum {
     REZKUNDO_NONE = 0,
@@ -62,7 +68,10 @@ enum {
     REZKUNDO_REFUSED_ANSWER_FALSE = 13,
     REZKUNDO_REFUSED_NOT_A_CLAIM = 14,
     REZKUNDO_REFUSED_CLAIM = 15,
-    REZKUNDO_REFUSED_CLAIM_FEATURE = 16
+    REZKUNDO_REFUSED_CLAIM_FEATURE = 16,
+    REZKUNDO_REFUSED_CHART = 17,
+    REZKUNDO_REFUSED_CHART_GAP = 18,
+    REZKUNDO_REFUSED_CHART_OVERLAP = 19
 };
 
 /* Of a run: refusal or 0; verdict; the acts counted; the answer's length in bytes; and three tallies of its messages:
@@ -114,6 +123,13 @@ rezkundo_claim rezkundo_read_claim(const uint8_t *text, size_t text_len);
 /* The states to which a state of a claim may move on flag values, where bit i is proposition i: bit d stands for state d.
  * 0 where the claim is refused, and where the state or the values are out of range. Each call reads the text anew. */
 uint32_t rezkundo_claim_moves(const uint8_t *text, size_t text_len, uint32_t state, uint32_t values);
+
+/* Of a chart: refusal 0, 17, 18 or 19; with 18 and 19 the first pair of a mode and a flag combination that has no rule or
+ * two, by mode and then combination, else 0 and 0. */
+typedef struct { uint32_t refusal, mode, combination; } rezkundo_charted;
+
+/* Checks a chart of modes, laid out as docs/FORMATS.md says. */
+rezkundo_charted rezkundo_check_chart(const uint8_t *chart, size_t chart_len);
 
 #ifdef __cplusplus
 }

@@ -1,7 +1,8 @@
 """Rezkundo's library as Python functions, over ctypes. include/rezkundo.h has the contract of each entry.
 
-A run or a check gives a verdict or raises an error. Numbers that this binding does not know raise one too, so nothing is
-ever taken for "empty" that is not."""
+A run or a check gives a verdict or raises an error; a claim that is not taken and a chart that is not right raise one as
+well. Numbers that this binding does not know raise one too, so nothing is ever taken for "empty", or for right, that is
+not."""
 import array
 import ctypes
 import enum
@@ -17,6 +18,11 @@ LEAST_WORK = 16384
 # The most states of a claim, and its longest text in bytes.
 MOST_STATES = 15
 LONGEST_CLAIM = 16384
+# The most modes, flags and rules of a chart, and the longest name of a mode in bytes.
+MOST_MODES = 32
+MOST_FLAGS = 8
+MOST_RULES = 512
+LONGEST_NAME = 16
 
 
 class Verdict(enum.IntEnum):
@@ -43,6 +49,9 @@ class Refusal(enum.IntEnum):
     NOT_A_CLAIM = 14
     CLAIM = 15
     CLAIM_FEATURE = 16
+    CHART = 17
+    CHART_GAP = 18
+    CHART_OVERLAP = 19
 
 
 class Tallies(NamedTuple):
@@ -60,6 +69,14 @@ class Refused(Exception):
     def __init__(self, refusal, acts, tallies):
         super().__init__(f'refused {refusal.value}')
         self.refusal, self.acts, self.tallies = refusal, acts, tallies
+
+
+class ChartRefused(Refused):
+    """The chart was refused. With CHART_GAP and CHART_OVERLAP 'mode' and 'combination' are its first bad pair, else 0."""
+
+    def __init__(self, refusal, mode, combination):
+        super().__init__(refusal, 0, Tallies(0, 0, 0))
+        self.mode, self.combination = mode, combination
 
 
 class Unknown(Exception):
@@ -106,6 +123,10 @@ class _Claim(ctypes.Structure):
     ]
 
 
+class _Charted(ctypes.Structure):
+    _fields_ = [(name, ctypes.c_uint32) for name in ('refusal', 'mode', 'combination')]
+
+
 class Library:
     """librezkundo.so, loaded from a path, else from the one in REZKUNDO_SO, else by the system's search."""
 
@@ -118,6 +139,7 @@ class Library:
         self._declare('rezkundo_check_answer', _Checked, slices * 2)
         self._declare('rezkundo_read_claim', _Claim, slices)
         self._declare('rezkundo_claim_moves', ctypes.c_uint32, slices + [ctypes.c_uint32] * 2)
+        self._declare('rezkundo_check_chart', _Charted, slices)
 
     def _declare(self, name, result, parameters):
         entry = getattr(self._library, name)
@@ -159,6 +181,17 @@ class Library:
         # As for acts: a number that 32 bits do not hold is an error.
         moves = self._library.rezkundo_claim_moves(text, len(text), *array.array('I', (state, values)))
         return [d for d in range(MOST_STATES) if moves >> d & 1]
+
+    def check_chart(self, chart):
+        """Checks a chart of modes: returns if it is right, else raises ChartRefused."""
+        chart = _bytes(chart)
+        charted = self._library.rezkundo_check_chart(chart, len(chart))
+        refusal, mode, combination = charted.refusal, charted.mode, charted.combination
+        has_pair = refusal in (Refusal.CHART_GAP, Refusal.CHART_OVERLAP)
+        if not has_pair and (refusal not in (0, Refusal.CHART) or mode or combination):
+            raise Unknown(f'the library returned refusal {refusal}, mode {mode}, combination {combination}')
+        if refusal:
+            raise ChartRefused(Refusal(refusal), mode, combination)
 
 
 def _state(text, accepting, at, length):

@@ -88,3 +88,17 @@ void write_acts(uint32_t acts[ACTS], enum shape shape)
     for (size_t i = pass; i < ACTS; i++)
         acts[i] = acts[i - pass];
 }
+
+void write_chart(struct text *to, int modes)
+{
+    int combinations = 1 << REZKUNDO_MOST_FLAGS;
+    int matched = combinations * modes / REZKUNDO_MOST_RULES;
+    to->size = 0;
+    append(to, "version modes start flags\n1 %d %d %d\nname\n", modes, modes - 1, REZKUNDO_MOST_FLAGS);
+    for (int mode = 0; mode < modes; mode++)
+        append(to, "%0*d\n", REZKUNDO_LONGEST_NAME, mode);
+    append(to, "mode care value next\n");
+    for (int rule = 0; rule < REZKUNDO_MOST_RULES; rule++)
+        append(to, "%d %d %d %d\n", rule * matched / combinations, combinations - matched, rule * matched % combinations,
+               modes - 1);
+}

@@ -1,4 +1,4 @@
-/* The largest cases that there are, as texts, and lists of acts for them. */
+/* The largest cases that there are, as texts, lists of acts for them, and the largest charts. */
 #ifndef CASES_H
 #define CASES_H
 
@@ -28,5 +28,9 @@ void write_longest_lasso(struct text *to);
 
 /* Passes over a shape, the last one cut: for each vertex a turn of its owner and deliveries on all its edges. */
 void write_acts(uint32_t acts[ACTS], enum shape shape);
+
+/* A right chart with as many rules as there may be, shared evenly among its modes, of which there are a power of two from 2
+ * on. The more modes, the longer it is. */
+void write_chart(struct text *to, int modes);
 
 #endif

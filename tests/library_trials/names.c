@@ -1,5 +1,5 @@
-/* Prints what the header names, and where a run's outcome and a claim have their fields, as the other bindings' trials do. refusals.inc
- * is made of the header's own names: REFUSAL(name) for each. */
+/* Prints what the header names, and where what comes of a run, a claim and a chart has its fields, as the other bindings'
+ * trials do. refusals.inc is made of the header's own names: REFUSAL(name) for each. */
 #include <stdio.h>
 
 #include "rezkundo.h"
@@ -19,6 +19,10 @@ int main(void)
     LIMIT(LEAST_WORK)
     LIMIT(MOST_STATES)
     LIMIT(LONGEST_CLAIM)
+    LIMIT(MOST_MODES)
+    LIMIT(MOST_FLAGS)
+    LIMIT(MOST_RULES)
+    LIMIT(LONGEST_NAME)
     VERDICT(LASSO)
     VERDICT(EMPTY)
 #include "refusals.inc"
@@ -38,5 +42,9 @@ int main(void)
     FIELD(claim, accepting)
     FIELD(claim, name_at)
     FIELD(claim, name_length)
+    printf("charted of %zu bytes\n", sizeof(rezkundo_charted));
+    FIELD(charted, refusal)
+    FIELD(charted, mode)
+    FIELD(charted, combination)
     return 0;
 }

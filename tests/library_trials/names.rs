@@ -1,10 +1,11 @@
-//! Prints what the Rust binding names, and where a run's outcome and a claim have their fields, as the other bindings' trials do.
+//! Prints what the Rust binding names, and where what comes of a run, a claim and a chart has its fields, as the other
+//! bindings' trials do.
 
 use std::mem::{offset_of, size_of, size_of_val};
 
 use rezkundo::{
-    Claim, LEAST_OUTPUT, LEAST_WORK, LONGEST_CLAIM, LONGEST_FILE, MOST_STATES, Outcome, Refusal,
-    VERSION, Verdict, version,
+    Charted, Claim, LEAST_OUTPUT, LEAST_WORK, LONGEST_CLAIM, LONGEST_FILE, LONGEST_NAME,
+    MOST_FLAGS, MOST_MODES, MOST_RULES, MOST_STATES, Outcome, Refusal, VERSION, Verdict, version,
 };
 
 fn main() {
@@ -12,6 +13,8 @@ fn main() {
     println!("VERSION {VERSION}\nLONGEST_FILE {LONGEST_FILE}");
     println!("LEAST_OUTPUT {LEAST_OUTPUT}\nLEAST_WORK {LEAST_WORK}");
     println!("MOST_STATES {MOST_STATES}\nLONGEST_CLAIM {LONGEST_CLAIM}");
+    println!("MOST_MODES {MOST_MODES}\nMOST_FLAGS {MOST_FLAGS}");
+    println!("MOST_RULES {MOST_RULES}\nLONGEST_NAME {LONGEST_NAME}");
     for verdict in [Verdict::Lasso, Verdict::Empty] {
         println!("verdict {} {}", verdict.number(), in_capitals(&verdict));
     }
@@ -33,6 +36,8 @@ fn print_layout() {
     print_fields! { Outcome: refusal verdict acts written sent delivered joined }
     println!("claim of {} bytes", size_of::<Claim>());
     print_fields! { Claim: refusal states start propositions accepting name_at name_length }
+    println!("charted of {} bytes", size_of::<Charted>());
+    print_fields! { Charted: refusal mode combination }
 }
 
 /// `TooLong` as `TOO_LONG`.

@@ -64,6 +64,12 @@ static void unread(const char *name, rezkundo_claim claim, uint32_t expected)
     judge(name, refusal, expected, all(&claim, sizeof claim, 0));
 }
 
+/* A chart that is refused for no pair. */
+static void unpaired(const char *name, rezkundo_charted chart, uint32_t expected)
+{
+    judge(name, chart.refusal, expected, chart.mode == 0 && chart.combination == 0);
+}
+
 #define TEXT (const uint8_t *)text, sizeof text - 1
 #define LIST acts, sizeof acts / sizeof *acts
 #define OUTPUT output, sizeof output
@@ -88,6 +94,7 @@ int main(void)
     checked("check, both", rezkundo_check_answer(NOTHING, NOTHING), REZKUNDO_REFUSED_NOT_A_CASE);
     unread("claim", rezkundo_read_claim(NOTHING), REZKUNDO_REFUSED_NOT_A_CLAIM);
     judge("moves", rezkundo_claim_moves(NOTHING, 0, 0), 0, 1);
+    unpaired("chart", rezkundo_check_chart(NOTHING), REZKUNDO_REFUSED_CHART);
     printf("null pointers: %d trials, %d faults\n", trials, faults);
     return faults != 0;
 }

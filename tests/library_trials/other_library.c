@@ -48,3 +48,10 @@ uint32_t rezkundo_claim_moves(const uint8_t *text, size_t text_len, uint32_t sta
     (void)text, (void)text_len, (void)state, (void)values;
     return 0;
 }
+
+rezkundo_charted rezkundo_check_chart(const uint8_t *chart, size_t chart_len)
+{
+    rezkundo_charted charted = {.refusal = 99};
+    (void)chart, (void)chart_len;
+    return charted;
+}

@@ -4,7 +4,7 @@ import pathlib
 import sys
 
 import rezkundo
-from rezkundo import Claim, ClaimState, Finding, Library, Refusal, Refused, Tallies, Unknown, Verdict
+from rezkundo import ChartRefused, Claim, ClaimState, Finding, Library, Refusal, Refused, Tallies, Unknown, Verdict
 
 case, answer, listed, joining = (pathlib.Path(name).read_bytes() for name in sys.argv[1:5])
 acts = [int(line) for line in listed.split()]
@@ -57,6 +57,24 @@ raised(OverflowError, library.claim_moves, claim, -1, 0)
 raised(OverflowError, library.claim_moves, claim, 0, 2 ** 32)
 raised(TypeError, library.read_claim, 'HOA: v1')
 raised(Unknown, other.read_claim, claim)
+
+
+def bad_pair(chart):
+    """The refusal of a chart, and its first bad pair."""
+    error = raised(ChartRefused, library.check_chart, chart)
+    return error.refusal, error.mode, error.combination
+
+
+# A chart of two modes and two flags: right, with a gap, with an overlap, and torn.
+front = b'version modes start flags\n1 2 1 2\nname\nHold\nclimb2\nmode care value next\n0 0 0 1\n1 1 1 0\n'
+assert library.check_chart(front + b'1 1 0 1\n') is None
+assert library.check_chart(memoryview(front + b'1 3 0 1\n1 3 2 0\n')) is None
+assert bad_pair(front + b'1 3 0 1\n') == (Refusal.CHART_GAP, 1, 2)
+assert bad_pair(front + b'1 0 0 1\n') == (Refusal.CHART_OVERLAP, 1, 1)
+assert bad_pair(front + b'1 1 0 1') == (Refusal.CHART, 0, 0)
+assert refused(library.check_chart, b'') == (Refusal.CHART, 0, none)
+raised(TypeError, library.check_chart, front.decode())
+raised(Unknown, other.check_chart, front)
 # Numbers that would be cut to other acts, and what has no bytes.
 raised(OverflowError, library.run_list, case, [2 ** 32])
 raised(OverflowError, library.run_list, case, [-1])

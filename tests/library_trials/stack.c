@@ -1,5 +1,5 @@
-/* Runs each entry on a painted stack over the largest cases, and prints the bytes that were used at most. It fails where
- * they are not less than REZKUNDO_STACK. */
+/* Runs each entry on a painted stack over the largest cases and charts, and prints the bytes that were used at most. It
+ * fails where they are not less than REZKUNDO_STACK. */
 #define _XOPEN_SOURCE 600
 #include <stdio.h>
 #include <string.h>
@@ -23,6 +23,7 @@ static rezkundo_checked check;
 static uint32_t version;
 static rezkundo_claim claim;
 static uint32_t moves;
+static rezkundo_charted charted;
 
 static void by_list(void)
 {
@@ -48,6 +49,8 @@ static void reading(void) { claim = rezkundo_read_claim((const uint8_t *)deepest
 
 static void moving(void) { moves = rezkundo_claim_moves((const uint8_t *)deepest, sizeof deepest - 1, 0, 1); }
 
+static void charting(void) { charted = rezkundo_check_chart((uint8_t *)text.bytes, text.size); }
+
 static void asking(void) { version = rezkundo_version(); }
 
 /* The bytes of stack between the first and the farthest that a call changed. */
@@ -68,7 +71,7 @@ static size_t used(void (*call)(void))
 
 static size_t larger(size_t a, size_t b) { return a > b ? a : b; }
 
-/* A trial that does not end in a verdict has measured something else. */
+/* A trial that does not end in a verdict, or does not take its chart, has measured something else. */
 static int verdicts;
 
 static size_t run_used(void (*call)(void))
@@ -87,9 +90,18 @@ static size_t check_used(void)
     return size;
 }
 
+static size_t chart_used(int modes)
+{
+    write_chart(&text, modes);
+    size_t size = used(charting);
+    verdicts += charted.refusal == 0;
+    return size;
+}
+
 int main(void)
 {
     size_t list = 0, rounds = 0, checks = 0, asked = used(asking), read = used(reading), moved = used(moving), longest = 0;
+    size_t charts = larger(chart_used(2), chart_used(REZKUNDO_MOST_MODES));
     for (int shape = 0; shape < SHAPES; shape++) {
         write_case(&text, (enum shape)shape);
         write_acts(acts, (enum shape)shape);
@@ -101,16 +113,17 @@ int main(void)
     write_case(&text, KNOT);
     write_longest_lasso(&answer);
     checks = larger(checks, check_used());
-    printf("stack: run_list %zu, run_rounds %zu, check_answer %zu, read_claim %zu, claim_moves %zu, version %zu of %d bytes; "
-           "longest answer %zu\n",
-           list, rounds, checks, read, moved, asked, REZKUNDO_STACK, longest);
+    printf("stack: run_list %zu, run_rounds %zu, check_answer %zu, read_claim %zu, claim_moves %zu, check_chart %zu, "
+           "version %zu of %d bytes; longest answer %zu\n",
+           list, rounds, checks, read, moved, charts, asked, REZKUNDO_STACK, longest);
     if (claim.states != 1 || moves != 1) {
         printf("stack: the claim was not taken\n");
         return 1;
     }
-    if (verdicts != 3 * SHAPES + 1) {
-        printf("stack: only %d trials ended in a verdict\n", verdicts);
+    if (verdicts != 3 * SHAPES + 1 + 2) {
+        printf("stack: only %d trials ended in a verdict or took the chart\n", verdicts);
         return 1;
     }
-    return larger(larger(larger(list, rounds), larger(checks, asked)), larger(read, moved)) >= REZKUNDO_STACK;
+    size_t most = larger(larger(larger(list, rounds), larger(checks, asked)), larger(larger(read, moved), charts));
+    return most >= REZKUNDO_STACK;
 }

@@ -2,8 +2,8 @@
 //! entry.
 //!
 //! A run or a check either gives a verdict or an [`Error`]. Numbers that this binding does not know are an error too, so
-//! nothing is ever taken for "empty" that is not. Of a claim the numbers come back as they are: it is taken where its
-//! refusal is 0.
+//! nothing is ever taken for "empty" that is not. Of a claim and of a chart the numbers come back as they are: it is taken
+//! where its refusal is 0.
 
 use std::fmt;
 
@@ -19,6 +19,14 @@ pub const LEAST_WORK: usize = 16_384;
 pub const MOST_STATES: usize = 15;
 /// The longest claim, in bytes.
 pub const LONGEST_CLAIM: usize = 16_384;
+/// The most modes of a chart.
+pub const MOST_MODES: usize = 32;
+/// The most flags of a chart.
+pub const MOST_FLAGS: usize = 8;
+/// The most rules of a chart.
+pub const MOST_RULES: usize = 512;
+/// The longest name of a mode, in bytes.
+pub const LONGEST_NAME: usize = 16;
 
 /// What was found, or what an answer shows.
 #[derive(Clone, Copy, Debug, PartialEq, Eq)]
@@ -67,11 +75,14 @@ pub enum Refusal {
     NotAClaim = 14,
     Claim = 15,
     ClaimFeature = 16,
+    Chart = 17,
+    ChartGap = 18,
+    ChartOverlap = 19,
 }
 
 impl Refusal {
     /// Every refusal, by rising number.
-    pub const ALL: [Refusal; 16] = [
+    pub const ALL: [Refusal; 19] = [
         Refusal::TooLong,
         Refusal::NotACase,
         Refusal::OtherVersion,
@@ -88,6 +99,9 @@ impl Refusal {
         Refusal::NotAClaim,
         Refusal::Claim,
         Refusal::ClaimFeature,
+        Refusal::Chart,
+        Refusal::ChartGap,
+        Refusal::ChartOverlap,
     ];
 
     /// Its number.
@@ -195,6 +209,17 @@ pub struct Claim {
     pub name_length: [u32; MOST_STATES],
 }
 
+/// The numbers that the library returns of a chart: `rezkundo_charted` in C. Mode and combination are the first bad pair
+/// where the refusal is 18 or 19, else 0.
+#[derive(Clone, Copy, Debug, Default, PartialEq, Eq)]
+#[repr(C)]
+pub struct Charted {
+    /// 0, 17, 18 or 19.
+    pub refusal: u32,
+    pub mode: u32,
+    pub combination: u32,
+}
+
 // The archive becomes part of this crate, so that a program needs no shared object.
 #[link(name = "rezkundo", kind = "static")]
 unsafe extern "C" {
@@ -230,6 +255,8 @@ unsafe extern "C" {
     fn rezkundo_read_claim(text: *const u8, text_len: usize) -> Claim;
 
     fn rezkundo_claim_moves(text: *const u8, text_len: usize, state: u32, values: u32) -> u32;
+
+    fn rezkundo_check_chart(chart: *const u8, chart_len: usize) -> Charted;
 }
 
 /// The version of the linked library.
@@ -300,6 +327,12 @@ pub fn read_claim(text: &[u8]) -> Claim {
 pub fn claim_moves(text: &[u8], state: u32, values: u32) -> u32 {
     // SAFETY: as above; the call only reads.
     unsafe { rezkundo_claim_moves(text.as_ptr(), text.len(), state, values) }
+}
+
+/// Checks a chart of modes.
+pub fn check_chart(chart: &[u8]) -> Charted {
+    // SAFETY: as above; the call only reads.
+    unsafe { rezkundo_check_chart(chart.as_ptr(), chart.len()) }
 }
 
 /// What the numbers mean. A refusal has no verdict and no answer, and only `Unended` counts acts and messages; whatever
@@ -408,13 +441,13 @@ mod tests {
         for numbers in [
             outcome(0, 0, 0, 0),
             outcome(0, 3, 8, 60),
-            outcome(17, 0, 0, 0),
+            outcome(20, 0, 0, 0),
             outcome(9, 0, 1, 0),
             outcome(9, 0, 1 << 32, 0),
             tallied(outcome(9, 0, 0, 0)),
             outcome(2, 0, 0, 1),
             outcome(2, 2, 0, 0),
-            outcome(17, 2, 8, 60),
+            outcome(20, 2, 8, 60),
         ] {
             assert_eq!(finding(numbers), Err(Error::Unknown(numbers)));
         }
