@@ -135,7 +135,7 @@ fn difference(got: &Left, want: &Left) -> Option<String> {
 }
 
 /// One more than the greatest refusal.
-const REFUSALS: usize = 17;
+const REFUSALS: usize = 20;
 
 /// How many calls came out in each way: place 0 counts results and passes,
 /// the others the refusals of that number.
@@ -144,6 +144,7 @@ pub struct Tally {
     runs: [u64; REFUSALS],
     checks: [u64; REFUSALS],
     claims: [u64; REFUSALS],
+    charts: [u64; REFUSALS],
     /// Calls for the moves of a claim.
     moves: u64,
     /// Lists by which offers meet in a cell.
@@ -152,8 +153,8 @@ pub struct Tally {
 
 impl Tally {
     pub fn calls(&self) -> u64 {
-        let reads = self.runs.iter().chain(&self.checks).chain(&self.claims);
-        reads.sum::<u64>() + self.moves
+        let counts = [&self.runs, &self.checks, &self.claims, &self.charts];
+        counts.into_iter().flatten().sum::<u64>() + self.moves
     }
 }
 
@@ -163,6 +164,7 @@ impl Display for Tally {
             ("runs", &self.runs),
             ("checks", &self.checks),
             ("claims", &self.claims),
+            ("charts", &self.charts),
         ] {
             write!(formatter, "{name} by refusal:")?;
             for (refusal, count) in counts.iter().enumerate().filter(|(_, count)| **count > 0) {
@@ -288,6 +290,20 @@ impl<'a> Comparison<'a> {
         Err(Mismatch {
             summary: format!("claim_moves should return {want:#b} and returns {got:#b}"),
             inputs: format!("state {state}, values {values}, claim:\n{}", shown(text)),
+        })
+    }
+
+    /// Compares the check of a chart.
+    pub fn chart(&mut self, text: &[u8]) -> Result<(), Mismatch> {
+        let want = Reference.check_chart(text);
+        self.tally.charts[want.refusal as usize] += 1;
+        let got = self.tool.check_chart(text);
+        if got == want {
+            return Ok(());
+        }
+        Err(Mismatch {
+            summary: format!("check_chart should return {want:?} and returns {got:?}"),
+            inputs: format!("chart:\n{}", shown(text)),
         })
     }
 }

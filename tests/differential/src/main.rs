@@ -4,6 +4,7 @@
 //! comparison finds faults. Status 0 is success, 1 a mismatch or a mutant
 //! that survived, 2 a command line that means nothing here.
 
+mod charts;
 mod claim_mutants;
 mod claims;
 mod compare;
@@ -98,12 +99,13 @@ impl Found {
     }
 }
 
-/// A part of the comparison: the entries that take a case, or those that take
-/// a claim.
+/// A part of the comparison: the entries that take a case, those that take a
+/// claim, or the one that takes a chart.
 #[derive(Clone, Copy)]
 pub enum Part {
     Cases,
     Claims,
+    Charts,
 }
 
 impl Part {
@@ -111,6 +113,7 @@ impl Part {
         match self {
             Part::Cases => fixed::compare_all(comparison),
             Part::Claims => claims::compare_all(comparison),
+            Part::Charts => charts::compare_all(comparison),
         }
     }
 
@@ -118,12 +121,13 @@ impl Part {
         match self {
             Part::Cases => random::compare_round(comparison, rng),
             Part::Claims => claims::compare_round(comparison, rng),
+            Part::Charts => charts::compare_round(comparison, rng),
         }
     }
 }
 
-/// Both parts.
-const WHOLE: [Part; 2] = [Part::Cases, Part::Claims];
+/// All parts.
+const WHOLE: [Part; 3] = [Part::Cases, Part::Claims, Part::Charts];
 
 /// Compares a tool by these parts; returns how many calls came out in which way.
 fn compare(tool: &dyn Tool, parts: &[Part], length: &Length) -> Result<Tally, Found> {

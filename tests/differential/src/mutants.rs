@@ -7,11 +7,12 @@ use std::borrow::Cow;
 
 use reference::answer::{Answer, EMPTY_NAMES, cycle, fewest_edges_to};
 use reference::case::{self, Case};
+use reference::chart;
 use reference::checker::{self, is_lasso_shaped, leaves_accepting};
 use reference::claim::{Claim, LIMITS, read_tokens};
 use reference::claim_tokens::{Fault, Limits, Token, tokens};
 use reference::entries::{
-    Checked, ClaimRead, Outcome, Report, Tool, WORK_CELLS, check_with, run_with,
+    Charted, Checked, ClaimRead, Outcome, Report, Tool, WORK_CELLS, check_with, run_with,
 };
 use reference::refusal::Refusal;
 use reference::run::{Finding, Run, Tallies, by_list, judge_acts};
@@ -176,6 +177,10 @@ impl Tool for Mutant {
     fn claim_moves(&self, text: &[u8], state: u32, values: u32) -> u32 {
         let claim = self.claim(text);
         claim.map_or(0, |claim| claim.moves(state, values))
+    }
+
+    fn check_chart(&self, text: &[u8]) -> Charted {
+        Charted::of(chart::check(text))
     }
 }
 

@@ -2,6 +2,7 @@
 
 use crate::answer::Answer;
 use crate::case::{self, Case};
+use crate::chart;
 use crate::checker;
 use crate::claim::{self, Claim, MOST_STATES};
 use crate::refusal::Refusal;
@@ -82,7 +83,29 @@ impl ClaimRead {
     }
 }
 
-/// Anything that offers the five entries.
+/// What the check of a chart returns. Refusals 18 and 19 have the first bad
+/// pair; else mode and combination are 0.
+#[derive(Clone, Copy, Debug, Default, PartialEq, Eq)]
+pub struct Charted {
+    pub refusal: u32,
+    pub mode: u32,
+    pub combination: u32,
+}
+
+impl Charted {
+    pub fn of(checked: Result<(), chart::Fault>) -> Self {
+        match checked {
+            Ok(()) => Charted::default(),
+            Err(fault) => Charted {
+                refusal: fault.refusal.number(),
+                mode: fault.mode as u32,
+                combination: fault.combination as u32,
+            },
+        }
+    }
+}
+
+/// Anything that offers the six entries.
 pub trait Tool {
     fn run_list(&self, text: &[u8], acts: &[u32], output: &mut [u8], work: &mut [i32]) -> Outcome;
 
@@ -93,6 +116,8 @@ pub trait Tool {
     fn read_claim(&self, text: &[u8]) -> ClaimRead;
 
     fn claim_moves(&self, text: &[u8], state: u32, values: u32) -> u32;
+
+    fn check_chart(&self, text: &[u8]) -> Charted;
 }
 
 /// What a begun run leaves to report.
@@ -185,5 +210,9 @@ impl Tool for Reference {
 
     fn claim_moves(&self, text: &[u8], state: u32, values: u32) -> u32 {
         claim::read(text).map_or(0, |claim| claim.moves(state, values))
+    }
+
+    fn check_chart(&self, text: &[u8]) -> Charted {
+        Charted::of(chart::check(text))
     }
 }

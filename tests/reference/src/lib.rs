@@ -8,6 +8,7 @@
 
 pub mod answer;
 pub mod case;
+pub mod chart;
 pub mod checker;
 pub mod claim;
 pub mod claim_label;

@@ -20,6 +20,9 @@ pub enum Refusal {
     NotAClaim = 14,
     ClaimWrong = 15,
     ClaimNotTaken = 16,
+    ChartWrong = 17,
+    NoRule = 18,
+    TwoRules = 19,
 }
 
 impl Refusal {

@@ -1,9 +1,9 @@
-//! Lines, fields and numbers, as both kinds of file use them.
+//! Lines, fields and numbers, as every kind of file but the claim uses them.
 
 /// No file may be longer than this many bytes.
 pub const LONGEST_FILE: usize = 65_536;
 
-/// Both kinds of file begin with this.
+/// Cases, answers and charts begin with this.
 pub const VERSION_WORD: &[u8] = b"version ";
 
 const MOST_DIGITS: usize = 9;

@@ -2,9 +2,11 @@
 //! bindings/rust. The binding keeps every number that the library returns, so
 //! nothing that the comparison looks at is lost on the way.
 
-use reference::entries::{Checked, ClaimRead, Outcome, Tool};
+use reference::entries::{Charted, Checked, ClaimRead, Outcome, Tool};
 use reference::run::Tallies;
-use rezkundo::{Error, Finding, check_answer, claim_moves, read_claim, run_list, run_rounds};
+use rezkundo::{
+    Error, Finding, check_answer, check_chart, claim_moves, read_claim, run_list, run_rounds,
+};
 
 /// The proved library.
 pub struct Library;
@@ -48,6 +50,15 @@ impl Tool for Library {
 
     fn claim_moves(&self, text: &[u8], state: u32, values: u32) -> u32 {
         claim_moves(text, state, values)
+    }
+
+    fn check_chart(&self, text: &[u8]) -> Charted {
+        let charted = check_chart(text);
+        Charted {
+            refusal: charted.refusal,
+            mode: charted.mode,
+            combination: charted.combination,
+        }
     }
 }
 
