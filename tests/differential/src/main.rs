@@ -4,6 +4,7 @@
 //! comparison finds faults. Status 0 is success, 1 a mismatch or a mutant
 //! that survived, 2 a command line that means nothing here.
 
+mod chart_mutants;
 mod charts;
 mod claim_mutants;
 mod claims;

@@ -1,13 +1,13 @@
 //! The reference with one fault each: the comparison must find every one.
 //!
-//! A mutant takes over one hook of a run, a check or the reading of a claim and
-//! leaves the rest as the reference has it.
+//! A mutant takes over one hook of a run, a check, the reading of a claim or the
+//! check of a chart and leaves the rest as the reference has it.
 
 use std::borrow::Cow;
 
 use reference::answer::{Answer, EMPTY_NAMES, cycle, fewest_edges_to};
 use reference::case::{self, Case};
-use reference::chart;
+use reference::chart::{self, Chart};
 use reference::checker::{self, is_lasso_shaped, leaves_accepting};
 use reference::claim::{Claim, LIMITS, read_tokens};
 use reference::claim_tokens::{Fault, Limits, Token, tokens};
@@ -18,6 +18,7 @@ use reference::refusal::Refusal;
 use reference::run::{Finding, Run, Tallies, by_list, judge_acts};
 
 use crate::Part;
+use crate::chart_mutants::chart_mutants;
 use crate::claim_mutants::claim_mutants;
 
 /// A faulty tool: each hook is right unless a mutant takes it over.
@@ -74,6 +75,33 @@ pub trait Faulty {
     /// What comes of a claim.
     fn judge(&self, _tokens: &[Token], read: Result<Claim, Fault>) -> Result<Claim, Refusal> {
         read.map_err(|fault| fault.refusal)
+    }
+
+    /// The text of a chart that is read in place of the one given.
+    fn chart_text<'a>(&self, text: &'a [u8]) -> Cow<'a, [u8]> {
+        text.into()
+    }
+
+    /// The limits that a chart is held to.
+    fn chart_limits(&self) -> chart::Limits {
+        chart::LIMITS
+    }
+
+    /// Changes a chart before it is judged.
+    fn forgive_chart(&self, _chart: &mut Chart) {}
+
+    /// What comes of a chart whose layout is right.
+    fn judge_chart(&self, chart: &Chart, in_range: bool) -> Option<chart::Fault> {
+        if in_range {
+            self.bad_pair(&mut chart.bad_pairs())
+        } else {
+            Some(chart::WRONG)
+        }
+    }
+
+    /// The bad pair that is told, of all of them.
+    fn bad_pair(&self, bad_pairs: &mut dyn Iterator<Item = chart::Fault>) -> Option<chart::Fault> {
+        bad_pairs.next()
     }
 }
 
@@ -145,6 +173,14 @@ impl Mutant {
         });
         self.fault.judge(&tokens, read)
     }
+
+    fn chart(&self, text: &[u8]) -> Result<(), chart::Fault> {
+        let mut chart = chart::read(&self.fault.chart_text(text)).ok_or(chart::WRONG)?;
+        self.fault.forgive_chart(&mut chart);
+        let in_range = chart.in_range(self.fault.chart_limits());
+        let fault = self.fault.judge_chart(&chart, in_range);
+        fault.map_or(Ok(()), Err)
+    }
 }
 
 impl Tool for Mutant {
@@ -180,7 +216,7 @@ impl Tool for Mutant {
     }
 
     fn check_chart(&self, text: &[u8]) -> Charted {
-        Charted::of(chart::check(text))
+        Charted::of(self.chart(text))
     }
 }
 
@@ -200,6 +236,14 @@ pub fn claim_mutant(name: &'static str, fault: impl Faulty + 'static) -> Mutant 
     }
 }
 
+/// A mutant that checks charts.
+pub fn chart_mutant(name: &'static str, fault: impl Faulty + 'static) -> Mutant {
+    Mutant {
+        part: Part::Charts,
+        ..mutant(name, fault)
+    }
+}
+
 /// The tool without any fault: the comparison must not find anything.
 pub fn faultless() -> Mutant {
     mutant("no fault", NoFault)
@@ -209,6 +253,7 @@ pub fn faultless() -> Mutant {
 pub fn mutants() -> Vec<Mutant> {
     let mut mutants = case_mutants();
     mutants.extend(claim_mutants());
+    mutants.extend(chart_mutants());
     mutants
 }
 
