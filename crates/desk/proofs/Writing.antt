@@ -1,6 +1,6 @@
--- A whole text at a buffer's front, and the line of a refusal. Assumes nothing.
-use mathlib.Core.Path.{_≡_, refl, sym, ap}
-use mathlib.Core.List.{List, [], _∷_, _++_, flatten}
+-- A whole text at a buffer's front, a number between words, and the line of a refusal. Assumes nothing.
+use mathlib.Core.Path.{_≡_, refl, sym, ap, _∙_}
+use mathlib.Core.List.{List, [], _∷_, _++_, flatten, append-nil, append-assoc}
 use Prim.Native.Nat.{ℕ, _+_, _≤_}
 use native.Mathlib.Nat.{zero-add}
 use native.Mathlib.Omega.{arith}
@@ -13,7 +13,7 @@ use Rattle.text.specs.Writing.{put, Puts, Chain}
 use Rattle.text.proofs.Writing.{put-front, length-put}
 use Rattle.text.proofs.Chains.{puts-as, chain-puts}
 use Rattle.text.proofs.Decimals.{decimal-most}
-use Rattle.desk.specs.Lines.{refused-line, refused-parts, Shows}
+use Rattle.desk.specs.Lines.{count-line, refused-line, refused-parts, Shows}
 
 -- A WHOLE TEXT at the front
 pub puts-shows : {bs : List ℕ} {r : ℕ} {o z : List ℕ} → Puts 0 bs r o z → length bs ≤ length o → Shows bs r z
@@ -22,9 +22,14 @@ puts-shows {bs} {r} {o} {z} p h = record { within = omega (arith, f .0, ap lengt
     f : (r ≡ 0 + length bs) × (z ≡ put 0 bs o)
     f = p .fits (omega arith)
 
+-- A NUMBER BETWEEN WORDS, as it is written
+pub between-puts : (a : List ℕ) (v : ℕ) (b : List ℕ) {at r : ℕ} {o z : List ℕ} → Chain (a ∷ decimal v ∷ b ∷ []) at r o z → Puts at (a ++ decimal v ++ b) r o z
+unfolding flatten
+between-puts a v b c = puts-as (ap (λ (x : List ℕ). a ++ (decimal v ++ x)) (append-nil b) ∙ sym (append-assoc a (decimal v) b)) (chain-puts c)
+
 -- THE LINE OF A REFUSAL, as it is written
 refused-flat : (k : ℕ) → flatten (refused-parts k) ≡ refused-line k
-unfolding refused-line text joined flatten
+unfolding refused-line count-line text joined flatten
 refused-flat k = refl
 
 pub refused-puts : (k : ℕ) {r : ℕ} {o z : List ℕ} → Chain (refused-parts k) 0 r o z → Puts 0 (refused-line k) r o z

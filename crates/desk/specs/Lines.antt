@@ -7,9 +7,13 @@ use Rattle.text.specs.Ascii.{ascii, line-feed}
 use Rattle.text.specs.Lines.{text}
 use Rattle.text.specs.Numbers.{decimal}
 
+-- a name and a number
+unfoldable pub count-line : (name : List ℕ) → (count : ℕ) → List ℕ
+count-line s n = text ((s ∷ decimal n ∷ []) ∷ [])
+
 -- "On a refusal it prints one line: `refused`, a space and the number"
 unfoldable pub refused-line : (refusal : ℕ) → List ℕ
-refused-line k = text ((ascii "refused" ∷ decimal k ∷ []) ∷ [])
+refused-line k = count-line (ascii "refused") k
 
 -- the same in the parts that are written one after the other
 abbrev pub refused-parts : (refusal : ℕ) → List (List ℕ)

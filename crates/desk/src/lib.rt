@@ -1,5 +1,5 @@
 // What the desk programs share: files read whole into lent buffers, printing, and the line of a refusal. What is read or
-// written no contract can say (Offered in specs/ names that part); that the bytes of a line are right, write_refusal's does.
+// written no contract can say (Offered in specs/ names that part); that the bytes of a line are right, its writer's does.
 mod input;
 mod output;
 
@@ -8,4 +8,5 @@ pub use input::fill;
 pub use input::read_argument;
 pub use output::complain;
 pub use output::print;
+pub use output::write_between;
 pub use output::write_refusal;

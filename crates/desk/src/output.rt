@@ -1,10 +1,11 @@
 // Lines on standard output and standard error.
+ghost use mathlib.Core.List.{[], _∷_};
+ghost use Rattle.text.specs.Numbers.{decimal};
 ghost use Rattle.text.specs.Writing.{Chain};
 ghost use Rattle.desk.specs.Lines.{refused-parts};
 ghost use Rattle.desk.specs.Offering.{Offered, standard-output, standard-error};
 use libc::STDERR_FILENO;
 use libc::STDOUT_FILENO;
-use text::write::write_byte;
 use text::write::write_bytes;
 use text::write::write_number;
 
@@ -24,11 +25,24 @@ pub fn complain(bytes: &[u8])
     io::write_all(STDERR_FILENO, bytes);
 }
 
+// A number between words, from a place on; the place past them, or no room.
+pub fn write_between(
+    buffer: &mut [u8],
+    at: usize,
+    before: &[u8],
+    number: u32,
+    after: &[u8],
+) -> usize
+    ensures { λ r. ⌜ Chain (now (before .entry) ∷ decimal number ∷ now (after .entry) ∷ []) at r (now (buffer .entry)) (now (buffer .exit)) ⌝ }
+{
+    let a = write_bytes(buffer, at, before);
+    let b = write_number(buffer, a, number);
+    write_bytes(buffer, b, after)
+}
+
 // The line of a refusal at the buffer's front; its length, or no room.
 pub fn write_refusal(buffer: &mut [u8], refusal: u32) -> usize
     ensures { λ r. ⌜ Chain (refused-parts refusal) 0 r (now (buffer .entry)) (now (buffer .exit)) ⌝ }
 {
-    let a = write_bytes(buffer, 0, b"refused ");
-    let b = write_number(buffer, a, refusal);
-    write_byte(buffer, b, b'\n')
+    write_between(buffer, 0, b"refused ", refusal, b"\n")
 }

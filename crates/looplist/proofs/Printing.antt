@@ -24,8 +24,9 @@ use Rattle.model.specs.declared.Outcome.{Outcome}
 use Rattle.model.proofs.ActRules.{count-few}
 use Rattle.desk.specs.Lines.{Shows}
 use Rattle.desk.proofs.Buffers.{long-buffers}
+use Rattle.desk.specs.Lines.{count-line}
 use Rattle.desk.proofs.Writing.{puts-shows}
-use Rattle.looplist.specs.Printing.{verdict-word, verdict-line, count-line, tally-lines, head, head-room, page, printed}
+use Rattle.looplist.specs.Printing.{verdict-word, verdict-line, tally-lines, head, head-room, page, printed}
 
 -- A NUMBER BETWEEN WORDS is no longer than the words and the longest number, and ends where there is room for them
 between-short : (a : List ℕ) (v : ℕ) (b : List ℕ) → length (a ++ decimal v ++ b) ≤ length a + 10 + length b

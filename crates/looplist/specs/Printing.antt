@@ -3,18 +3,14 @@ use mathlib.Core.Bool.{Bool, true, false, cond}
 use mathlib.Core.List.{List, [], _∷_, _++_}
 use Prim.Native.Nat.{ℕ, zero, suc}
 use lib.Dec.{eqb}
+use Rattle.desk.specs.Lines.{count-line}
 use Rattle.text.specs.Ascii.{ascii}
 use Rattle.text.specs.Lines.{text}
-use Rattle.text.specs.Numbers.{decimal}
 use Rattle.model.specs.Case.{Case}
 use Rattle.model.specs.CaseFile.{first-of, case-refusal, case-in}
 use Rattle.model.specs.Run.{Tallies, no-tallies, State, has-ended, by-list}
 use Rattle.model.specs.Answer.{lasso-word, empty-word, lasso-verdict, empty-verdict, no-verdict, answer}
 use Rattle.model.specs.Entry.{acts-refusal, verdict}
-
--- THE LINES IN FRONT: a name and a count
-unfoldable pub count-line : (name : List ℕ) → (count : ℕ) → List ℕ
-count-line s n = text ((s ∷ decimal n ∷ []) ∷ [])
 
 unfoldable pub verdict-word : (verdict : ℕ) → List ℕ
 verdict-word v = cond (eqb v lasso-verdict) lasso-word (cond (eqb v empty-verdict) empty-word (ascii "none"))

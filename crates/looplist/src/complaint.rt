@@ -3,8 +3,8 @@ ghost use Prim.Native.Nat.{_+_, _≤_};
 ghost use lib.ListN.{length};
 ghost use Rattle.looplist.specs.Printing.{complaint-room};
 use crate::ACTS;
-use crate::page::write_between;
 use desk::complain;
+use desk::write_between;
 
 // Room for the words and the number.
 const LINE: usize = 128;

@@ -5,24 +5,9 @@ ghost use Rattle.text.specs.Writing.{Puts};
 ghost use Prim.Native.Nat.{_<_, _^_};
 ghost use Rattle.model.specs.Entry.{tallies-of};
 ghost use Rattle.looplist.specs.Printing.{verdict-line, tally-lines, head};
+use desk::write_between;
 use model::Outcome;
 use text::write::write_bytes;
-use text::write::write_number;
-
-// A number between words.
-pub(crate) fn write_between(
-    page: &mut [u8],
-    at: usize,
-    before: &[u8],
-    number: u32,
-    after: &[u8],
-) -> usize
-    ensures { λ r. ⌜ Puts at (now (before .entry) ++ decimal number ++ now (after .entry)) r (now (page .entry)) (now (page .exit)) ⌝ }
-{
-    let a = write_bytes(page, at, before);
-    let b = write_number(page, a, number);
-    write_bytes(page, b, after)
-}
 
 // A name, a number and the line's end.
 fn write_count(page: &mut [u8], at: usize, name: &[u8], count: u32) -> usize

@@ -3,6 +3,7 @@ use mathlib.Core.Path.{sym}
 use Prim.Native.Nat.{_≤_}
 use lib.ListN.{length}
 use lib.Seq.{length-take-le}
+use Rattle.desk.proofs.Writing.{between-puts}
 use Rattle.looplist.proofs.Printing.{between-within}
 use borrow.Author.Needs.{needs}
 use Rattle.looplist.proofs.complaint.complain_between.Statement.{statement}
@@ -12,7 +13,7 @@ written-within : (c : tie.After-write-between) → c .write-between .result ≤ 
 written-within c =
     let start = c .before .before .before .before in
     let a = start .args in
-    between-within (a .before .now) (a .number) (a .after .now) (c .write-between .ensures) (start .pre)
+    between-within (a .before .now) (a .number) (a .after .now) (between-puts (a .before .now) (a .number) (a .after .now) (c .write-between .ensures)) (start .pre)
 
 slice-aggregate-write-between : tie.Need-slice-aggregate-write-between
 slice-aggregate-write-between c = search needs

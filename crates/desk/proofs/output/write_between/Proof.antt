@@ -1,8 +1,8 @@
--- `page::write_between`: three writers, one after the other.
-use Rattle.text.proofs.Chains.{puts, puts-then}
+-- `output::write_between`: three writers, one after the other.
+use Rattle.text.proofs.Chains.{chain-more, chain-last}
 use borrow.Author.Needs.{needs}
-use Rattle.looplist.proofs.page.write_between.Statement.{statement}
-use Rattle.looplist.proofs.page.write_between.Tie as tie
+use Rattle.desk.proofs.output.write_between.Statement.{statement}
+use Rattle.desk.proofs.output.write_between.Tie as tie
 
 write-bytes-requires : tie.Need-write-bytes-requires
 write-bytes-requires c κs = search needs
@@ -21,7 +21,7 @@ returns c =
     let after = c .before .before in
     let number = after .before .before .before .before in
     let before = number .before .before .before .before in
-    puts-then (puts-then (puts (before .write-bytes .ensures)) (puts (number .write-number .ensures))) (puts (after .write-bytes2 .ensures))
+    chain-more (before .write-bytes .ensures) (chain-more (number .write-number .ensures) (chain-last (after .write-bytes2 .ensures)))
 
 pub write-between-spec : {M : Type 1} → statement M
 write-between-spec =

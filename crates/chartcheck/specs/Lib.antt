@@ -1,0 +1,3 @@
+-- What `chartcheck` prints.
+pub mod Printing
+pub mod Rows
