@@ -25,7 +25,7 @@ use Rattle.model.specs.declared.Charted.{Charted}
 use Rattle.model.specs.ChartPromise.{First-bad-pair}
 use Rattle.model.proofs.Charts.{chart-passed, next-base, right-bad, first-bad-pair}
 use Rattle.text.proofs.Places.{skip-one, skip-add, skip-last, skip-lines, skip-line}
-use Rattle.chart.specs.Pairs.{most-combinations, most-pairs, Fresh, Marked, Rules-read, table-says, chart-entries, table-after}
+use Rattle.chart.specs.Pairs.{most-combinations, most-pairs, one-rule, Fresh, Marked, Rules-read, table-says, chart-entries, table-after}
 use Rattle.chart.specs.Reading.{names-here, name-place, counts-in, head-says, rules-place, rest-right, Chart-laid, returned, read-says, Chart-read}
 use Rattle.chart.specs.declared.Chart.{Chart}
 use Rattle.chart.specs.declared.Head.{Head}
@@ -346,9 +346,9 @@ module _ (s : List ℕ) (h : chart-right s ≡ true) (q : ℕ) (l : q < chart-in
   pub name-short : length (mode-name (chart-in s) q) ≤ longest-name
   name-short = rw (mode-line .1) (named-line (line-at (drop 3 (lines s)) q) (mode-line .0) .short)
 
--- THE TABLE of an accepted chart has the next mode and 2 at each pair
+-- THE TABLE of an accepted chart has the next mode and 64 at each pair
 pub handed-at : (s t : List ℕ) → chart-says s .refusal ≡ 0 → let h = chart-in s in h .modes * combinations h ≤ length t → (q f : ℕ) → q < h .modes → f < combinations h
-    → getD (table-after s t) (q * combinations h + f) 0 ≡ next-mode h q f + 2
+    → getD (table-after s t) (q * combinations h + f) 0 ≡ next-mode h q f + one-rule
 handed-at s t z room q f a l =
     let es = chart-entries (chart-in s) in
     let j = q * combinations (chart-in s) + f in

@@ -1,12 +1,13 @@
 // The chart's reader: 17 for a fault of the text, 18 or 19 with the first bad pair, or the chart, in one pass over the lent
 // text. Contracts cite specs/Reading.antt and specs/Pairs.antt.
 ghost use mathlib.Core.Path.{_≡_};
+ghost use mathlib.Core.Bool.{true};
 ghost use Prim.Native.Nat.{_^_, _≤_};
 ghost use lib.ListN.{length};
 ghost use Rattle.text.specs.Reading.{Part};
 ghost use Rattle.model.specs.Chart.{chart-counts-good, chart-says, most-flags};
 ghost use Rattle.chart.specs.Reading.{head-says, Chart-laid, Chart-read, name-place};
-ghost use Rattle.chart.specs.Pairs.{most-pairs, Fresh, entry-refusal, table-says};
+ghost use Rattle.chart.specs.Pairs.{most-pairs, Fresh, entry-refusal, table-says, All-one};
 use casefile::Case;
 use model::Charted;
 use names::name_block;
@@ -148,10 +149,47 @@ fn entry_refusal(entry: u8) -> u32
     if entry == rules::NO_RULE {
         return Charted::GAP;
     }
-    if entry == rules::TWO_RULES {
+    if rules::TWO_RULES <= entry {
         return Charted::OVERLAP;
     }
     0
+}
+
+fn least_of(a: u8, b: u8) -> u8
+    ensures { λ r. ⌜ (r ≤ a) × (r ≤ b) ⌝ }
+{
+    if a < b {
+        return a;
+    }
+    b
+}
+
+fn most_of(a: u8, b: u8) -> u8
+    ensures { λ r. ⌜ (a ≤ r) × (b ≤ r) ⌝ }
+{
+    if a < b {
+        return b;
+    }
+    a
+}
+
+// Whether so many pairs all have exactly one rule. It has one way out, for speed.
+fn all_one(pairs: &[u8], many: usize) -> bool
+    requires { ⌜ many ≤ length (now pairs) ⌝ }
+    ensures { λ r. ⌜ (r ≡ true → All-one (now (pairs .entry)) many) ⌝ }
+{
+    let mut least = rules::ONE_RULE;
+    let mut most = rules::ONE_RULE;
+    let mut i: usize = 0;
+    while i < many {
+        least = least_of(least, pairs[i]);
+        most = most_of(most, pairs[i]);
+        i += 1;
+    }
+    if least < rules::ONE_RULE {
+        return false;
+    }
+    most < rules::TWO_RULES
 }
 
 // The first of so many pairs that has no rule or two.
@@ -159,6 +197,9 @@ fn bad_pair(pairs: &[u8], many: usize, count: usize) -> Charted
     requires { ⌜ (many ≤ length (now pairs)) × (many ≤ most-pairs) × (1 ≤ count) ⌝ }
     ensures { λ r. ⌜ r ≡ table-says many 0 count (now (pairs .entry)) ⌝ }
 {
+    if all_one(pairs, many) {
+        return without_pair(0);
+    }
     let mut i: usize = 0;
     while i < many {
         let refusal = entry_refusal(pairs[i]);
@@ -175,7 +216,7 @@ fn bad_pair(pairs: &[u8], many: usize, count: usize) -> Charted
 }
 
 // Judges a whole text as a chart. The table of an accepted one takes an entry for each pair, by mode and then combination:
-// the next mode and 2. A table without room for all of them stays as it is.
+// the next mode and 64. A table without room for all of them stays as it is.
 pub fn read_chart(text: &[u8], table: &mut [u8]) -> Read
     ensures { λ r. ⌜ Chart-read (now (text .entry)) r (now (table .entry)) (now (table .exit)) ⌝ }
 {

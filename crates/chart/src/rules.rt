@@ -1,22 +1,22 @@
 // Rule lines, and the table of pairs that they go into: an entry for each pair of a mode and a combination of flags, by
 // mode and then combination.
 ghost use mathlib.Core.Path.{_≡_};
-ghost use Prim.Native.Nat.{_+_, _*_, _≤_, _<_};
+ghost use Prim.Native.Nat.{_+_, _≤_, _<_};
 ghost use lib.ListN.{length};
-ghost use Rattle.model.specs.Chart.{most-modes, rule-good};
-ghost use Rattle.chart.specs.Pairs.{most-combinations, after-rule, Rule-marked, Fresh, Rules-read};
+ghost use Rattle.model.specs.Chart.{rule-good};
+ghost use Rattle.chart.specs.Pairs.{most-combinations, two-rules, added, after-rule, Rule-marked, Fresh, Rules-read};
 use crate::Chart;
 use text::read::Row1;
 use text::read::Row3;
 use text::read::leading_number;
 use text::read::row_of_3;
 
-// A pair's entry: no rule, two rules or more, or the next mode of its one rule and ONE_RULE.
+// A pair's entry: no rule; one, as its next mode and ONE_RULE; or more, from TWO_RULES on.
 pub(crate) const NO_RULE: u8 = 0;
 
-pub(crate) const TWO_RULES: u8 = 1;
+pub(crate) const ONE_RULE: u8 = 64;
 
-const ONE_RULE: u8 = 2;
+pub(crate) const TWO_RULES: u8 = 128;
 
 // Whether a rule's numbers are in range, and its value within its care.
 fn rule_right(modes: usize, count: usize, mode: u32, care: u32, value: u32, next: u32) -> bool
@@ -34,29 +34,36 @@ fn rule_right(modes: usize, count: usize, mode: u32, care: u32, value: u32, next
     (next as usize) < modes
 }
 
-// A pair's entry after one rule more of its mode.
-fn after_rule(entry: u8, flags: u8, care: u8, value: u8, next: u8) -> u8
-    requires { ⌜ next < most-modes ⌝ }
-    ensures { λ r. ⌜ r ≡ after-rule entry flags care value next ⌝ }
+// What a rule adds to the entry of its mode and these flags.
+fn added(flags: u8, care: u8, value: u8, worth: u8) -> u8
+    ensures { λ r. ⌜ r ≡ added flags care value worth ⌝ }
 {
     if flags & care != value {
+        return 0;
+    }
+    worth
+}
+
+// A pair's entry after so much more. That no rule adds 0, and an addition in place of a choice, is for speed.
+fn after_rule(entry: u8, more: u8) -> u8
+    requires { ⌜ more < two-rules ⌝ }
+    ensures { λ r. ⌜ r ≡ after-rule entry more ⌝ }
+{
+    if TWO_RULES <= entry {
         return entry;
     }
-    if entry != NO_RULE {
-        return TWO_RULES;
-    }
-    next + ONE_RULE
+    entry + more
 }
 
 // One rule more, tested for every combination of flags; the entries of its mode start at `base`.
-fn mark_rule(pairs: &mut [u8], base: usize, count: usize, care: u8, value: u8, next: u8)
-    requires { ⌜ (base + count ≤ length (now pairs)) × (count ≤ most-combinations) × (next < most-modes) ⌝ }
-    ensures { λ r. ⌜ Rule-marked base count care value next (now (pairs .entry)) (now (pairs .exit)) ⌝ }
+fn mark_rule(pairs: &mut [u8], base: usize, count: usize, care: u8, value: u8, worth: u8)
+    requires { ⌜ (base + count ≤ length (now pairs)) × (count ≤ most-combinations) × (worth < two-rules) ⌝ }
+    ensures { λ r. ⌜ Rule-marked base count care value worth (now (pairs .entry)) (now (pairs .exit)) ⌝ }
 {
     let mut f: usize = 0;
     while f < count {
         let i = base + f;
-        pairs[i] = after_rule(pairs[i], f as u8, care, value, next);
+        pairs[i] = after_rule(pairs[i], added(f as u8, care, value, worth));
         f += 1;
     }
 }
@@ -93,7 +100,7 @@ pub(crate) fn rule_block(
             count,
             care as u8,
             value as u8,
-            next as u8,
+            next as u8 + ONE_RULE,
         );
         here = past;
         many += 1;

@@ -93,9 +93,12 @@ cast-mark-rule-3 c = omega (arith, within (c .before) .care, within (c .before) 
 cast-mark-rule-4 : tie.Need-cast-mark-rule-4 Inv-loop μ-loop
 cast-mark-rule-4 c = omega (arith, within (c .before) .next)
 
+add-mark-rule : tie.Need-add-mark-rule Inv-loop μ-loop
+add-mark-rule c = omega (arith, within (c .before) .next, c .before .before .before .before .before .before .before .before .before .before .before .before .before .before .before .before .pre .few-modes)
+
 mark-rule-requires : tie.Need-mark-rule-requires Inv-loop μ-loop
 mark-rule-requires c κs =
-    (omega (arith, mode-within (c .before .before .before .before .before .before .before .before .before .before .before .before .before .before .before .before .pre) (within (c .before) .mode), c .before .before .before .before .before .before .before .before .before .before .before .before .before .loop .inv .marked .long), c .before .before .before .before .before .before .before .before .before .before .before .before .before .before .before .before .pre .few-flags, omega (arith, within (c .before) .next))
+    (omega (arith, mode-within (c .before .before .before .before .before .before .before .before .before .before .before .before .before .before .before .before .pre) (within (c .before) .mode), c .before .before .before .before .before .before .before .before .before .before .before .before .before .loop .inv .marked .long), c .before .before .before .before .before .before .before .before .before .before .before .before .before .before .before .before .pre .few-flags, omega (arith, within (c .before) .next, c .before .before .before .before .before .before .before .before .before .before .before .before .before .before .before .before .pre .few-modes))
 
 add-many : tie.Need-add-many Inv-loop μ-loop
 add-many c = omega (arith, c .before .before .before .before .before .before .before .before .before .before .before .before .before .before .if1 .left)
@@ -104,7 +107,8 @@ loop-less : tie.Need-loop-less Inv-loop μ-loop
 loop-less c = omega (arith, c .before .before .before .before .before .before .before .before .before .before .before .before .before .before .if1 .left)
 
 loop-again : tie.Need-loop-again Inv-loop μ-loop
-loop-again c = rules-more (c .before .before .before .before .before .before .before .before .before .before .before .before .before .before .before .before .loop .inv) (c .before .before .before .before .before .before .before .before .before .before .before .before .before .before .before .loop-test .taken) (line (c .before .before .before .before .before .before .before)) (c .before .before .before .before .before .before .before .before .before .before .before .before .before .before .if1 .left) (right (c .before .before .before .before)) (c .before .before .mark-rule .ensures)
+loop-again c = rules-more (c .before .before .before .before .before .before .before .before .before .before .before .before .before .before .before .before .loop .inv) (c .before .before .before .before .before .before .before .before .before .before .before .before .before .before .before .loop-test .taken) (line (c .before .before .before .before .before .before .before)) (c .before .before .before .before .before .before .before .before .before .before .before .before .before .before .if1 .left) (right (c .before .before .before .before)) (omega (arith, within (c .before .before .before .before) .next, c .before .before .before .before .before .before .before .before .before .before .before .before .before .before .before .before .before .before .before .pre .few-modes)) refl
+    (c .before .before .mark-rule .ensures)
 
 same-length-5 : tie.Need-same-length-5 Inv-loop μ-loop
 same-length-5 c = c .before .loop .inv .marked .long ∙ sym (c .before .before .before .before .pre .long)
@@ -139,6 +143,7 @@ rule-block-spec =
     cast-mark-rule-2
     cast-mark-rule-3
     cast-mark-rule-4
+    add-mark-rule
     mark-rule-requires
     add-many
     loop-less
