@@ -58,7 +58,7 @@ pub extern "C" fn rezkundo_check_chart(chart: &[u8]) -> Charted
 }
 
 // `REZKUNDO_VERSION` in the header that goes with this library.
-const VERSION: u32 = 10300;
+const VERSION: u32 = 10400;
 
 // The product's version as one number.
 #[no_mangle]
