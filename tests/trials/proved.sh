@@ -33,6 +33,16 @@ claim_in() { # NAME OUTPUT CLAIM: what claimcheck prints of the file
     input=/dev/null
 }
 
+chart_of() { # NAME OUTPUT ERRORS CHART: what chartcheck prints of the file, and says of its bad pair
+    trial "chartcheck, $1" "$2" "$3" "$programs/chartcheck" "$4"
+}
+
+chart_fails() { # NAME ERRORS ARGUMENT...
+    local name=$1 errors=$2
+    shift 2
+    trial "chartcheck, $name" '' "$errors" "$programs/chartcheck" "$@"
+}
+
 find_in K1 "$lasso_1" k1
 find_in K2 "$empty_2" k2
 find_in K3 "$lasso_3" k3
@@ -279,3 +289,142 @@ trial 'claimcheck, a folder' '' $'standard input: Is a directory\n' "$programs/c
 input=claim
 trial 'claimcheck, no room' '' $'standard output: No space left on device\n' into_full "$programs/claimcheck"
 input=/dev/null
+
+# ---- chartcheck: which pair is bad
+
+modes=$'version modes start flags\n' rules=$'mode care value next\n'
+faulty=$'refused 17\n'
+by_rules() { # NAME OUTPUT ERRORS RULES: a chart of hold, which always climbs, and climb by these rules, on three flags
+    file ruled "${modes}1 2 0 3"$'\nname\nhold\nclimb\n'"$rules"$'0 0 0 1\n'"$4"
+    chart_of "$1" "$2" "$3" ruled
+}
+bad_pair() { # NAME REFUSAL MODE FLAGS ERRORS RULES
+    by_rules "$1" "refused $2"$'\n'"mode $3"$'\n'"flags $4"$'\n' "$5"$'\n' "$6"
+}
+by_rules 'a rule for all flags' $'pass\n' '' $'1 0 0 0\n'
+cp ruled chart
+by_rules 'rules in any order, to any mode' $'pass\n' '' $'1 6 2 1\n1 3 1 0\n1 7 7 1\n1 5 4 0\n1 7 0 1\n'
+bad_pair 'no rule' 18 1 4 'mode climb, flags 100: no rule' $'1 4 0 0\n1 5 5 1\n'
+bad_pair 'two rules' 19 1 3 'mode climb, flags 011: more than one rule' $'1 4 0 0\n1 4 4 0\n1 3 3 1\n'
+bad_pair 'two equal rules' 19 1 0 'mode climb, flags 000: more than one rule' $'1 0 0 0\n1 0 0 0\n'
+bad_pair 'three rules' 19 1 7 'mode climb, flags 111: more than one rule' $'1 0 0 0\n1 7 7 0\n1 7 7 1\n'
+bad_pair 'two rules, and then none' 19 1 1 'mode climb, flags 001: more than one rule' $'1 4 0 0\n1 5 1 0\n'
+bad_pair 'none, and then two rules' 18 1 0 'mode climb, flags 000: no rule' $'1 1 1 0\n1 3 3 0\n'
+bad_pair 'a mode without a rule' 18 1 0 'mode climb, flags 000: no rule' ''
+bad_pair 'a bad pair of a mode before' 19 0 2 'mode hold, flags 010: more than one rule' $'1 1 1 0\n0 3 2 0\n'
+by_rules 'two rules, and then a fault' "$faulty" '' $'1 0 0 0\n1 0 0 0\n1 0 0 2\n'
+file none "${modes}1 1 0 2"$'\nname\nLand\n'"$rules"
+chart_of 'no rules at all' $'refused 18\nmode 0\nflags 0\n' $'mode Land, flags 00: no rule\n' none
+file apart "${modes}1 3 0 1"$'\nname\nHold\nClimb\nLand\n'"$rules"$'0 0 0 0\n2 0 0 2\n'
+chart_of 'a mode that no rule leads to' $'refused 18\nmode 1\nflags 0\n' $'mode Climb, flags 0: no rule\n' apart
+
+# ---- chartcheck: rules, names and counts that are none
+
+for line in '1 8 0 0' '1 0 1 0' '1 3 4 0' '1 4 5 0' '2 0 0 0' '1 0 0 2' '1 0 0' '1 0 0 0 0' '1 0  0 0' ' 1 0 0 0' '1 0 0 0 ' \
+    $'1 0 0 0\r' $'1\t0 0 0' '1 0 0 00' '1 0 0 -0' '1 0 0 +0' '1 0 0 0x' '1 1000000000 0 0' '1 4294967296 0 0' ''; do
+    by_rules "the rule '$line'" "$faulty" '' "$line"$'\n'
+done
+by_rules 'an empty line at the end' "$faulty" '' $'1 0 0 0\n\n'
+by_rules 'an empty line between' "$faulty" '' $'1 1 0 0\n\n1 1 1 0\n'
+by_rules 'a byte after the last line feed' "$faulty" '' $'1 0 0 0\n1'
+
+by_name() { # NAME OUTPUT ERRORS NAME RULES: a chart of one mode and eight flags
+    file called "${modes}1 1 0 8"$'\nname\n'"$4"$'\n'"$rules$5"
+    chart_of "$1" "$2" "$3" called
+}
+by_name 'a name of 1 byte' $'pass\n' '' 7 $'0 0 0 0\n'
+by_name 'a name of 16 bytes' $'refused 19\nmode 0\nflags 130\n' $'mode azAZ09azAZ09azAZ, flags 10000010: more than one rule\n' \
+    azAZ09azAZ09azAZ $'0 0 0 0\n0 255 130 0\n'
+for name in '' azAZ09azAZ09azAZ0 a-b 'a b' a_b '/' ':' '@' '[' '`' '{' é ' a' 'a ' $'a\r'; do
+    by_name "the name '$name'" "$faulty" '' "$name" $'0 0 0 0\n'
+done
+file equal "${modes}1 2 1 1"$'\nname\nHold\nHold\n'"$rules"$'0 0 0 1\n1 1 0 0\n'
+chart_of 'equal names' $'refused 18\nmode 1\nflags 1\n' $'mode Hold, flags 1: no rule\n' equal
+
+by_head() { # OUTPUT LINE: a chart with this line 2, two modes and a rule for each
+    file headed "$modes$2"$'\nname\nHold\nLand\n'"$rules"$'0 0 0 1\n1 0 0 1\n'
+    chart_of "line 2 is '$2'" "$1" '' headed
+}
+for line in '1 2 0 1' '1 2 1 8'; do by_head $'pass\n' "$line"; done
+for line in '2 2 0 1' '0 2 0 1' '01 2 0 1' '1 2 2 1' '1 2 0 0' '1 2 0 9' '1 1 0 1' '1 3 0 1' '1 0 0 1' '1 2 0' '1 2 0 1 0' \
+    '1  2 0 1' '1 2 0 1 ' '1 2 0 1000000000' ''; do
+    by_head "$faulty" "$line"
+done
+
+# ---- chartcheck: files that are cut, too long or at a limit
+
+# A chart of so many modes and flags by so many rules for one pair each, from the first pair on.
+by_pairs() { # MODES FLAGS RULES
+    printf '%s1 %d %d %d\nname\n' "$modes" "$1" $(($1 - 1)) "$2"
+    awk -v m="$1" -v k="$2" -v n="$3" 'BEGIN {
+        for (q = 0; q < m; q++) print "M" q
+        print "mode care value next"
+        for (i = 0; i < n; i++) print int(i / 2 ^ k), 2 ^ k - 1, i % 2 ^ k, m - 1
+    }'
+}
+by_pairs 2 8 512 >rules.512
+by_pairs 2 8 511 >rules.511
+{ cat rules.512; echo 1 255 255 0; } >rules.513
+by_pairs 32 4 512 >modes.32
+by_pairs 32 4 511 >modes.32.gap
+by_pairs 33 3 264 >modes.33
+by_pairs 1 9 512 >flags.9
+{ cat none; same 512 '0 0 0 0'; } >equal.512
+{ cat equal.512; echo 0 0 0 0; } >equal.513
+chart_of '512 rules, 8 flags' $'pass\n' '' rules.512
+chart_of '511 rules' $'refused 18\nmode 1\nflags 255\n' $'mode M1, flags 11111111: no rule\n' rules.511
+chart_of '513 rules' "$faulty" '' rules.513
+chart_of '32 modes' $'pass\n' '' modes.32
+chart_of '32 modes, the last pair' $'refused 18\nmode 31\nflags 15\n' $'mode M31, flags 1111: no rule\n' modes.32.gap
+chart_of '33 modes' "$faulty" '' modes.33
+chart_of '9 flags' "$faulty" '' flags.9
+chart_of '512 equal rules' $'refused 19\nmode 0\nflags 0\n' $'mode Land, flags 00: more than one rule\n' equal.512
+chart_of '513 equal rules' "$faulty" '' equal.513
+
+# The chart has 8 lines: line 7 is the rule for hold, and line 8 the one for climb.
+for lines in 1 2 3 4 5; do
+    head -n "$lines" chart >torn.chart
+    chart_of "torn after line $lines" "$faulty" '' torn.chart
+    head -c -1 torn.chart >torn.line
+    chart_of "torn before the end of line $lines" "$faulty" '' torn.line
+done
+head -n 6 chart >torn.chart
+chart_of 'torn after its last names' $'refused 18\nmode 0\nflags 0\n' $'mode hold, flags 000: no rule\n' torn.chart
+head -c -1 torn.chart >torn.line
+chart_of 'torn before the end of its last names' "$faulty" '' torn.line
+head -n 7 chart >torn.chart
+chart_of 'torn between two rules' $'refused 18\nmode 1\nflags 0\n' $'mode climb, flags 000: no rule\n' torn.chart
+head -c -1 chart >torn.line
+chart_of 'torn before its last line feed' "$faulty" '' torn.line
+sed 's/$/\r/' chart >edited
+chart_of 'carriage returns' "$faulty" '' edited
+{ echo; cat chart; } >edited
+chart_of 'an empty line at the front' "$faulty" '' edited
+for line in 1 3 6; do
+    sed "${line}s/\$/ /" chart >edited
+    chart_of "a space behind the names on line $line" "$faulty" '' edited
+done
+{ cat chart; head -c 65536 /dev/zero; } | head -c 65536 >chart.65536
+{ cat chart; same 8200 '1 0 0 0'; } | head -c 65536 >rules.65536
+{ cat chart; same 8200 '1 0 0 0'; } | head -c 65537 >rules.65537
+chart_of 'an empty file' "$faulty" '' torn.0
+chart_of 'a case' "$faulty" '' k1
+chart_of '65,536 bytes' "$faulty" '' chart.65536
+chart_of '65,536 bytes of rules' "$faulty" '' rules.65536
+chart_of '65,537 bytes of rules' "$faulty" '' rules.65537
+chart_of 'a million bytes' "$faulty" '' long.1000000
+
+# ---- chartcheck: how it is called
+
+usage=$'usage: chartcheck CHART\n'
+chart_fails 'no argument' "$usage"
+chart_fails 'two arguments' "$usage" chart chart
+chart_fails 'no such file' $'missing: No such file or directory\n' missing
+chart_fails 'a folder' $'folder: Is a directory\n' folder
+chart_fails 'a name without letters' $': No such file or directory\n' ''
+chart_fails 'a name too long' $'file name: File name too long\n' "$(printf '%05000d' 0)"
+chart_fails 'a file below a file' $'chart/chart: Not a directory\n' chart/chart
+chart_fails 'no file named -' $'-: No such file or directory\n' -
+trial 'chartcheck, no room' '' $'standard output: No space left on device\n' into_full "$programs/chartcheck" chart
+trial 'chartcheck, a bad pair and no room' '' $'standard output: No space left on device\nmode Land, flags 00: no rule\n' \
+    into_full "$programs/chartcheck" none
