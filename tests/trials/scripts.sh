@@ -14,6 +14,7 @@ rule() { awk -F '\t' -v number="$1" '$1 == number { print $3 }' "$root/share/rez
 # ---- a result
 
 find=$scripts/loopfind check=$scripts/loopcheck list=$scripts/looplist claims=$scripts/claimcheck
+charts=$scripts/chartcheck
 input=k1
 ends 0 'bin/loopfind' "$lasso_1" '' "$find"
 ends 0 'bin/loopfind -' "$lasso_1" '' "$find" -
@@ -26,6 +27,7 @@ ends 0 'bin/claimcheck, a file' "$shown_claim" '' "$claims" claim
 input=claim
 ends 0 'bin/claimcheck -' "$shown_claim" '' "$claims" -
 input=/dev/null
+ends 0 'bin/chartcheck, a file' $'pass\n' '' "$charts" chart
 
 # ---- a refusal: which file, and the rule in plain words
 
@@ -54,6 +56,15 @@ ends 1 'bin/looplist, an act too many' $'refusal 9\n'"$undone" "looplist: acts: 
 ends 1 'bin/looplist, unended' $'refusal 10\nverdict none\nacts 7\nsent 4\ndelivered 3\njoined 0\n' "looplist: acts: $(rule 10)"$'\n' "$list" k1 short
 words=$(rule 14)
 ends 1 'bin/claimcheck, refused' $'refused 14\n' "claimcheck: claim: ${words:-refusal 14, see docs/REFUSALS.md}"$'\n' "$claims" torn.0
+file chart_gap "${modes}1 2 0 3"$'\nname\nhold\nclimb\n'"$rules"$'0 0 0 1\n1 4 0 0\n1 5 5 1\n'
+file chart_overlap "${modes}1 2 0 3"$'\nname\nhold\nclimb\n'"$rules"$'0 0 0 1\n1 4 0 0\n1 4 4 0\n1 3 3 1\n'
+gap=$'refused 18\nmode 1\nflags 4\n'
+overlap=$'refused 19\nmode 1\nflags 3\n'
+gap_words=$'mode climb, flags 100: no rule\nchartcheck: chart: a mode and a combination of flags have no rule\n'
+overlap_words=$'mode climb, flags 011: more than one rule\nchartcheck: chart: a mode and a combination of flags have two rules or more\n'
+ends 1 'bin/chartcheck, a fault of the text' "$faulty" "chartcheck: chart: $(rule 17)"$'\n' "$charts" torn.0
+ends 1 'bin/chartcheck, no rule' "$gap" "$gap_words" "$charts" chart_gap
+ends 1 'bin/chartcheck, two rules' "$overlap" "$overlap_words" "$charts" chart_overlap
 
 # The table has each refusal once, in order, and docs/REFUSALS.md has a row for each.
 in_table() { cut -f 1 "$root/share/rezkundo/refusals"; }
@@ -75,6 +86,12 @@ ends 2 'bin/loopfind, output closed' '' "loopfind$unwritten" closed "$find" k1
 ends 2 'bin/claimcheck, no such file' '' $'claimcheck: missing: No such file or directory\n' "$claims" missing
 ends 2 'bin/claimcheck, two files' '' $'usage: claimcheck [CLAIM]\n' "$claims" claim claim
 ends 2 'bin/claimcheck, no room' '' "claimcheck$unwritten" into_full "$claims" claim
+ends 2 'bin/chartcheck, no such file' '' $'missing: No such file or directory\n' "$charts" missing
+ends 2 'bin/chartcheck, a folder' '' $'folder: Is a directory\n' "$charts" folder
+ends 2 'bin/chartcheck, a name without letters' '' $': No such file or directory\n' "$charts" ''
+ends 2 'bin/chartcheck, two files' '' $'usage: chartcheck [CHART]\n' "$charts" chart chart
+ends 2 'bin/chartcheck, no room' '' "chartcheck$unwritten" into_full "$charts" chart
+ends 2 'bin/chartcheck, a bad pair and no room' '' "${gap_words%%$'\n'*}"$'\n'"chartcheck$unwritten" into_full "$charts" chart_gap
 ends 2 'bin/loopcheck, no such file' '' $'missing: No such file or directory\n' "$check" k1 missing
 ends 2 'bin/loopcheck, one file' '' $'usage: loopcheck CASE ANSWER\n' "$check" k1
 ends 2 'bin/loopcheck, - twice' '' $'loopcheck: only one of the two files can be standard input\n' "$check" - -
@@ -93,6 +110,7 @@ ends 2 'bin/looplist, too little stack' '' $'Segmentation fault\nlooplist: ended
 on_terminal() { # FILE COMMAND...: the command, with the file typed at a terminal as its standard input
     python3 "$root/tests/trials/on_terminal.py" "$@"
 }
+piped() { { head -c 50 chart; sleep 0.2; tail -c +51 chart; } | "$@"; }
 input=k1
 ends 0 'bin/loopcheck, - for the case' $'pass lasso\n' '' "$check" - a1
 input=k10
@@ -108,17 +126,34 @@ input=most.wide
 ends 1 'bin/looplist, 400,000 acts by -' $'refusal 9\n'"$undone" "looplist: acts: $(rule 9)"$'\n' "$list" k1 -
 input=too.many.wide
 ends 2 'bin/looplist, 400,001 acts by -' '' $'/dev/stdin: more than 400000 acts\n' "$list" k1 -
+input=chart
+ends 0 'bin/chartcheck' $'pass\n' '' "$charts"
+ends 0 'bin/chartcheck -' $'pass\n' '' "$charts" -
+ends 0 'bin/chartcheck, a pipe that comes in parts' $'pass\n' '' piped "$charts" -
+input=chart_gap
+ends 1 'bin/chartcheck, no rule, by standard input' "$gap" "$gap_words" "$charts"
+input=chart_overlap
+ends 1 'bin/chartcheck, two rules, by -' "$overlap" "$overlap_words" "$charts" -
+input=/dev/null
+ends 1 'bin/chartcheck, no byte' "$faulty" "chartcheck: chart: $(rule 17)"$'\n' "$charts"
+cp chart_gap ./-
+ends 0 'bin/chartcheck, - and a file of that name' $'pass\n' '' piped "$charts" -
+ends 1 'bin/chartcheck, a file of that name' "$gap" "$gap_words" "$charts" ./-
 cp k1 ./-:k1
 ends 0 'bin/loopcheck, a name that begins -:' $'pass lasso\n' '' on_terminal k1 "$check" -:k1 a1
 input=folder
 ends 2 'bin/loopcheck, a folder by -' '' $'head: error reading \'standard input\': Is a directory
 loopcheck: standard input was not read\n' "$check" - a1
+ends 2 'bin/chartcheck, a folder by standard input' '' $'head: error reading \'standard input\': Is a directory
+chartcheck: standard input was not read\n' "$charts"
 input=/dev/null
 
 hint=$': reads from the terminal; end the file by Ctrl-D on a line of its own\n'
 ends 0 'bin/loopfind, from a terminal' "$lasso_1" "loopfind$hint" on_terminal k1 "$find"
 ends 0 'bin/loopcheck, from a terminal' $'pass lasso\n' "loopcheck$hint" on_terminal a1 "$check" k1 -
 ends 0 'bin/loopfind, a file and a terminal' "$lasso_1" '' on_terminal torn.0 "$find" k1
+ends 0 'bin/chartcheck, from a terminal' $'pass\n' "chartcheck$hint" on_terminal chart "$charts"
+ends 0 'bin/chartcheck, a file and a terminal' $'pass\n' '' on_terminal torn.0 "$charts" chart
 
 # ---- the one door
 
@@ -130,12 +165,15 @@ ends 0 'bin/rezkundo' "\
   rezkundo list   replays a recorded order of the bus on a mission
   rezkundo draw   draws a mission, and a finding in it, as Graphviz text
   rezkundo claim  judges a claim in the Hanoi format, and prints its states
+  rezkundo chart  checks a chart of modes for gaps and overlaps in its rules
 " '' listed "$door"
 ends 0 'bin/rezkundo find' "$lasso_1" '' "$door" find k1
 ends 0 'bin/rezkundo check' $'pass lasso\n' '' "$door" check k1 a1
 ends 0 'bin/rezkundo list' "$done_1" '' "$door" list k1 whole
 ends 0 'bin/rezkundo claim' "$shown_claim" '' "$door" claim claim
-ends 2 'bin/rezkundo, another word' '' $'usage: rezkundo [find | check | list | draw | claim] [ARGUMENT]...\n' "$door" seek k1
+ends 0 'bin/rezkundo chart' $'pass\n' '' "$door" chart chart
+ends 1 'bin/rezkundo chart, no rule' "$gap" "$gap_words" "$door" chart chart_gap
+ends 2 'bin/rezkundo, another word' '' $'usage: rezkundo [find | check | list | draw | claim | chart] [ARGUMENT]...\n' "$door" seek k1
 
 # ---- help and version, from a tree in which nothing is built and on a machine without the kit
 
@@ -150,7 +188,7 @@ rm -f without_rt/rt
 kitless() { PATH=$work/without_rt "$@"; }
 kit=$(rt version)
 about=$(head -n 1 "$root/share/rezkundo/version")$'\n'$(tail -n +2 "$root/share/rezkundo/version")$'\n'kit:
-for name in loopfind loopcheck looplist loopdraw claimcheck; do
+for name in loopfind loopcheck looplist loopdraw claimcheck chartcheck; do
     trial "$name --help" "$(cat "$root/share/rezkundo/help/$name")"$'\n' '' kitless "bare tree/bin/$name" --help
     trial "$name --version" "$name (Rezkundo) $about none on this machine"$'\n' '' kitless "bare tree/bin/$name" --version
     trial "$name --version, the kit" "$name (Rezkundo) $about $kit"$'\n' '' "bare tree/bin/$name" --version
@@ -191,3 +229,9 @@ ends 0 'examples, large' $'pass lasso\n' '' "$check" field.case field.answer
 "$root/examples/rounds" k1 4 >four.acts
 ends 1 'examples, three rounds' $'refusal 10\nverdict none\nacts 6\nsent 3\ndelivered 3\njoined 0\n' "looplist: acts: $(rule 10)"$'\n' "$list" k1 three.acts
 ends 0 'examples, four rounds' "$done_1" '' "$list" k1 four.acts
+survey=$root/examples/survey
+ends 0 'examples, a chart' $'pass\n' '' "$charts" "$survey.chart"
+ends 1 'examples, a chart with a gap' $'refused 18\nmode 2\nflags 2\n' $'mode Survey, flags 0010: no rule\n'"chartcheck: chart: $(rule 18)"$'\n' \
+    "$charts" "$survey-gap.chart"
+ends 1 'examples, a chart with an overlap' $'refused 19\nmode 2\nflags 5\n' $'mode Survey, flags 0101: more than one rule\n'"chartcheck: chart: $(rule 19)"$'\n' \
+    "$charts" "$survey-overlap.chart"
