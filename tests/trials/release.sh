@@ -18,13 +18,15 @@ input=/dev/null
 ends 0 'release: the check of K1' $'pass lasso\n' '' kitless "$unpacked/bin/loopcheck" k1 a1
 ends 0 'release: the acts of K1' "$done_1" '' kitless "$unpacked/bin/looplist" k1 whole
 ends 0 'release: a claim' "$shown_claim" '' kitless "$unpacked/bin/claimcheck" claim
+ends 0 'release: a chart' $'pass\n' '' kitless "$unpacked/bin/chartcheck" "$unpacked/share/doc/rezkundo/examples/survey.chart"
+ends 1 'release: a chart with a gap' "$gap" "$gap_words" kitless "$unpacked/bin/chartcheck" chart_gap
 ends 0 'release: K1, drawn' "$lasso" '' kitless "$unpacked/bin/loopdraw" k1 a1
 ends 1 'release: K11' $'refused 8\n' "loopfind: case: $twice" kitless "$unpacked/bin/rezkundo" find k11
 id=$(git -C "$root" rev-parse HEAD)
 shown() { kitless "$unpacked/bin/loopfind" --version | sed 's/, with changes$//'; }
 trial 'release: its version' "loopfind (Rezkundo) ${about%kit:}commit: $id"$'\n'"kit: $kit"$'\n' '' shown
 pages() { (cd "$unpacked/share/man/man1" && ls); }
-trial 'release: man pages' $'claimcheck.1\nloopcheck.1\nloopdraw.1\nloopfind.1\nlooplist.1\nrezkundo.1\n' '' pages
+trial 'release: man pages' $'chartcheck.1\nclaimcheck.1\nloopcheck.1\nloopdraw.1\nloopfind.1\nlooplist.1\nrezkundo.1\n' '' pages
 
 # ---- its library
 
