@@ -3,31 +3,21 @@
 
 use std::hint::black_box;
 
-use measure::charts::{Example, examples};
+use measure::charts::examples;
 use measure::clock::median_seconds;
+use measure::readers::{Measured, print};
 use plain::charts;
 
 fn main() {
-    println!(
-        "{:<34}{:>7}{:>9}{:>12}{:>11}{:>10}",
-        "chart", "bytes", "refusal", "library/us", "plain/us", "l/plain"
-    );
-    for example in examples() {
-        println!("{}", row(&example));
-    }
-}
-
-fn row(example: &Example) -> String {
-    let checked = charts::check(&example.text);
-    let (refusal, ..) = checked;
-    let (library, plain) = times(&example.text, checked);
-    let ratio = library.map_or("-".to_owned(), |library| format!("{:.2}", library / plain));
-    let library = library.map_or("-".to_owned(), |library| format!("{library:.1}"));
-    let bytes = example.text.len();
-    format!(
-        "{:<34}{bytes:>7}{refusal:>9}{library:>12}{plain:>11.1}{ratio:>10}",
-        example.name
-    )
+    print("chart", &examples(), |text| {
+        let checked = charts::check(text);
+        let (library, plain) = times(text, checked);
+        Measured {
+            refusal: checked.0,
+            library,
+            plain,
+        }
+    });
 }
 
 fn plain_way(text: &[u8]) -> impl FnMut() {

@@ -3,31 +3,21 @@
 
 use std::hint::black_box;
 
-use measure::claims::{Example, examples};
+use measure::claims::examples;
 use measure::clock::median_seconds;
+use measure::readers::{Measured, print};
 use plain::claims::{self, Tables};
 
 fn main() {
-    println!(
-        "{:<34}{:>7}{:>9}{:>12}{:>11}{:>10}",
-        "claim", "bytes", "refusal", "library/us", "plain/us", "l/plain"
-    );
-    for example in examples() {
-        println!("{}", row(&example));
-    }
-}
-
-fn row(example: &Example) -> String {
-    let read = claims::read(&example.text, &mut Tables::empty());
-    let refusal = read.err().unwrap_or(0);
-    let (library, plain) = times(&example.text, refusal);
-    let ratio = library.map_or("-".to_owned(), |library| format!("{:.2}", library / plain));
-    let library = library.map_or("-".to_owned(), |library| format!("{library:.1}"));
-    let bytes = example.text.len();
-    format!(
-        "{:<34}{bytes:>7}{refusal:>9}{library:>12}{plain:>11.1}{ratio:>10}",
-        example.name
-    )
+    print("claim", &examples(), |text| {
+        let refusal = claims::read(text, &mut Tables::empty()).err().unwrap_or(0);
+        let (library, plain) = times(text, refusal);
+        Measured {
+            refusal,
+            library,
+            plain,
+        }
+    });
 }
 
 /// The tables are the caller's, as the library's cells are.

@@ -1,20 +1,16 @@
 //! Charts with 8 flags, most of them with the most rules.
 
-use inputs::charts::{chart_of, greatest_chart, text_of};
+use inputs::charts::{greatest_chart, text_of, with_whole_rules};
 use inputs::rng::Rng;
 use reference::chart::{Chart, LIMITS, Rule};
 
-const SEED: u64 = 512;
+use crate::readers::Text;
 
-/// A chart with a name for the table.
-pub struct Example {
-    pub name: &'static str,
-    pub text: Vec<u8>,
-}
+const SEED: u64 = 512;
 
 /// Right charts of several kinds, one with bad pairs at its end and one that is
 /// refused at its last line.
-pub fn examples() -> Vec<Example> {
+pub fn examples() -> Vec<Text> {
     let greatest = greatest_chart(LIMITS.modes);
     let mut gap = greatest.clone();
     gap.rules.pop();
@@ -24,29 +20,18 @@ pub fn examples() -> Vec<Example> {
         ("2 modes of 256 rules", greatest_chart(2)),
         ("32 modes of 16 rules", greatest),
         ("32 modes of 16 rules, mixed", mixed()),
-        ("32 modes of one rule", with_whole_rules()),
+        (
+            "32 modes of one rule",
+            with_whole_rules(LIMITS.modes, 0, LIMITS.flags),
+        ),
         ("the second one, a rule left out", gap),
         ("the second one, a rule too many", longer),
     ];
-    let example = |(name, chart): (_, Chart)| Example {
+    let example = |(name, chart): (_, Chart)| Text {
         name,
         text: text_of(&chart),
     };
     examples.map(example).into()
-}
-
-/// One rule for each mode, for whatever flags.
-fn with_whole_rules() -> Chart {
-    let rule = |mode| Rule {
-        mode,
-        care: 0,
-        value: 0,
-        next: mode,
-    };
-    Chart {
-        rules: (0..LIMITS.modes).map(rule).collect(),
-        ..chart_of(LIMITS.modes, 0, LIMITS.flags)
-    }
 }
 
 /// Each mode cares for four flags of its own, and rules stand in no order.

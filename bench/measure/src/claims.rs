@@ -4,6 +4,8 @@
 use inputs::rng::Rng;
 use reference::claim::{LIMITS, MOST_STATES};
 
+use crate::readers::Text;
+
 const SEED: u64 = 16_384;
 const PROPOSITIONS: usize = LIMITS.propositions as usize;
 const OPENING: &str = "HOA: v1\n";
@@ -16,14 +18,8 @@ const HEADER: &str = "States: 15\n\
 const BODY: &str = "--BODY--\n";
 const END: &str = "--END--\n";
 
-/// A claim with a name for the table.
-pub struct Example {
-    pub name: &'static str,
-    pub text: Vec<u8>,
-}
-
 /// One claim of each kind, and one that is refused at its end.
-pub fn examples() -> Vec<Example> {
+pub fn examples() -> Vec<Text> {
     let mut rng = Rng::new(SEED);
     let brackets = with_edges(|| format!("[{}] {}\n", any(&mut rng, 2), target(&mut rng)));
     let torn = brackets[..brackets.len() - END.len()].to_string();
@@ -40,7 +36,7 @@ pub fn examples() -> Vec<Example> {
         ("blanks", with_blanks()),
         ("the first one, torn at its end", torn),
     ];
-    let example = |(name, text): (_, String)| Example {
+    let example = |(name, text): (_, String)| Text {
         name,
         text: text.into_bytes(),
     };

@@ -1,7 +1,8 @@
-//! What the measuring programs share: the graphs, the claims, the charts
-//! and the clock.
+//! What the measuring programs share: the graphs, the claims, the charts,
+//! the clock and the table for a reader.
 
 pub mod charts;
 pub mod claims;
 pub mod clock;
 pub mod graphs;
+pub mod readers;

@@ -1,10 +1,9 @@
 //! Texts for each reading that was settled of the customer's request on
 //! charts, with what their check returns.
 
-use reference::chart::{Chart, Rule};
 use reference::entries::Charted;
 
-use crate::charts::{chart_of, greatest_chart, text_of};
+use crate::charts::{chart_of, greatest_chart, text_of, with_whole_rules};
 
 /// How many readings there are.
 pub const READINGS: usize = 13;
@@ -223,26 +222,12 @@ fn versions() -> Rows {
     rows
 }
 
-/// A chart of these counts in which each mode has one rule for all.
-fn plain(modes: usize, start: usize, flags: usize) -> Chart {
-    let rule = |mode| Rule {
-        mode,
-        care: 0,
-        value: 0,
-        next: mode,
-    };
-    Chart {
-        rules: (0..modes).map(rule).collect(),
-        ..chart_of(modes, start, flags)
-    }
-}
-
 fn counts() -> Rows {
     let row = |modes: usize, start: usize, flags: usize| {
         let in_range =
             (1..=MOST_MODES).contains(&modes) && start < modes && (1..=MOST_FLAGS).contains(&flags);
         let want = if in_range { TAKEN } else { WRONG };
-        (text_of(&plain(modes, start, flags)), want)
+        (text_of(&with_whole_rules(modes, start, flags)), want)
     };
     let mut rows = Rows::new();
     for modes in [0_usize, 1, 2, 3, 16, 31, 32, 33, 34, 64, 256, 257] {
@@ -304,7 +289,7 @@ fn names() -> Rows {
 
 /// A chart of one mode with one rule, which is the same but for these numbers.
 fn alone(flags: usize, care: usize, value: usize) -> Vec<u8> {
-    let mut chart = plain(1, 0, flags);
+    let mut chart = with_whole_rules(1, 0, flags);
     chart.rules[0].care = care;
     chart.rules[0].value = value;
     text_of(&chart)
@@ -359,7 +344,7 @@ fn modes_of_rules() -> Rows {
         }
     }
     for modes in [1, 31, 32] {
-        let mut chart = plain(modes, 0, 1);
+        let mut chart = with_whole_rules(modes, 0, 1);
         chart.rules[0].next = modes - 1;
         rows.push((text_of(&chart), TAKEN));
         chart.rules[0].next = modes;
@@ -393,13 +378,13 @@ fn counts_of_rules() -> Rows {
         doubled.rules[511] = chart.rules[0];
         rows.push((text_of(&doubled), two_rules(0, 0)));
     }
-    let mut same = plain(1, 0, 1);
+    let mut same = with_whole_rules(1, 0, 1);
     for (count, want) in [
         (0, no_rule(0, 0)),
         (2, two_rules(0, 0)),
         (512, two_rules(0, 0)),
     ] {
-        same.rules.resize(count, plain(1, 0, 1).rules[0]);
+        same.rules.resize(count, with_whole_rules(1, 0, 1).rules[0]);
         rows.push((text_of(&same), want));
     }
     same.rules.resize(513, same.rules[0]);
@@ -510,11 +495,11 @@ fn bad_pairs_of_the_last_mode() -> Rows {
     let mut rows = Rows::new();
     for modes in [31, 32] {
         let last = modes - 1;
-        let mut chart = plain(modes, 0, 8);
+        let mut chart = with_whole_rules(modes, 0, 8);
         chart.rules[last].care = 255;
         chart.rules[last].value = 254;
         rows.push((text_of(&chart), no_rule(last as u32, 0)));
-        chart.rules.push(plain(modes, 0, 8).rules[last]);
+        chart.rules.push(with_whole_rules(modes, 0, 8).rules[last]);
         rows.push((text_of(&chart), two_rules(last as u32, 254)));
         chart.rules.rotate_right(1);
         rows.push((text_of(&chart), two_rules(last as u32, 254)));

@@ -71,6 +71,20 @@ pub fn chart_of(modes: usize, start: usize, flags: usize) -> Chart {
     }
 }
 
+/// A chart of these counts in which each mode has one rule, for whatever flags.
+pub fn with_whole_rules(modes: usize, start: usize, flags: usize) -> Chart {
+    let rule = |mode| Rule {
+        mode,
+        care: 0,
+        value: 0,
+        next: mode,
+    };
+    Chart {
+        rules: (0..modes).map(rule).collect(),
+        ..chart_of(modes, start, flags)
+    }
+}
+
 /// A right chart with so many modes, 8 flags, 512 rules, which are shared
 /// evenly, and names of 16 bytes. Modes are a power of two.
 pub fn greatest_chart(modes: usize) -> Chart {

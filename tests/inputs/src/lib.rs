@@ -12,4 +12,5 @@ pub mod claims;
 pub mod damage;
 pub mod graphs;
 pub mod kept;
+mod readings;
 pub mod rng;

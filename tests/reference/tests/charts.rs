@@ -6,6 +6,7 @@ use inputs::charts::{
     RIGHT, every_chart, greatest_chart, random_cover, random_rule, text_of, with_changed_rule,
 };
 use inputs::damage::damaged;
+use inputs::readings;
 use inputs::rng::Rng;
 use reference::chart::{self, Chart, LIMITS, Rule};
 use reference::entries::{Charted, Reference, Tool};
@@ -27,22 +28,6 @@ fn holds(reading: usize) {
 /// A text, or the front of a long one.
 fn shown(text: &[u8]) -> String {
     text[..text.len().min(2_000)].escape_ascii().to_string()
-}
-
-macro_rules! readings {
-    ($($name:ident $number:literal)*) => {
-        $(
-            #[test]
-            fn $name() {
-                holds($number);
-            }
-        )*
-
-        #[test]
-        fn every_reading_is_tried() {
-            assert!([$($number),*].into_iter().eq(1..=READINGS));
-        }
-    };
 }
 
 readings! {

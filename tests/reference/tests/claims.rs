@@ -4,6 +4,7 @@
 use inputs::claim_changes::every_token_change;
 use inputs::claim_rows::{READINGS, rows};
 use inputs::claims::{Drawn, RIGHT, greatest_claim, random_claim};
+use inputs::readings;
 use inputs::rng::Rng;
 use reference::claim::{self, Claim, LIMITS, read_tokens};
 use reference::claim_tokens::{Fault, Kind, Limits, tokens};
@@ -26,22 +27,6 @@ fn holds(reading: usize) {
 fn shown(text: &[u8]) -> String {
     let shown = text.escape_ascii().to_string();
     shown.replace(&" ".repeat(1_000), "")
-}
-
-macro_rules! readings {
-    ($($name:ident $number:literal)*) => {
-        $(
-            #[test]
-            fn $name() {
-                holds($number);
-            }
-        )*
-
-        #[test]
-        fn every_reading_is_tried() {
-            assert!([$($number),*].into_iter().eq(1..=READINGS));
-        }
-    };
 }
 
 readings! {
