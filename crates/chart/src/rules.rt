@@ -44,7 +44,8 @@ fn added(flags: u8, care: u8, value: u8, worth: u8) -> u8
     worth
 }
 
-// A pair's entry after so much more. That no rule adds 0, and an addition in place of a choice, is for speed.
+// A pair's entry after so much more: an addition, and no choice among kinds of entries, which the compiler does for many
+// combinations at once.
 fn after_rule(entry: u8, more: u8) -> u8
     requires { ⌜ more < two-rules ⌝ }
     ensures { λ r. ⌜ r ≡ after-rule entry more ⌝ }
