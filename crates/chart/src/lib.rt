@@ -173,7 +173,7 @@ fn most_of(a: u8, b: u8) -> u8
     a
 }
 
-// Whether so many pairs all have exactly one rule. It has one way out, for speed.
+// Whether so many pairs all have exactly one rule. The loop looks at every entry, so that the compiler can do many at once.
 fn all_one(pairs: &[u8], many: usize) -> bool
     requires { ⌜ many ≤ length (now pairs) ⌝ }
     ensures { λ r. ⌜ (r ≡ true → All-one (now (pairs .entry)) many) ⌝ }
@@ -250,7 +250,8 @@ pub fn check_chart(text: &[u8]) -> Charted
     }
 }
 
-// The name of a mode of a chart whose text is right: that very part of the text. No line is past the text's end.
+// The name of a mode of a chart whose text is right: that very part of the text. In any other text it is the field at the
+// line where such a name would stand, or an empty one at the end.
 pub fn mode_name(text: &[u8], mode: usize) -> &[u8]
     ensures { λ r. ⌜ Part (text .entry) (name-place (now (text .entry)) mode) r ⌝ }
 {

@@ -13,10 +13,10 @@ use Rattle.text.specs.Lines.{Line, lines, put-first, fields}
 use Rattle.text.specs.Numbers.{most-digits, all-digits, no-leading-zero, is-number, all-numbers, numbers-line}
 use Rattle.text.proofs.Tests.{and-both}
 use Rattle.text.proofs.Lines.{first, size, first-nil, first-feed, first-byte, rest-lines, glue, fields-some}
-use Rattle.text.proofs.Reading.{some-lines}
+use Rattle.text.proofs.Reading.{some-lines, lines-cons}
 use Rattle.looplist.specs.Listing.{listed, Front-decides}
 use Rattle.looplist.specs.declared.acts.Listed.the-variants.{NoAct, TooMany}
-use Rattle.looplist.proofs.Listing.{lines-cons, listed-step}
+use Rattle.looplist.proofs.Listing.{listed-step}
 
 -- THE FIRST LINE of a text's front: the same where it has room, else an open one
 front-go : (n b : ℕ) (bs : List ℕ) (t : Bool) → eqb b line-feed ≡ t → (size (first bs) ≤ n → first (take n bs) ≡ first bs) → size (first (b ∷ bs)) ≤ suc n → first (b ∷ take n bs) ≡ first (b ∷ bs)

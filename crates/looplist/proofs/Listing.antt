@@ -9,24 +9,15 @@ use native.Mathlib.Omega.{arith}
 use lib.Dec.{eqb, lit<}
 use lib.ListN.{length, set, take, drop, length-set}
 use lib.Seq.{take-suc-set, length-take-le}
-use Rattle.text.specs.Lines.{Line, lines, line-at, fields}
+use Rattle.text.specs.Lines.{Line, lines, fields}
 use Rattle.text.specs.Numbers.{numbers-line, all-numbers, number-at}
 use Rattle.text.specs.Reading.{line-here, past-line, row1-here}
 use Rattle.text.specs.declared.read.Row1.{Row1}
 use Rattle.text.specs.declared.read.Row1.the-variants.{Read, Fault}
-use Rattle.text.proofs.Reading.{some-lines, no-lines, Row, row-rest, row1-read, row1-fault}
+use Rattle.text.proofs.Reading.{lines-here, no-lines, Row, row-rest, row1-read, row1-fault}
 use Rattle.looplist.specs.Listing.{listed, numbers-of, Lists}
 use Rattle.looplist.specs.declared.acts.Listed.{Listed}
 use Rattle.looplist.specs.declared.acts.Listed.the-variants.{Acts, NoAct, TooMany}
-
--- THE LINE at a place before the text's end, and those after it
-pub lines-cons : (ls : List Line) → 0 < length ls → ls ≡ line-at ls 0 ∷ drop 1 ls
-unfolding line-at
-lines-cons [] h = absurd (omega arith)
-lines-cons (l ∷ ls) h = refl
-
-lines-here : (s : List ℕ) (at : ℕ) → at < length s → lines (drop at s) ≡ line-here s at ∷ drop 1 (lines (drop at s))
-lines-here s at h = lines-cons (lines (drop at s)) (some-lines s at h)
 
 -- a row ends past its start
 row-rises : {s : List ℕ} {at : ℕ} {vs : List ℕ} {z : ℕ} → Row s at vs z → at < z

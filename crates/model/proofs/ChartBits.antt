@@ -1,6 +1,6 @@
 -- Charts: a match and an overlap, bit by bit. Assumes nothing.
 use mathlib.Core.Path.{_≡_, refl, sym, ap, _∙_}
-use mathlib.Core.Bool.{Bool, true, false, _&&_, _||_, and-true, and-false}
+use mathlib.Core.Bool.{Bool, true, false, _&&_, _||_, and-true, and-false, or-false, or-self}
 use Prim.Native.Nat.{ℕ}
 use lib.Bits.{bitAnd, bitOr, or-comm}
 use lib.Dec.{eqb}
@@ -30,18 +30,10 @@ by-bits r f within = (to, from)
         go i false c = rw c (and-false (bit f i) ∙ sym (bit-within i (r .value) (r .care) within c))
 
 -- AN OVERLAP: where both values agree, both rules match the bits of either value
-or-same : (a b : Bool) → a ≡ b → (a || b) ≡ a
-or-same true b e = refl
-or-same false b e = sym e
-
 module _ (r s : Rule) (a : bitAnd (r .value) (r .care) ≡ r .value) (b : bitAnd (s .value) (s .care) ≡ s .value) (h : (i : ℕ) → bit (r .care) i ≡ true → bit (s .care) i ≡ true → bit (r .value) i ≡ bit (s .value) i) where
   either-bit : (i : ℕ) (t : Bool) → bit (s .care) i ≡ t → bit (r .care) i ≡ true → (bit (r .value) i || bit (s .value) i) ≡ bit (r .value) i
-  either-bit i true q p = or-same (bit (r .value) i) (bit (s .value) i) (h i p q)
-  either-bit i false q p = rw (bit-within i (s .value) (s .care) b q) (none (bit (r .value) i))
-    where
-      none : (x : Bool) → (x || false) ≡ x
-      none true = refl
-      none false = refl
+  either-bit i true q p = rw (← h i p q) (or-self (bit (r .value) i))
+  either-bit i false q p = rw (bit-within i (s .value) (s .care) b q) (or-false (bit (r .value) i))
 
   either-matches : matches r (bitOr (r .value) (s .value)) ≡ true
   unfolding By-bits

@@ -9,7 +9,7 @@ use lib.ListN.{length, getD, drop, drop-of-length-le, length-drop}
 use lib.Seq.{drop-drop}
 use borrow.Author.Tests.{eqb-true, eqb-false, ne-eqb, not-true}
 use Rattle.text.specs.Ascii.{line-feed}
-use Rattle.text.specs.Lines.{Line, lines, put-byte, fields, field, equal, begins, line-is}
+use Rattle.text.specs.Lines.{Line, lines, line-at, put-byte, fields, field, equal, begins, line-is}
 use Rattle.text.specs.Numbers.{is-number, value, all-numbers, numbers-line, number-at}
 use Rattle.text.specs.Reading.{line-here, past-line, field-here, named-here, number-in, leading-here, row1-here, row2-here, row3-here, row5-here}
 use Rattle.text.specs.declared.read.Number.{Number}
@@ -55,6 +55,15 @@ some-lines-go (b ∷ bs) h = go (eqb b line-feed)
 
 pub some-lines : (s : List ℕ) (z : ℕ) → z < length s → 0 < length (lines (drop z s))
 some-lines s z h = some-lines-go (drop z s) (omega (arith, length-drop z s))
+
+-- so there the lines are the one at the place and those after it
+pub lines-cons : (ls : List Line) → 0 < length ls → ls ≡ line-at ls 0 ∷ drop 1 ls
+unfolding line-at
+lines-cons [] h = absurd (omega arith)
+lines-cons (l ∷ ls) h = refl
+
+pub lines-here : (s : List ℕ) (at : ℕ) → at < length s → lines (drop at s) ≡ line-here s at ∷ drop 1 (lines (drop at s))
+lines-here s at h = lines-cons (lines (drop at s)) (some-lines s at h)
 
 -- A NAMED LINE: names that have no line feed are the line at a place, and what is past them is past it
 abbrev pub without-feed : List ℕ → Bool
