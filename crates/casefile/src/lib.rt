@@ -129,7 +129,7 @@ fn read_head(text: &[u8]) -> Head
 }
 
 // Puts a value into a table that has room for it.
-fn put(table: &mut [u32], i: usize, value: u32)
+pub fn put(table: &mut [u32], i: usize, value: u32)
     ensures { λ r. ⌜ now (table .exit) ≡ set (now (table .entry)) i value ⌝ }
 {
     if table.len() <= i {

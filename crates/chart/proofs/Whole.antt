@@ -9,7 +9,7 @@ use native.Mathlib.Omega.{arith}
 use native.Mathlib.Nat.{pow-le-pow-right, one-le-pow}
 use lib.Dec.{ltb, leb, eqb, lit<}
 use lib.ListN.{length, getD, take, drop, replicate, length-replicate, getD-replicate, List·getD-append}
-use borrow.Author.Tests.{le-leb, lt-leb, leb-true, leb-false, eq-eqb, ne-eqb, eqb-false}
+use borrow.Author.Tests.{le-leb, lt-leb, leb-true, leb-false, eq-eqb, ne-eqb, eqb-true, eqb-false}
 use Rattle.text.specs.Lines.{Line, lines, line-at, line-is, field}
 use Rattle.text.specs.Numbers.{numbers-line, number-at}
 use Rattle.text.specs.Reading.{line-here, field-here, skip}
@@ -23,7 +23,8 @@ use Rattle.model.specs.Case.{known-version, longest-file}
 use Rattle.model.specs.Chart.{most-modes, most-flags, longest-name, mode-name, name-line, Rule, combinations, next-mode, chart-names, mode-names, rule-names, chart-counts-good, chart-head-good, names-right, rules-in, first-bad, charted, rules-fit, chart-head-right, chart-rest-right, chart-right, chart-in, chart-says}
 use Rattle.model.specs.declared.Charted.{Charted}
 use Rattle.model.specs.ChartPromise.{First-bad-pair}
-use Rattle.model.proofs.Charts.{chart-passed, next-base, right-bad, first-bad-pair}
+use Rattle.model.proofs.Pairs.{next-base}
+use Rattle.model.proofs.Charts.{chart-passed, right-bad, first-bad-pair}
 use Rattle.text.proofs.Places.{skip-one, skip-add, skip-last, skip-lines, skip-line}
 use Rattle.chart.specs.Pairs.{most-combinations, most-pairs, one-rule, Fresh, Marked, Rules-read, table-says, chart-entries, table-after}
 use Rattle.chart.specs.Reading.{names-here, name-place, counts-in, head-says, rules-place, rest-right, Chart-laid, returned, read-says, Chart-read}
@@ -316,6 +317,20 @@ bad-read {s} {h = h} {c = c} g q = go (chart-right s) (eqb (chart-says s .refusa
     go true false e z q =
         let y : chart-says s ≡ c = cc in
         record { right = e; counts = cc; said = y; refusal = rw y at (right-bad s e (eqb-false (chart-says s .refusal) 0 z)) }
+
+-- AN ACCEPTED CHART passes, and has the counts told
+pub record Passed-read (s : List ℕ) (h : Chart) : Type 0 where
+  pub passes : chart-says s .refusal ≡ 0
+  pub counts : counts-in s ≡ h
+
+pub passed-read : {s t t′ : List ℕ} {h : Chart} {r : Read} → Chart-read s r t t′ → r ≡ Accepted h → Passed-read s h
+unfolding read-says
+passed-read {s} {h = h} g q = go (chart-right s) (eqb (chart-says s .refusal) 0) refl (sym (g .answer) ∙ q)
+  where
+    go : (a b : Bool) → eqb (chart-says s .refusal) 0 ≡ b → cond a (cond b (Accepted (counts-in s)) (Bad (counts-in s) (chart-says s))) Faulty ≡ Accepted h → Passed-read s h
+    go true true z q = record { passes = eqb-true (chart-says s .refusal) 0 z; counts = cc }
+    go true false z q = let y : _≡_ {A = ℕ} 0 1 = cc in absurd (omega arith)
+    go false b z q = let y : _≡_ {A = ℕ} 0 1 = cc in absurd (omega arith)
 
 pub bad-mode : {s : List ℕ} {h : Chart} {c : Charted} → Bad-read s h c → c .mode < chart-in s .modes
 unfolding First-bad-pair

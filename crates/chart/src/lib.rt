@@ -2,7 +2,7 @@
 // text. Contracts cite specs/Reading.antt and specs/Pairs.antt.
 ghost use mathlib.Core.Path.{_≡_};
 ghost use mathlib.Core.Bool.{true};
-ghost use Prim.Native.Nat.{_^_, _≤_};
+ghost use Prim.Native.Nat.{_^_, _≤_, _<_};
 ghost use lib.ListN.{length};
 ghost use Rattle.text.specs.Reading.{Part};
 ghost use Rattle.model.specs.Chart.{chart-counts-good, chart-says, most-flags};
@@ -43,6 +43,8 @@ impl Chart {
     pub const LONGEST_NAME: usize = 16;
     // The pairs of a mode and a combination of flags: 32 × 256.
     pub const MOST_PAIRS: usize = 8192;
+    // An entry of the table of an accepted chart is the next mode and this.
+    pub const ONE_RULE: u8 = 64;
 }
 
 // What a text is as a chart: a fault of the text; the first bad pair and its refusal; or a right chart.
@@ -120,11 +122,13 @@ fn read_head(text: &[u8]) -> Head
     Head::Counts(chart, names)
 }
 
-// How many combinations so many flags have.
-fn combinations(flags: usize) -> usize
-    requires { ⌜ flags ≤ most-flags ⌝ }
-    ensures { λ r. ⌜ r ≡ 2 ^ flags ⌝ }
+// How many combinations so many flags have; none where a chart may not have so many flags.
+pub fn combinations(flags: usize) -> usize
+    ensures { λ r. ⌜ (flags ≤ most-flags → r ≡ 2 ^ flags) × (most-flags < flags → r ≡ 0) ⌝ }
 {
+    if Chart::MOST_FLAGS < flags {
+        return 0;
+    }
     1usize << flags
 }
 
@@ -178,15 +182,15 @@ fn all_one(pairs: &[u8], many: usize) -> bool
     requires { ⌜ many ≤ length (now pairs) ⌝ }
     ensures { λ r. ⌜ (r ≡ true → All-one (now (pairs .entry)) many) ⌝ }
 {
-    let mut least = rules::ONE_RULE;
-    let mut most = rules::ONE_RULE;
+    let mut least = Chart::ONE_RULE;
+    let mut most = Chart::ONE_RULE;
     let mut i: usize = 0;
     while i < many {
         least = least_of(least, pairs[i]);
         most = most_of(most, pairs[i]);
         i += 1;
     }
-    if least < rules::ONE_RULE {
+    if least < Chart::ONE_RULE {
         return false;
     }
     most < rules::TWO_RULES

@@ -11,10 +11,8 @@ use text::read::Row3;
 use text::read::leading_number;
 use text::read::row_of_3;
 
-// A pair's entry: no rule; one, as its next mode and ONE_RULE; or more, from TWO_RULES on.
+// A pair's entry: no rule; one, as its next mode and `Chart::ONE_RULE`; or more, from TWO_RULES on.
 pub(crate) const NO_RULE: u8 = 0;
-
-pub(crate) const ONE_RULE: u8 = 64;
 
 pub(crate) const TWO_RULES: u8 = 128;
 
@@ -101,7 +99,7 @@ pub(crate) fn rule_block(
             count,
             care as u8,
             value as u8,
-            next as u8 + ONE_RULE,
+            next as u8 + Chart::ONE_RULE,
         );
         here = past;
         many += 1;

@@ -14,7 +14,7 @@ use walk::check_lasso;
 
 mod listing;
 mod opening;
-mod tables;
+pub mod tables;
 mod walk;
 
 // The answer's refusals. "1: over 65,536 bytes (also an answer file)"

@@ -15,7 +15,7 @@ use Rattle.text.specs.Lines.{equal, begins}
 use Rattle.model.specs.ClaimTokens.{quote, backslash, colon, at-byte, slash-byte, Token, name, header, number, string, symbol, body-mark, end-mark, alias, comment, stray, Mode, between, at-sign, slash, in-name, in-number, in-string, escaped, in-mark, Lexed, goes-on, ends, breaks, after, is-blank, is-letter, is-capital, is-small, is-name-byte, is-symbol, begin, digit-more, mark-more, byte, at-end, lex, number-end}
 use Rattle.text.specs.Ascii.{ascii}
 use Rattle.text.proofs.Tests.{clash, and-both, or-false}
-use Rattle.text.proofs.Lines.{equal-true}
+use Rattle.text.proofs.Lines.{equal-true, equal-same}
 use Rattle.claim.specs.Reads.{part, lexed, tokens-at, spelt, reads-on, Blanks-end, Name-end, Sees, Bounds}
 use Rattle.claim.specs.declared.tokens.Token.{Token as Code-token}
 use Rattle.claim.specs.declared.tokens.Token.the-variants.{Name, Header, Number, Text, Symbol, Body, End, Alias, Comment, Stray, Done}
@@ -337,11 +337,6 @@ module _ (s : List ℕ) (limit at e : ℕ) where
   comment-torn h = torn slash slash-open h
 
 -- MARKS: no mark stands
-pub equal-same : (a : List ℕ) → equal a a ≡ true
-unfolding equal
-equal-same [] = refl
-equal-same (x ∷ xs) = rw (eq-eqb x x refl) (equal-same xs)
-
 begins-front : (f r : List ℕ) → begins f (f ++ r) ≡ true
 unfolding begins
 begins-front f r = rw (take-append-seam f r) (equal-same f)

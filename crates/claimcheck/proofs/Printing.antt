@@ -16,6 +16,7 @@ use Rattle.text.specs.Numbers.{decimal}
 use Rattle.text.specs.Writing.{Writes, Puts, Chain}
 use Rattle.text.proofs.Chains.{puts, puts-none, puts-then, puts-as}
 use Rattle.text.proofs.Decimals.{decimal-most}
+use Rattle.text.proofs.Rows.{text-append}
 use Rattle.model.specs.ClaimGrammar.{most-states}
 use Rattle.model.specs.ClaimTable.{claim-refusal}
 use Rattle.model.specs.Claim.{Claim-state, Claim, state, claim-in, Claim-sound}
@@ -61,11 +62,6 @@ module _ (s cells : List ℕ) (c : ℕ) (h : Claim-there s cells) (low : c < mos
         puts-as (named s (state (claim-in s) c .name) a l (there l long) off .1) (puts-then (puts-then (puts u) (puts (rw e at v))) (puts w))
 
 -- ROWS
-text-append : (rs qs : List (List (List ℕ))) → text (rs ++ qs) ≡ text rs ++ text qs
-unfolding text
-text-append [] qs = refl
-text-append (r ∷ rs) qs = rw (text-append rs qs) (sym (append-assoc (joined r) (line-feed ∷ text rs) (text qs)))
-
 unnamed-joined : (d x m e : List ℕ) → ((d ++ x) ++ m) ++ e ≡ (d ++ (x ++ m)) ++ e
 unnamed-joined d x m e = simp append-assoc
 

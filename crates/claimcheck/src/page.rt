@@ -1,10 +1,9 @@
 // The lines of a claim: its counts, and its states out of the cells into which it was read.
 ghost use mathlib.Core.Path.{_≡_};
-ghost use mathlib.Core.List.{[], _∷_, _++_};
+ghost use mathlib.Core.List.{[], _∷_};
 ghost use Prim.Native.Nat.{_<_, _^_};
 ghost use lib.ListN.{length, getD};
 ghost use Rattle.text.specs.Lines.{text as lines-of};
-ghost use Rattle.text.specs.Numbers.{decimal};
 ghost use Rattle.text.specs.Writing.{Puts};
 ghost use Rattle.model.specs.ClaimGrammar.{most-states};
 ghost use Rattle.model.specs.Claim.{state, claim-in};
@@ -13,15 +12,8 @@ ghost use Rattle.claimcheck.specs.Printing.{name-end, state-row, state-r
 use claim::Counts;
 use text::write::write_byte;
 use text::write::write_bytes;
+use text::write::write_field;
 use text::write::write_number;
-
-// A number and the byte that ends it.
-fn write_field(page: &mut [u8], at: usize, v: u32, end: u8) -> usize
-    ensures { λ r. ⌜ Puts at (decimal v ++ (end ∷ [])) r (now (page .entry)) (now (page .exit)) ⌝ }
-{
-    let a = write_number(page, at, v);
-    write_byte(page, a, end)
-}
 
 fn cell(cells: &[u32], i: usize) -> usize
     requires { ⌜ i < length (now cells) ⌝ }

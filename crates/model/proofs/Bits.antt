@@ -7,7 +7,7 @@ use native.Mathlib.Nat.{mod-lt, zero-lt-suc, zero-div, div-one, div-add-mod'}
 use native.Mathlib.Numerals.{one-add}
 use native.Mathlib.Omega.{arith}
 use lib.Arith.{bin-ind}
-use lib.Bits.{bitAnd, bitOr, bitXor, and-shr, or-shr, xor-shr, and-mod, or-mod, xor-mod}
+use lib.Bits.{bitAnd, bitOr, bitXor, and-shr, or-shr, xor-shr, and-mod, or-mod, xor-mod, and-mask}
 use lib.Dec.{eqb}
 use lib.Pow.{shr-shr}
 use Rattle.model.specs.ClaimLabels.{bit}
@@ -49,6 +49,11 @@ bit-half x d = ap (λ (y : ℕ). eqb (y % 2) 1) (ap (λ (k : ℕ). x / 2 ^ k) (s
 pub bit-zero : (d : ℕ) → bit 0 d ≡ false
 unfolding bit
 bit-zero d = rw (zero-div (2 ^ d)) refl
+
+-- a bit as it is tested: shifted down, and cut off
+pub bit-test : (x d : ℕ) → eqb (bitAnd (x / 2 ^ d) 1) 1 ≡ bit x d
+unfolding bit
+bit-test x d = ap (λ (y : ℕ). eqb y 1) (and-mask (x / 2 ^ d) 1)
 
 -- THE SAME BITS
 first-digit : (a b : ℕ) → bit a 0 ≡ bit b 0 → a % 2 ≡ b % 2

@@ -1,6 +1,7 @@
 -- Proofs about the definitions, by topic: laws over plain lists first, the promises last.
 pub mod Tools
 pub mod Bits
+pub mod Pairs
 pub mod Pigeon
 pub mod Walks
 pub mod Steps
@@ -39,5 +40,16 @@ pub mod ClaimSound
 pub mod ClaimWhole
 pub mod ClaimRows
 pub mod Charts
+pub mod ChartSound
 pub mod ChartBits
 pub mod ChartRows
+pub mod OnlyFile
+pub mod ReadsBack
+pub mod Rising
+pub mod Automata
+pub mod Products
+pub mod Flights
+pub mod Masks
+pub mod StepLines
+pub mod BuiltKept
+pub mod ProductRows

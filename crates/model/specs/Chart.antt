@@ -2,7 +2,7 @@
 -- nothing: these are definitions.
 use mathlib.Core.Bool.{Bool, true, _&&_, _||_, cond}
 use mathlib.Core.List.{List, [], _∷_}
-use Prim.Native.Nat.{ℕ, zero, suc, _+_, _*_, _/_, _%_, _^_}
+use Prim.Native.Nat.{ℕ, zero, suc, _+_, _*_, _/_, _%_, _^_, _≤_, _<_}
 use lib.Bits.{bitAnd}
 use lib.Dec.{ltb, leb, eqb}
 use lib.ListN.{length, getD, take, drop}
@@ -184,3 +184,11 @@ unfoldable pub chart-says : (file : List ℕ) → Charted
 chart-says bs =
     let h = chart-in bs in
     cond (chart-right bs) (first-bad (h .modes * combinations h) 0 h) (charted 17 0 0)
+
+-- SOUND: what every chart has that is accepted
+pub record Chart-sound (h : Chart) : Type 0 where
+  pub modes : h .modes ≤ most-modes
+  pub start : h .start < h .modes
+  pub flags : h .flags ≤ most-flags
+  pub next : (q f : ℕ) → next-mode h q f < h .modes
+  pub names : (q : ℕ) → length (mode-name h q) ≤ longest-name

@@ -9,7 +9,7 @@ use Prim.Native.Nat.{ℕ, _<_}
 use lib.Bits.{bitAnd}
 use lib.ListN.{length, getD}
 use Rattle.model.specs.ClaimLabels.{bit}
-use Rattle.model.specs.Chart.{Rule, Chart, combinations, matches, next-mode, chart-in, chart-says}
+use Rattle.model.specs.Chart.{Rule, Chart, combinations, matches, next-mode, chart-in, chart-says, Chart-sound}
 use Rattle.model.specs.declared.Charted.{Charted}
 
 -- EVERY TEXT gets 0, 17, 18 or 19, and a pair with 18 and 19 only
@@ -51,6 +51,9 @@ pub record Pair-decided (h : Chart) (mode flags : ℕ) : Type 0 where
 
 unfoldable pub Exactly-one : Type 0
 Exactly-one = (bs : List ℕ) → chart-says bs .refusal ≡ 0 → let h = chart-in bs in (q f : ℕ) → q < h .modes → f < combinations h → Pair-decided h q f
+
+unfoldable pub Charts-sound : Type 0
+Charts-sound = (bs : List ℕ) → chart-says bs .refusal ≡ 0 → Chart-sound (chart-in bs)
 
 -- 18 AND 19: "the first bad pair, by mode and then combination, is returned"
 pub record Bad-pair (h : Chart) (r : Charted) : Type 0 where

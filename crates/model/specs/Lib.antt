@@ -15,7 +15,13 @@ pub mod ClaimEntry
 pub mod ClaimPromise
 pub mod Chart
 pub mod ChartPromise
+pub mod CaseText
+pub mod Product
+pub mod Steps
+pub mod BuiltEntry
+pub mod ProductPromise
 pub mod Promise
 pub mod KeptRuns
 pub mod ClaimRows
 pub mod ChartRows
+pub mod ProductRows

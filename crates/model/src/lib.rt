@@ -59,3 +59,24 @@ impl Charted {
 
     pub const OVERLAP: u32 = 19;
 }
+
+// Of a case file built or of steps listed: refusal 0 or its number; with 18 and 19 the chart's first bad pair, else 0 and 0;
+// the length of what was written.
+#[repr(C)]
+pub struct Built {
+    pub refusal: u32,
+    pub mode: u32,
+    pub combination: u32,
+    pub written: u32,
+}
+
+impl Built {
+    // "20, propositions and flags differ in count; 21, too many edges"
+    pub const COUNTS_DIFFER: u32 = 20;
+
+    pub const TOO_MANY_EDGES: u32 = 21;
+    // "It and the listing each need an output of 65,536 bytes, else number 11"
+    pub const LEAST_CASE_OUTPUT: usize = 65536;
+
+    pub const LEAST_STEPS_OUTPUT: usize = 65536;
+}

@@ -1,10 +1,13 @@
 // The C interface: the entries under their exported names, and the version. include/rezkundo.h declares them; a
-// slice crosses as a pointer and a length. The entries' contracts are `model`'s Entry, ClaimEntry and Chart definitions.
+// slice crosses as a pointer and a length. The entries' contracts are `model`'s Entry, ClaimEntry, BuiltEntry and Chart
+// definitions.
 ghost use mathlib.Core.Path.{_≡_};
 ghost use Rattle.model.specs.Entry.{Check-says, List-says, Rounds-say};
 ghost use Rattle.model.specs.ClaimEntry.{Claim-says, Moves-say};
 ghost use Rattle.model.specs.Chart.{chart-says};
+ghost use Rattle.model.specs.BuiltEntry.{Build-says, Steps-say};
 ghost use Rattle.rezkundo.specs.Version.{product-version};
+use model::Built;
 use model::Charted;
 use model::Checked;
 use model::Claimed;
@@ -57,8 +60,32 @@ pub extern "C" fn rezkundo_check_chart(chart: &[u8]) -> Charted
     chart::check_chart(chart)
 }
 
+#[no_mangle]
+pub extern "C" fn rezkundo_build_case(
+    chart: &[u8],
+    claim: &[u8],
+    workers: u32,
+    output: &mut [u8],
+) -> Built
+    ensures { λ r. ⌜ Build-says (now (chart .entry)) (now (claim .entry)) workers r (now (output .entry)) (now (output .exit)) ⌝ }
+{
+    product::build_case(chart, claim, workers, output)
+}
+
+#[no_mangle]
+pub extern "C" fn rezkundo_list_steps<'a>(
+    chart: &'a [u8],
+    claim: &'a [u8],
+    answer: &[u8],
+    output: &mut [u8],
+) -> Built
+    ensures { λ r. ⌜ Steps-say (now (chart .entry)) (now (claim .entry)) (now (answer .entry)) r (now (output .entry)) (now (output .exit)) ⌝ }
+{
+    product::list_steps(chart, claim, answer, output)
+}
+
 // `REZKUNDO_VERSION` in the header that goes with this library.
-const VERSION: u32 = 10400;
+const VERSION: u32 = 10500;
 
 // The product's version as one number.
 #[no_mangle]

@@ -11,17 +11,13 @@ use lib.Seq.{take-suc, take-all, length-take-le}
 use Rattle.text.specs.Ascii.{ascii}
 use Rattle.text.specs.Lines.{put-first, fields, joined, text}
 use Rattle.text.specs.Numbers.{digits, decimal, signed-decimal}
+use Rattle.text.proofs.Rows.{text-append}
 use Rattle.model.specs.Case.{known-version}
 use Rattle.model.specs.Run.{distance}
 use Rattle.model.specs.Answer.{answer-names, lasso-names, empty-names, lasso-word, empty-word, head-row, edge-rows, lasso-text, vertex-rows, empty-text}
 use Rattle.search.specs.Writing.{head-text}
 
 -- rows after rows
-text-append : (rs qs : List (List (List ℕ))) → text (rs ++ qs) ≡ text rs ++ text qs
-unfolding text
-text-append [] qs = refl
-text-append (r ∷ rs) qs = rw (text-append rs qs) (sym (append-assoc (joined r) (10 ∷ text rs) (text qs)))
-
 edge-rows-append : (es fs : List ℕ) → edge-rows (es ++ fs) ≡ edge-rows es ++ edge-rows fs
 unfolding edge-rows
 edge-rows-append [] fs = refl

@@ -8,6 +8,7 @@ use native.Mathlib.Omega.{arith}
 use lib.Dec.{leb}
 use lib.ListN.{length, length-append}
 use borrow.Author.Tests.{leb-true, leb-false, le-leb}
+use Rattle.text.specs.Numbers.{decimal}
 use Rattle.text.specs.Writing.{put, no-room, Writes, Puts, place-after, output-after, chain-place, chain-output, Chain}
 use Rattle.text.proofs.Writing.{put-none, put-append, length-put}
 
@@ -29,6 +30,21 @@ puts-then {at} {bs} {cs} {r} {s} {o} {y} {z} p q = record { fits = λ h. go h (o
 
 pub puts-as : {at : ℕ} {bs cs : List ℕ} {r : ℕ} {o z : List ℕ} → bs ≡ cs → Puts at bs r o z → Puts at cs r o z
 puts-as e p = rw (← e) p
+
+-- WHAT IS STILL TO PUT, in a loop of writers: whoever puts the rest here has put the whole
+pub record Still (at : ℕ) (all : List ℕ) (here : ℕ) (rest : List ℕ) (o z : List ℕ) : Type 0 where
+  pub kept : length z ≡ length o
+  pub whole : (r : ℕ) (y : List ℕ) → Puts here rest r z y → Puts at all r o y
+
+pub still-start : (at : ℕ) (all o : List ℕ) → Still at all at all o o
+still-start at all o = record { kept = refl; whole = λ r y p. p }
+
+pub still-step : {at : ℕ} {all : List ℕ} {here : ℕ} {rest : List ℕ} {o z : List ℕ} {bs more : List ℕ} {q : ℕ} {y : List ℕ}
+    → Still at all here rest o z → rest ≡ bs ++ more → Puts here bs q z y → length y ≡ length z → Still at all q more o y
+still-step l e p k = record { kept = k ∙ l .kept; whole = λ r x t. l .whole r x (puts-as (sym e) (puts-then p t)) }
+
+pub still-end : {at : ℕ} {all : List ℕ} {here : ℕ} {rest : List ℕ} {o z : List ℕ} → Still at all here rest o z → rest ≡ [] → Puts at all here o z
+still-end {here = here} {z = z} l e = l .whole here z (puts-as (sym e) (puts-none here z))
 
 -- A CHAIN of writers: one more in front
 pub chain-none : (at : ℕ) (o : List ℕ) → Chain [] at at o o
@@ -82,3 +98,8 @@ puts-chain (p ∷ ps) at o = puts-then (puts-after at p o) (puts-chain ps (place
 
 pub chain-puts : {ps : List (List ℕ)} {at r : ℕ} {o z : List ℕ} → Chain ps at r o z → Puts at (flatten ps) r o z
 chain-puts {ps} {at} {r} {o} {z} c = rw (c .place, c .output) (puts-chain ps at o)
+
+-- a number and the byte that ends it
+pub field-puts : (v end : ℕ) {at r : ℕ} {o z : List ℕ} → Chain (decimal v ∷ (end ∷ []) ∷ []) at r o z → Puts at (decimal v ++ (end ∷ [])) r o z
+unfolding flatten
+field-puts v end c = chain-puts c

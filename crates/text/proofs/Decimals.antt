@@ -27,7 +27,7 @@ digits-none : (v : ℕ) → digits 0 v ≡ []
 unfolding digits
 digits-none v = refl
 
-digits-one : (k v : ℕ) → v < 10 → digits (suc k) v ≡ (48 + v) ∷ []
+pub digits-one : (k v : ℕ) → v < 10 → digits (suc k) v ≡ (48 + v) ∷ []
 unfolding digits
 digits-one k v h = go (ltb v 10) refl
   where
@@ -35,7 +35,7 @@ digits-one k v h = go (ltb v 10) refl
     go true e = refl
     go false e = absurd (omega (arith, ltb-false v 10 e))
 
-digits-more : (k v : ℕ) → 10 ≤ v → digits (suc k) v ≡ digits k (v / 10) ++ ((48 + v % 10) ∷ [])
+pub digits-more : (k v : ℕ) → 10 ≤ v → digits (suc k) v ≡ digits k (v / 10) ++ ((48 + v % 10) ∷ [])
 unfolding digits
 digits-more k v h = go (ltb v 10) refl
   where

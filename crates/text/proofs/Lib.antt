@@ -11,4 +11,5 @@ pub mod Decimals
 pub mod Writing
 pub mod Chains
 pub mod Rows
+pub mod Unique
 pub mod WidthRows

@@ -8,7 +8,7 @@ use native.Mathlib.Nat.{suc-add, zero-add}
 use lib.Dec.{eqb}
 use lib.ListN.{length, getD, take, drop}
 use lib.Seq.{take-length}
-use borrow.Author.Tests.{eqb-true}
+use borrow.Author.Tests.{eqb-true, eq-eqb}
 use Rattle.text.specs.Ascii.{line-feed, space}
 use Rattle.text.specs.Lines.{Line, lines, line-at, put-byte, put-first, fields, field, open-line, closed-line, equal, begins}
 use Rattle.text.specs.Reading.{is-separator}
@@ -233,3 +233,8 @@ equal-true [] [] e = refl
 equal-true [] (y ∷ b) e = clash false e refl
 equal-true (x ∷ a) [] e = clash false e refl
 equal-true (x ∷ a) (y ∷ b) e = let p = and-both (eqb x y) (equal a b) e in cc (eqb-true x y (p .0), equal-true a b (p .1))
+
+pub equal-same : (a : List ℕ) → equal a a ≡ true
+unfolding equal
+equal-same [] = refl
+equal-same (x ∷ a) = rw (eq-eqb x x refl) (equal-same a)

@@ -6,7 +6,7 @@ ghost use lib.Dec.{leb};
 ghost use lib.IntN.{natAbs};
 ghost use lib.ListN.{length};
 ghost use Rattle.text.specs.Numbers.{decimal, signed-decimal, Width};
-ghost use Rattle.text.specs.Writing.{Writes};
+ghost use Rattle.text.specs.Writing.{Writes, Chain};
 
 // What a writer answers where it has no room.
 pub const NO_ROOM: usize = 18446744073709551615;
@@ -83,6 +83,14 @@ pub fn write_number(output: &mut [u8], at: usize, v: u32) -> usize
         return NO_ROOM;
     }
     write_digits(output, at, size, v)
+}
+
+// A number and the byte that ends its field.
+pub fn write_field(output: &mut [u8], at: usize, v: u32, end: u8) -> usize
+    ensures { λ r. ⌜ Chain (decimal v ∷ (end ∷ []) ∷ []) at r (now (output .entry)) (now (output .exit)) ⌝ }
+{
+    let next = write_number(output, at, v);
+    write_byte(output, next, end)
 }
 
 // How far a number is from zero; the lowest of all is farther than the highest.

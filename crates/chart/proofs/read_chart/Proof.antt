@@ -23,37 +23,37 @@ enum-known-chart : tie.Need-enum-known-chart
 enum-known-chart c = search needs
 
 combinations-requires : tie.Need-combinations-requires
-combinations-requires c κs = in-range (head (c .before)) .flags
+combinations-requires c κs = search needs
 
 mul-many : tie.Need-mul-many
-mul-many c = omega (arith, few-pairs (head (c .before .before .before)) (c .before .combinations .ensures))
+mul-many c = omega (arith, few-pairs (head (c .before .before .before)) (c .before .combinations .ensures .0 (in-range (head (c .before .before .before)) .flags)))
 
 slice-aggregate-read-rest : tie.Need-slice-aggregate-read-rest
 slice-aggregate-read-rest c = search needs
 
 read-rest-requires : tie.Need-read-rest-requires
-read-rest-requires c κs = fresh (head (c .before .before .before .before)) (c .before .before .combinations .ensures)
+read-rest-requires c κs = fresh (head (c .before .before .before .before)) (c .before .before .combinations .ensures .0 (in-range (head (c .before .before .before .before)) .flags))
 
 returns : tie.Need-returns
-returns c = laid-not (head (c .before .before .before .before .before .before .before)) (c .before .before .before .before .before .combinations .ensures) (c .before .before .read-rest .ensures) (refuted _ _ (c .if1 .taken) refl) _
+returns c = laid-not (head (c .before .before .before .before .before .before .before)) (c .before .before .before .before .before .combinations .ensures .0 (in-range (head (c .before .before .before .before .before .before .before)) .flags)) (c .before .before .read-rest .ensures) (refuted _ _ (c .if1 .taken) refl) _
 
 slice-aggregate-bad-pair : tie.Need-slice-aggregate-bad-pair
 slice-aggregate-bad-pair c = search needs
 
 bad-pair-requires : tie.Need-bad-pair-requires
 bad-pair-requires c κs =
-    let f = few-pairs (head (c .before .before .before .before .before .before .before .before)) (c .before .before .before .before .before .before .combinations .ensures) in
-    (omega (arith, f, c .before .before .before .read-rest .ensures .long), f, omega (arith, in-range (head (c .before .before .before .before .before .before .before .before)) .some, c .before .before .before .before .before .before .combinations .ensures))
+    let f = few-pairs (head (c .before .before .before .before .before .before .before .before)) (c .before .before .before .before .before .before .combinations .ensures .0 (in-range (head (c .before .before .before .before .before .before .before .before)) .flags)) in
+    (omega (arith, f, c .before .before .before .read-rest .ensures .long), f, omega (arith, in-range (head (c .before .before .before .before .before .before .before .before)) .some, c .before .before .before .before .before .before .combinations .ensures .0 (in-range (head (c .before .before .before .before .before .before .before .before)) .flags)))
 
 returns-2 : tie.Need-returns-2
 returns-2 c =
-    pair-refused (head (c .before .before .before .before .before .before .before .before .before .before .before)) (c .before .before .before .before .before .before .before .before .before .combinations .ensures) (laid-all (c .before .before .before .before .before .before .read-rest .ensures) (upheld _ _ (c .before .before .before .before .if1 .left) refl)) (c .before .before .bad-pair .ensures) (c .if2 .taken) _
+    pair-refused (head (c .before .before .before .before .before .before .before .before .before .before .before)) (c .before .before .before .before .before .before .before .before .before .combinations .ensures .0 (in-range (head (c .before .before .before .before .before .before .before .before .before .before .before)) .flags)) (laid-all (c .before .before .before .before .before .before .read-rest .ensures) (upheld _ _ (c .before .before .before .before .if1 .left) refl)) (c .before .before .bad-pair .ensures) (c .if2 .taken) _
 
 array-share-prefix-pairs : tie.Need-array-share-prefix-pairs
-array-share-prefix-pairs c = omega (arith, few-pairs (head (c .before .before .before .before .before .before .before .before .before .before .before .before)) (c .before .before .before .before .before .before .before .before .before .before .combinations .ensures), c .before .before .before .before .before .before .before .read-rest .ensures .long)
+array-share-prefix-pairs c = omega (arith, few-pairs (head (c .before .before .before .before .before .before .before .before .before .before .before .before)) (c .before .before .before .before .before .before .before .before .before .before .combinations .ensures .0 (in-range (head (c .before .before .before .before .before .before .before .before .before .before .before .before)) .flags)), c .before .before .before .before .before .before .before .read-rest .ensures .long)
 
 slice-aggregate-write-bytes : tie.Need-slice-aggregate-write-bytes
-slice-aggregate-write-bytes c = sym (length-take-le _ _ (omega (arith, few-pairs (head (c .before .before .before .before .before .before .before .before .before .before .before .before .before)) (c .before .before .before .before .before .before .before .before .before .before .before .combinations .ensures), c .before .before .before .before .before .before .before .before .read-rest .ensures .long)))
+slice-aggregate-write-bytes c = sym (length-take-le _ _ (omega (arith, few-pairs (head (c .before .before .before .before .before .before .before .before .before .before .before .before .before)) (c .before .before .before .before .before .before .before .before .before .before .before .combinations .ensures .0 (in-range (head (c .before .before .before .before .before .before .before .before .before .before .before .before .before)) .flags)), c .before .before .before .before .before .before .before .before .read-rest .ensures .long)))
 
 write-bytes-requires : tie.Need-write-bytes-requires
 write-bytes-requires c κs = search needs
@@ -66,7 +66,7 @@ same-length c = writes-length (c .before .before .write-bytes .ensures)
 
 returns-4 : tie.Need-returns-4
 returns-4 c =
-    chart-passes (head (c .before .before .before .before .before .before .before .before .before .before .before .before .before .before .before .before)) (c .before .before .before .before .before .before .before .before .before .before .before .before .before .before .combinations .ensures) (laid-all (c .before .before .before .before .before .before .before .before .before .before .before .read-rest .ensures) (upheld _ _ (c .before .before .before .before .before .before .before .before .before .if1 .left) refl)) (c .before .before .before .before .before .before .before .bad-pair .ensures) (c .before .before .before .before .before .if2 .left) (c .before .before .write-bytes .ensures)
+    chart-passes (head (c .before .before .before .before .before .before .before .before .before .before .before .before .before .before .before .before)) (c .before .before .before .before .before .before .before .before .before .before .before .before .before .before .combinations .ensures .0 (in-range (head (c .before .before .before .before .before .before .before .before .before .before .before .before .before .before .before .before)) .flags)) (laid-all (c .before .before .before .before .before .before .before .before .before .before .before .read-rest .ensures) (upheld _ _ (c .before .before .before .before .before .before .before .before .before .if1 .left) refl)) (c .before .before .before .before .before .before .before .bad-pair .ensures) (c .before .before .before .before .before .if2 .left) (c .before .before .write-bytes .ensures)
 
 pub read-chart-spec : {M : Type 1} → statement M
 read-chart-spec =

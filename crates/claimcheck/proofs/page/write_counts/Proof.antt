@@ -1,5 +1,5 @@
 -- `page::write_counts`: three fields, one after the other.
-use Rattle.text.proofs.Chains.{puts-then, puts-as}
+use Rattle.text.proofs.Chains.{puts-then, puts-as, field-puts}
 use Rattle.claimcheck.proofs.Printing.{count-parts}
 use borrow.Author.Needs.{needs}
 use Rattle.claimcheck.proofs.page.write_counts.Statement.{statement}
@@ -18,7 +18,7 @@ same-length : tie.Need-same-length
 same-length c = search needs
 
 returns : tie.Need-returns
-returns c = puts-as (count-parts _ _ _) (puts-then (puts-then (c .before .before .before .before .before .before .before .before .before .before .write-field .ensures) (c .before .before .before .before .before .before .write-field2 .ensures)) (c .before .before .write-field3 .ensures))
+returns c = puts-as (count-parts _ _ _) (puts-then (puts-then (field-puts _ _ (c .before .before .before .before .before .before .before .before .before .before .write-field .ensures)) (field-puts _ _ (c .before .before .before .before .before .before .write-field2 .ensures))) (field-puts _ _ (c .before .before .write-field3 .ensures)))
 
 pub write-counts-spec : {M : Type 1} → statement M
 write-counts-spec =

@@ -1,5 +1,5 @@
 -- `page::write_state`: number, mark and name, one after the other.
-use Rattle.text.proofs.Chains.{puts-then, puts-as}
+use Rattle.text.proofs.Chains.{puts-then, puts-as, field-puts}
 use Rattle.claimcheck.proofs.Printing.{marked, state-parts}
 use borrow.Author.Needs.{needs}
 use Rattle.claimcheck.proofs.page.write_state.Statement.{statement}
@@ -29,7 +29,7 @@ returns c =
     let mark = name .before .before .before .before in
     let number = mark .before .before .before .before .before in
     let s = number .before .before .before .before .before .pre in
-    puts-as (state-parts _ _) (puts-then (puts-then (number .write-field .ensures) (marked _ _ _ (s .1) (s .0) (mark .write-number .ensures))) (name .write-name .ensures))
+    puts-as (state-parts _ _) (puts-then (puts-then (field-puts _ _ (number .write-field .ensures)) (marked _ _ _ (s .1) (s .0) (mark .write-number .ensures))) (name .write-name .ensures))
 
 pub write-state-spec : {M : Type 1} → statement M
 write-state-spec =

@@ -1,8 +1,8 @@
--- `page::write_field`: two writers, one after the other.
-use Rattle.text.proofs.Chains.{puts, puts-then}
+-- `write_field` meets its contract: two writers, one after the other.
+use Rattle.text.proofs.Chains.{chain-more, chain-last}
 use borrow.Author.Needs.{needs}
-use Rattle.claimcheck.proofs.page.write_field.Statement.{statement}
-use Rattle.claimcheck.proofs.page.write_field.Tie as tie
+use Rattle.text.proofs.write.write_field.Statement.{statement}
+use Rattle.text.proofs.write.write_field.Tie as tie
 
 write-number-requires : tie.Need-write-number-requires
 write-number-requires c κs = search needs
@@ -14,7 +14,7 @@ same-length : tie.Need-same-length
 same-length c = search needs
 
 returns : tie.Need-returns
-returns c = puts-then (puts (c .before .before .before .before .before .before .write-number .ensures)) (puts (c .before .before .write-byte .ensures))
+returns c = chain-more (c .before .before .before .before .before .before .write-number .ensures) (chain-last (c .before .before .write-byte .ensures))
 
 pub write-field-spec : {M : Type 1} → statement M
 write-field-spec =

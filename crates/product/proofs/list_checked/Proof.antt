@@ -1,0 +1,59 @@
+-- `list_checked` meets its contract: the checker's refusal, nothing for "empty", or the steps.
+use native.Mathlib.Omega.{arith}
+use Rattle.product.proofs.Judged.{steps-asked, checked-refused, checked-empty, checked-fits, checked-lasso}
+use borrow.Author.Needs.{needs}
+use Rattle.product.proofs.list_checked.Statement.{statement}
+use Rattle.product.proofs.list_checked.Tie as tie
+
+check-answer-requires : tie.Need-check-answer-requires
+check-answer-requires c κs = search needs
+
+refused-requires : tie.Need-refused-requires
+refused-requires c κs = search needs
+
+returns : tie.Need-returns
+returns c = rw (c .refused .ensures) (checked-refused (c .before .before .before .before .before .before .before .before .before .before .before .pre) (c .before .before .before .check-answer .ensures) (c .before .if1 .taken))
+
+written-requires : tie.Need-written-requires
+written-requires c κs = search needs
+
+returns-2 : tie.Need-returns-2
+returns-2 c = rw (c .written .ensures) (checked-empty (c .before .before .before .before .before .before .before .before .before .before .before .before .before .pre) (c .before .before .before .before .before .check-answer .ensures) (c .before .before .before .if1 .left) (c .before .if2 .taken))
+
+next-line-requires : tie.Need-next-line-requires
+next-line-requires c κs = search needs
+
+next-line-requires-2 : tie.Need-next-line-requires-2
+next-line-requires-2 c κs = search needs
+
+next-line-requires-3 : tie.Need-next-line-requires-3
+next-line-requires-3 c κs = search needs
+
+write-steps-requires : tie.Need-write-steps-requires
+write-steps-requires c κs = steps-asked (c .before .before .before .before .before .before .before .before .before .before .before .before .before .before .before .before .pre)
+
+written-requires-2 : tie.Need-written-requires-2
+written-requires-2 c κs = checked-fits (c .before .before .before .before .before .before .before .before .before .before .before .before .before .before .before .before .before .before .before .pre) (c .before .before .before .before .before .before .before .before .before .before .before .check-answer .ensures) (c .before .before .before .before .before .before .before .before .before .if1 .left) (c .before .before .before .before .before .before .before .if2 .left) (c .before .before .before .before .before .before .next-line .ensures) (c .before .before .before .before .before .next-line2 .ensures) (c .before .before .before .before .next-line3 .ensures) (c .before .before .write-steps .ensures)
+
+same-length : tie.Need-same-length
+same-length c = search needs
+
+returns-3 : tie.Need-returns-3
+returns-3 c = rw (c .written2 .ensures) (checked-lasso (c .before .before .before .before .before .before .before .before .before .before .before .before .before .before .before .before .before .before .before .before .pre) (c .before .before .before .before .before .before .before .before .before .before .before .before .check-answer .ensures) (c .before .before .before .before .before .before .before .before .before .before .if1 .left) (c .before .before .before .before .before .before .before .before .if2 .left) (c .before .before .before .before .before .before .before .next-line .ensures) (c .before .before .before .before .before .before .next-line2 .ensures) (c .before .before .before .before .before .next-line3 .ensures) (c .before .before .before .write-steps .ensures))
+
+pub list-checked-spec : {M : Type 1} → statement M
+list-checked-spec =
+    tie.close
+    (tie.spec
+    check-answer-requires
+    refused-requires
+    returns
+    written-requires
+    returns-2
+    next-line-requires
+    next-line-requires-2
+    next-line-requires-3
+    write-steps-requires
+    written-requires-2
+    same-length
+    returns-3)

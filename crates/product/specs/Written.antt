@@ -1,0 +1,80 @@
+-- The product written as a case file out of the tables into which a chart and a claim were read. Assumes nothing: these are
+-- definitions.
+use mathlib.Core.Path.{_≡_}
+use mathlib.Core.List.{List, [], _∷_}
+use Prim.Native.Nat.{ℕ, zero, suc, _+_, _*_, _%_, _^_, _≤_, _<_}
+use lib.ListN.{length, getD, take}
+use Rattle.text.specs.Writing.{Puts}
+use Rattle.model.specs.Case.{Case, most-vertices, most-edges, most-workers}
+use Rattle.model.specs.CaseText.{case-file}
+use Rattle.model.specs.Claim.{Claim, state}
+use Rattle.model.specs.ClaimEntry.{mark-of}
+use Rattle.model.specs.Chart.{Chart}
+use Rattle.model.specs.Product.{product-graph, remainders, product-case}
+use Rattle.product.specs.Tables.{ends-of, tabled}
+use Rattle.product.specs.Edges.{Given, Asks}
+use Rattle.product.specs.declared.build.Sizes.{Sizes}
+use Rattle.product.specs.declared.build.Product.{Product}
+use Rattle.product.specs.declared.build.Product.the-variants.{Written, TooMany}
+
+-- a number for each of so many vertices from v on
+unfoldable pub table-of : (ℕ → ℕ) → (left v : ℕ) → List ℕ
+table-of f zero v = []
+table-of f (suc k) v = f v ∷ table-of f k (suc v)
+
+-- a vertex's mark is that of its claim state, in the claim's first cells
+unfoldable pub mark-by : (cells : List ℕ) → (states v : ℕ) → ℕ
+mark-by cs n v = getD cs (v % n) 0
+
+pub record Fill-asks (vertices states workers : ℕ) (cells marks owners : List ℕ) : Type 0 where
+  pub some-states : 1 ≤ states
+  pub some-workers : 1 ≤ workers
+  pub few-workers : workers ≤ most-workers
+  pub states-long : states ≤ length cells
+  pub marks-long : vertices ≤ length marks
+  pub owners-long : vertices ≤ length owners
+
+pub record Vertices-filled (vertices states workers : ℕ) (cells marks owners : List ℕ) : Type 0 where
+  pub marked : take vertices marks ≡ table-of (mark-by cells states) vertices 0
+  pub owned : take vertices owners ≡ remainders vertices 0 workers
+
+-- THE CASE with these edges
+unfoldable pub case-by : (vertices states source workers : ℕ) → (cells froms tos : List ℕ) → Case
+case-by n k s p cs fs ts = tabled s p (table-of (mark-by cs k) n 0) (remainders n 0 p) fs ts
+
+pub record Case-asks (vertices states source workers : ℕ) (cells froms tos : List ℕ) : Type 0 where
+  pub some-states : 1 ≤ states
+  pub some-workers : 1 ≤ workers
+  pub few-workers : workers ≤ most-workers
+  pub states-long : states ≤ length cells
+  pub few-vertices : vertices ≤ most-vertices
+  pub ended : length tos ≡ length froms
+  pub few-edges : length froms ≤ most-edges
+  pub near : source < 2 ^ 32
+
+-- THE TABLES of a chart and a claim, and the product's counts
+pub record Held (h : Chart) (k : Claim) (z : Sizes) (follow cells : List ℕ) : Type 0 where
+  pub given : Given h k (z .modes) (z .states) (z .count) follow cells
+  pub source : z .source ≡ h .start * length (k .states) + k .start
+  pub marks : (s : ℕ) → s < length (k .states) → getD cells s 0 ≡ mark-of (state k s .accepting)
+
+-- THE PRODUCT: the file, and the ends of its edges in front of the tables; or too many edges, and nothing written
+pub record File-written (h : Chart) (k : Claim) (p n : ℕ) (froms tos o z : List ℕ) : Type 0 where
+  pub few : length (product-graph h k .edges) ≤ most-edges
+  pub file : Puts 0 (case-file (product-case h k p)) n o z
+  pub ends : let m = length (product-graph h k .edges) in ends-of (take m froms) (take m tos) ≡ product-graph h k .edges
+
+abbrev pub Product-is : Chart → Claim → (workers : ℕ) → Product → (froms tos output output-now : List ℕ) → Type 0
+Product-is h k p (Written n) fs ts o z = File-written h k p n fs ts o z
+Product-is h k p TooMany fs ts o z = (most-edges < length (product-graph h k .edges)) × (z ≡ o)
+
+pub record Product-asks (z : Sizes) (workers : ℕ) (follow cells froms tos : List ℕ) : Type 0 where
+  pub tables : Asks (z .modes) (z .states) (z .count) follow cells
+  pub near : z .source < 2 ^ 32
+  pub some-workers : 1 ≤ workers
+  pub few-workers : workers ≤ most-workers
+  pub froms-long : length froms ≡ most-edges
+  pub tos-long : length tos ≡ most-edges
+
+pub record Product-says (z : Sizes) (workers : ℕ) (follow cells : List ℕ) (r : Product) (froms tos o o′ : List ℕ) : Type 0 where
+  pub says : (h : Chart) (k : Claim) → Held h k z follow cells → Product-is h k workers r froms tos o o′
