@@ -195,10 +195,6 @@ cut ls n m w =
     a ∙ ap (λ (x : List Line). line-at ls 0 ∷ x) (b ∙ ap (λ (x : List Line). line-at ls 1 ∷ x) (c ∙ ap (λ (x : List Line). line-at ls 2 ∷ x) g))
 
 -- the rows that are written are these lines
-row-lines-cons : (r : List (List ℕ)) (rs : List (List (List ℕ))) → row-lines (r ∷ rs) ≡ closed-line (joined r) ∷ row-lines rs
-unfolding row-lines
-row-lines-cons r rs = refl
-
 join5 : {a b c e a′ b′ c′ e′ : Line} {v w v′ w′ : List Line} → a ≡ a′ → b ≡ b′ → c ≡ c′ → v ≡ v′ → e ≡ e′ → w ≡ w′
     → a ∷ b ∷ c ∷ v ++ (e ∷ w) ≡ a′ ∷ b′ ∷ c′ ∷ v′ ++ (e′ ∷ w′)
 join5 {a = a} {b = b} {c = c} {e = e} {a′ = a′} {b′ = b′} {c′ = c′} {e′ = e′} {v = v} {w = w} {v′ = v′} {w′ = w′} p q r s t u =

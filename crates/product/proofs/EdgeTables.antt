@@ -3,7 +3,7 @@ use mathlib.Core.Path.{_≡_, refl, sym, ap, _∙_}
 use mathlib.Core.Bool.{Bool, true, false}
 use mathlib.Core.List.{List, [], _∷_, _++_, append-assoc, append-nil}
 use Prim.Native.Nat.{ℕ, zero, suc, _+_, _-_, _*_, _/_, _%_, _^_, _≤_, _<_}
-use native.Mathlib.Nat.{zero-add, suc-mul, mul-le-mul, mul-le-mul-right, mod-lt, div-lt-iff-lt-mul, div-add-mod', zero-mul}
+use native.Mathlib.Nat.{zero-add, suc-mul, mul-le-mul, zero-mul}
 use native.Mathlib.Numerals.{add-one}
 use native.Mathlib.Omega.{arith}
 use lib.Bits.{bitAnd, bitOr}
@@ -18,7 +18,6 @@ use Rattle.model.specs.Claim.{Claim}
 use Rattle.model.specs.Product.{Automaton, product, chart-automaton, claim-automaton, has-edge, edges-to, edges-from, graph-of}
 use Rattle.model.proofs.Bits.{bit-zero, bit-test}
 use Rattle.model.proofs.Pairs.{next-base, Pair, pair}
-use Rattle.claim.specs.LabelSays.{most-values}
 use Rattle.claim.specs.Cells.{moves-from}
 use Rattle.chart.specs.Pairs.{one-rule}
 use Rattle.model.proofs.Masks.{Row, row-start, row-step, row-end, edge-if, to-snoc, from-snoc, to-append}

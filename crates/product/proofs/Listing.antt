@@ -1,6 +1,6 @@
 -- What the steps' writer leaves is the listing of a lasso that passes. Assumes nothing.
 use mathlib.Core.Path.{_≡_, refl, sym, ap, _∙_}
-use mathlib.Core.Bool.{true, _&&_}
+use mathlib.Core.Bool.{true}
 use mathlib.Core.List.{List, [], _∷_}
 use mathlib.Core.Option.{Option, none, some}
 use Prim.Native.Nat.{ℕ, zero, suc, _*_, _/_, _%_, _≤_, _<_}
@@ -15,13 +15,12 @@ use Rattle.model.specs.Graph.{edge, is-walk}
 use Rattle.model.specs.CaseFile.{column}
 use Rattle.model.specs.Answer.{lasso-verdict}
 use Rattle.model.specs.Passing.{listed-edges-refusal, answer-refusal, answer-verdict}
-use Rattle.model.specs.ClaimGrammar.{most-states}
 use Rattle.model.specs.Claim.{state, claim-in, Claim-sound}
 use Rattle.model.specs.ClaimEntry.{Name-at}
 use Rattle.model.specs.Chart.{chart-right, chart-in}
-use Rattle.model.specs.Product.{product, chart-automaton, claim-automaton, graph-of, graph-in}
+use Rattle.model.specs.Product.{product, chart-automaton, claim-automaton, graph-in}
 use Rattle.model.specs.Steps.{shown, step-row, step-rows, walk-in, steps-text, listing}
-use Rattle.model.proofs.Pairs.{Pair, pair}
+use Rattle.model.proofs.Pairs.{pair}
 use Rattle.model.proofs.Accepting.{first-zero, refuse-not}
 use Rattle.model.proofs.Walks.{steps}
 use Rattle.model.proofs.Rising.{in-at}

@@ -1,6 +1,6 @@
 -- Names as parts of the texts, and the listing line by line. Assumes nothing.
 use mathlib.Core.Path.{_≡_, refl, sym, ap, _∙_}
-use mathlib.Core.Bool.{Bool, true, false, _&&_}
+use mathlib.Core.Bool.{Bool, true, false}
 use mathlib.Core.List.{List, [], _∷_, _++_, append-assoc}
 use Prim.Native.Nat.{ℕ, _+_, _-_, _/_, _%_, _≤_, _<_, min}
 use native.Mathlib.Omega.{arith}
@@ -9,8 +9,8 @@ use lib.ListN.{length, getD, take, drop, length-drop, drop-of-length-le}
 use lib.Seq.{take-all}
 use borrow.Author.Tests.{leb-true, leb-false, eq-eqb, ne-eqb}
 use Rattle.text.specs.Ascii.{space, line-feed}
-use Rattle.text.specs.Lines.{Line, lines, joined, text}
-use Rattle.text.specs.Numbers.{decimal, numbers-line, number-at}
+use Rattle.text.specs.Lines.{lines, joined, text}
+use Rattle.text.specs.Numbers.{decimal, numbers-line}
 use Rattle.text.specs.Reading.{line-here, field-here}
 use Rattle.text.specs.Writing.{Writes, Puts}
 use Rattle.text.proofs.Tests.{and-both, clash}

@@ -1,12 +1,11 @@
 -- The vertices' tables, and the case of a product out of its tables. Assumes nothing.
 use mathlib.Core.Path.{_≡_, refl, sym, ap, _∙_}
-use mathlib.Core.Bool.{cond}
 use mathlib.Core.List.{List, [], _∷_, _++_}
 use Prim.Native.Nat.{ℕ, zero, suc, _+_, _*_, _%_, _≤_, _<_}
 use native.Mathlib.Nat.{zero-add, mod-lt}
 use native.Mathlib.Numerals.{add-one}
 use native.Mathlib.Omega.{arith}
-use lib.ListN.{length, getD, set, take, replicate, length-set, length-replicate}
+use lib.ListN.{length, getD, set, take, length-set}
 use lib.Seq.{take-suc-set, length-take-le}
 use Rattle.text.specs.Writing.{Puts}
 use Rattle.text.proofs.Chains.{puts-as}
@@ -14,7 +13,7 @@ use Rattle.model.specs.Case.{Case, most-edges}
 use Rattle.model.specs.Graph.{Edge}
 use Rattle.model.specs.CaseText.{case-file}
 use Rattle.model.specs.Chart.{Chart}
-use Rattle.model.specs.Claim.{Claim, state}
+use Rattle.model.specs.Claim.{Claim}
 use Rattle.model.specs.ClaimEntry.{mark-of}
 use Rattle.model.specs.Product.{Automaton, product, chart-automaton, claim-automaton, marks-from, remainders, graph-of, product-graph, product-case}
 use Rattle.product.specs.Tables.{ends-of, tabled, Tables}

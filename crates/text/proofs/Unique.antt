@@ -11,7 +11,7 @@ use lib.Dec.{leb, eqb}
 use lib.ListN.{length}
 use lib.Seq.{append-snoc}
 use borrow.Author.Tests.{leb-true, eqb-true, eq-eqb}
-use Rattle.text.specs.Lines.{Line, closed-line, put-byte, lines, put-first, fields, joined, text}
+use Rattle.text.specs.Lines.{Line, closed-line, put-byte, lines, put-first, fields, joined}
 use Rattle.text.specs.Numbers.{is-digit, all-digits, no-leading-zero, is-number, value-from, value, digits, decimal}
 use Rattle.text.proofs.Tests.{or-cases, and-both, clash}
 use Rattle.text.proofs.Lines.{glue, fields-some}

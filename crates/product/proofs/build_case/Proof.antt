@@ -1,6 +1,5 @@
 -- `build_case` meets its contract: 11, 5, the texts' refusals, 21, or the file.
 use mathlib.Core.Path.{refl, sym, _∙_}
-use native.Mathlib.Omega.{arith}
 use Rattle.text.proofs.Tests.{refuted, upheld}
 use Rattle.product.proofs.Building.{workers-range, product-asked, build-small, build-workers, build-refused, build-many, build-fits, build-done}
 use borrow.Author.Needs.{needs}

@@ -1,5 +1,4 @@
 -- `list_checked` meets its contract: the checker's refusal, nothing for "empty", or the steps.
-use native.Mathlib.Omega.{arith}
 use Rattle.product.proofs.Judged.{steps-asked, checked-refused, checked-empty, checked-fits, checked-lasso}
 use borrow.Author.Needs.{needs}
 use Rattle.product.proofs.list_checked.Statement.{statement}

@@ -1,5 +1,4 @@
 -- `add_mask` meets its contract: at each turn t bits are read.
-use mathlib.Core.Path.{_≡_}
 use Prim.Native.Nat.{_-_}
 use native.Mathlib.Omega.{arith}
 use Rattle.product.proofs.EdgeTables.{Mask-read, mask-start, mask-none, mask-one, mask-end, mask-empty}
