@@ -2,8 +2,8 @@
 //! entry.
 //!
 //! A run or a check either gives a verdict or an [`Error`]. Numbers that this binding does not know are an error too, so
-//! nothing is ever taken for "empty" that is not. Of a claim and of a chart the numbers come back as they are: it is taken
-//! where its refusal is 0.
+//! nothing is ever taken for "empty" that is not. Of a claim, of a chart, and of what is built or listed from both the
+//! numbers come back as they are: it is taken, or done, where its refusal is 0.
 
 use std::fmt;
 
@@ -27,6 +27,10 @@ pub const MOST_FLAGS: usize = 8;
 pub const MOST_RULES: usize = 512;
 /// The longest name of a mode, in bytes.
 pub const LONGEST_NAME: usize = 16;
+/// The least output of a case that is built, in bytes; it suffices for every chart and claim.
+pub const LEAST_CASE: usize = 65_536;
+/// The least output of steps that are listed, in bytes; it suffices for every answer.
+pub const LEAST_STEPS: usize = 65_536;
 
 /// What was found, or what an answer shows.
 #[derive(Clone, Copy, Debug, PartialEq, Eq)]
@@ -78,11 +82,13 @@ pub enum Refusal {
     Chart = 17,
     ChartGap = 18,
     ChartOverlap = 19,
+    CountsDiffer = 20,
+    TooManyEdges = 21,
 }
 
 impl Refusal {
     /// Every refusal, by rising number.
-    pub const ALL: [Refusal; 19] = [
+    pub const ALL: [Refusal; 21] = [
         Refusal::TooLong,
         Refusal::NotACase,
         Refusal::OtherVersion,
@@ -102,6 +108,8 @@ impl Refusal {
         Refusal::Chart,
         Refusal::ChartGap,
         Refusal::ChartOverlap,
+        Refusal::CountsDiffer,
+        Refusal::TooManyEdges,
     ];
 
     /// Its number.
@@ -220,6 +228,19 @@ pub struct Charted {
     pub combination: u32,
 }
 
+/// The numbers that the library returns of a case that is built and of steps that are listed: `rezkundo_built` in C. Mode
+/// and combination are the chart's first bad pair where the refusal is 18 or 19, else 0.
+#[derive(Clone, Copy, Debug, Default, PartialEq, Eq)]
+#[repr(C)]
+pub struct Built {
+    /// 0, 11, 14 to 21; for a case also 5, and for steps also 1, 3, 12 and 13.
+    pub refusal: u32,
+    pub mode: u32,
+    pub combination: u32,
+    /// The length of the text, which stands at the output's front; 0 where the call is refused.
+    pub written: u32,
+}
+
 // The archive becomes part of this crate, so that a program needs no shared object.
 #[link(name = "rezkundo", kind = "static")]
 unsafe extern "C" {
@@ -257,6 +278,27 @@ unsafe extern "C" {
     fn rezkundo_claim_moves(text: *const u8, text_len: usize, state: u32, values: u32) -> u32;
 
     fn rezkundo_check_chart(chart: *const u8, chart_len: usize) -> Charted;
+
+    fn rezkundo_build_case(
+        chart: *const u8,
+        chart_len: usize,
+        claim: *const u8,
+        claim_len: usize,
+        workers: u32,
+        output: *mut u8,
+        output_len: usize,
+    ) -> Built;
+
+    fn rezkundo_list_steps(
+        chart: *const u8,
+        chart_len: usize,
+        claim: *const u8,
+        claim_len: usize,
+        answer: *const u8,
+        answer_len: usize,
+        output: *mut u8,
+        output_len: usize,
+    ) -> Built;
 }
 
 /// The version of the linked library.
@@ -333,6 +375,41 @@ pub fn claim_moves(text: &[u8], state: u32, values: u32) -> u32 {
 pub fn check_chart(chart: &[u8]) -> Charted {
     // SAFETY: as above; the call only reads.
     unsafe { rezkundo_check_chart(chart.as_ptr(), chart.len()) }
+}
+
+/// Builds the case file of a chart and a claim, for so many workers, at the output's front. A refused call leaves the
+/// output as it is.
+pub fn build_case(chart: &[u8], claim: &[u8], workers: u32, output: &mut [u8]) -> Built {
+    // SAFETY: as above.
+    unsafe {
+        rezkundo_build_case(
+            chart.as_ptr(),
+            chart.len(),
+            claim.as_ptr(),
+            claim.len(),
+            workers,
+            output.as_mut_ptr(),
+            output.len(),
+        )
+    }
+}
+
+/// Lists the steps of an answer to the case of a chart and a claim at the output's front: of a lasso a line for each
+/// edge, of an "empty" nothing. A refused call leaves the output as it is.
+pub fn list_steps(chart: &[u8], claim: &[u8], answer: &[u8], output: &mut [u8]) -> Built {
+    // SAFETY: as above.
+    unsafe {
+        rezkundo_list_steps(
+            chart.as_ptr(),
+            chart.len(),
+            claim.as_ptr(),
+            claim.len(),
+            answer.as_ptr(),
+            answer.len(),
+            output.as_mut_ptr(),
+            output.len(),
+        )
+    }
 }
 
 /// What the numbers mean. A refusal has no verdict and no answer, and only `Unended` counts acts and messages; whatever
@@ -441,13 +518,13 @@ mod tests {
         for numbers in [
             outcome(0, 0, 0, 0),
             outcome(0, 3, 8, 60),
-            outcome(20, 0, 0, 0),
+            outcome(22, 0, 0, 0),
             outcome(9, 0, 1, 0),
             outcome(9, 0, 1 << 32, 0),
             tallied(outcome(9, 0, 0, 0)),
             outcome(2, 0, 0, 1),
             outcome(2, 2, 0, 0),
-            outcome(20, 2, 8, 60),
+            outcome(22, 2, 8, 60),
         ] {
             assert_eq!(finding(numbers), Err(Error::Unknown(numbers)));
         }
