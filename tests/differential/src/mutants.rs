@@ -6,14 +6,16 @@
 use std::borrow::Cow;
 
 use reference::answer::{Answer, EMPTY_NAMES, cycle, fewest_edges_to};
-use reference::case::{self, Case};
+use reference::case::{self, Case, text_of};
 use reference::chart::{self, Chart};
 use reference::checker::{self, is_lasso_shaped, leaves_accepting};
 use reference::claim::{Claim, LIMITS, read_tokens};
 use reference::claim_tokens::{Fault, Limits, Token, tokens};
 use reference::entries::{
-    Charted, Checked, ClaimRead, Outcome, Report, Tool, WORK_CELLS, check_with, run_with,
+    Built, Charted, Checked, ClaimRead, Outcome, Report, Tool, WORK_CELLS, check_with, run_with,
+    worker_count, write_with,
 };
+use reference::product::{Automaton, Product};
 use reference::refusal::Refusal;
 use reference::run::{Finding, Run, Tallies, by_list, judge_acts};
 
@@ -174,12 +176,19 @@ impl Mutant {
         self.fault.judge(&tokens, read)
     }
 
-    fn chart(&self, text: &[u8]) -> Result<(), chart::Fault> {
+    fn chart(&self, text: &[u8]) -> Result<Chart, chart::Fault> {
         let mut chart = chart::read(&self.fault.chart_text(text)).ok_or(chart::WRONG)?;
         self.fault.forgive_chart(&mut chart);
         let in_range = chart.in_range(self.fault.chart_limits());
         let fault = self.fault.judge_chart(&chart, in_range);
-        fault.map_or(Ok(()), Err)
+        fault.map_or(Ok(chart), Err)
+    }
+
+    fn product(&self, chart: &[u8], claim: &[u8]) -> Result<Product, chart::Fault> {
+        Ok(Product {
+            chart: Automaton::of_chart(&self.chart(chart)?),
+            claim: Automaton::of_claim(&self.claim(claim)?, claim),
+        })
     }
 }
 
@@ -217,6 +226,23 @@ impl Tool for Mutant {
 
     fn check_chart(&self, text: &[u8]) -> Charted {
         Charted::of(self.chart(text))
+    }
+
+    fn build_case(&self, chart: &[u8], claim: &[u8], workers: u32, output: &mut [u8]) -> Built {
+        write_with(output, || {
+            let workers = worker_count(workers)?;
+            let product = self.product(chart, claim)?;
+            Ok(text_of(&product.case(workers)?))
+        })
+    }
+
+    fn list_steps(&self, chart: &[u8], claim: &[u8], answer: &[u8], output: &mut [u8]) -> Built {
+        write_with(output, || {
+            let product = self.product(chart, claim)?;
+            let case = product.case(1)?;
+            let answer = self.fault.check(&case, answer)?;
+            Ok(product.listing(&case, &answer))
+        })
     }
 }
 

@@ -113,9 +113,15 @@ fn spelled(text: &str) -> Tokens {
 
 /// A random claim and a text that says it.
 pub fn random_claim(rng: &mut Rng) -> (Drawn, Vec<u8>) {
+    let propositions = rng.pick(&[0, 1, 1, 2, 2, 3, 5, 8]);
+    random_claim_on(rng, propositions)
+}
+
+/// The same with so many propositions.
+pub fn random_claim_on(rng: &mut Rng, propositions: usize) -> (Drawn, Vec<u8>) {
     let mut drawn = Drawn {
         start: 0,
-        propositions: rng.pick(&[0, 1, 1, 2, 2, 3, 5, 8]),
+        propositions,
         states: Vec::new(),
     };
     let count = rng.pick(&[1, 1, 2, 2, 2, 3, 4, 15]);

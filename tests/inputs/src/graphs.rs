@@ -1,11 +1,10 @@
-//! Random cases, and the text of a case.
+//! Random cases.
 
 use std::collections::BTreeSet;
-use std::fmt::Write;
 
-use reference::case::{
-    COUNT_NAMES, Case, EDGE_NAMES, MOST_EDGES, MOST_VERTICES, MOST_WORKERS, VERTEX_NAMES,
-};
+use reference::case::{Case, MOST_EDGES, MOST_VERTICES, MOST_WORKERS};
+
+pub use reference::case::text_of;
 
 use crate::rng::Rng;
 
@@ -166,23 +165,4 @@ pub fn with_wrong_value(rng: &mut Rng, case: &Case) -> Case {
         _ => case.edges.reverse(),
     }
     case
-}
-
-/// The text of a case. It may be one that a reader must refuse: nothing is
-/// checked here.
-pub fn text_of(case: &Case) -> Vec<u8> {
-    let (vertices, edges) = (case.vertices(), case.edges.len());
-    let mut text = format!(
-        "{COUNT_NAMES}\n1 {vertices} {edges} {} {}\n",
-        case.source, case.workers
-    );
-    text += &format!("{VERTEX_NAMES}\n");
-    for (vertex, (&mark, owner)) in case.accepting.iter().zip(&case.owners).enumerate() {
-        writeln!(text, "{vertex} {} {owner}", u8::from(mark)).expect("a string takes any text");
-    }
-    text += &format!("{EDGE_NAMES}\n");
-    for (from, to) in &case.edges {
-        writeln!(text, "{from} {to}").expect("a string takes any text");
-    }
-    text.into_bytes()
 }

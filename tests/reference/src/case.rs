@@ -1,5 +1,6 @@
 //! The case file.
 
+use std::fmt::Write;
 use std::ops::Range;
 
 use crate::refusal::Refusal;
@@ -153,4 +154,23 @@ fn read_edges(lines: &mut Lines, counts: &Counts) -> Result<Vec<(usize, usize)>,
         edges.push((from, to));
     }
     Ok(edges)
+}
+
+/// The text of a case. It may be one that a reader must refuse: nothing is
+/// checked here.
+pub fn text_of(case: &Case) -> Vec<u8> {
+    let (vertices, edges) = (case.vertices(), case.edges.len());
+    let mut text = format!(
+        "{COUNT_NAMES}\n1 {vertices} {edges} {} {}\n",
+        case.source, case.workers
+    );
+    text += &format!("{VERTEX_NAMES}\n");
+    for (vertex, (&mark, owner)) in case.accepting.iter().zip(&case.owners).enumerate() {
+        writeln!(text, "{vertex} {} {owner}", u8::from(mark)).expect("a string takes any text");
+    }
+    text += &format!("{EDGE_NAMES}\n");
+    for (from, to) in &case.edges {
+        writeln!(text, "{from} {to}").expect("a string takes any text");
+    }
+    text.into_bytes()
 }

@@ -47,7 +47,8 @@ pub struct Rule {
     pub next: usize,
 }
 
-/// Why a chart is refused. Only a bad pair has a mode and a combination.
+/// Why a chart, or what is made of it, is refused. Only a bad pair has a mode
+/// and a combination.
 #[derive(Clone, Copy, Debug, PartialEq, Eq)]
 pub struct Fault {
     pub refusal: Refusal,
@@ -55,17 +56,30 @@ pub struct Fault {
     pub combination: usize,
 }
 
-pub const WRONG: Fault = Fault {
-    refusal: Refusal::ChartWrong,
-    mode: 0,
-    combination: 0,
-};
+impl Fault {
+    pub const fn without_pair(refusal: Refusal) -> Self {
+        Fault {
+            refusal,
+            mode: 0,
+            combination: 0,
+        }
+    }
+}
+
+impl From<Refusal> for Fault {
+    fn from(refusal: Refusal) -> Self {
+        Fault::without_pair(refusal)
+    }
+}
+
+pub const WRONG: Fault = Fault::without_pair(Refusal::ChartWrong);
 
 /// Checks a chart: layout and ranges go first, then the first bad pair decides.
-pub fn check(text: &[u8]) -> Result<(), Fault> {
+pub fn check(text: &[u8]) -> Result<Chart, Fault> {
     let chart = read(text).filter(|chart| chart.in_range(LIMITS));
-    let first_bad_pair = chart.ok_or(WRONG)?.bad_pairs().next();
-    first_bad_pair.map_or(Ok(()), Err)
+    let chart = chart.ok_or(WRONG)?;
+    let first_bad_pair = chart.bad_pairs().next();
+    first_bad_pair.map_or(Ok(chart), Err)
 }
 
 /// What a text says, if it is laid out as a chart.
@@ -165,7 +179,7 @@ impl Chart {
     }
 
     /// Whether each flag that a rule cares for is as its value says.
-    fn matches(&self, rule: &Rule, combination: usize) -> bool {
+    pub fn matches(&self, rule: &Rule, combination: usize) -> bool {
         let mut cared_for = (0..self.flags).filter(|&flag| has(rule.care, flag));
         cared_for.all(|flag| has(combination, flag) == has(rule.value, flag))
     }

@@ -1,10 +1,11 @@
 //! The entries, with the buffers that a caller lends.
 
 use crate::answer::Answer;
-use crate::case::{self, Case};
-use crate::chart;
+use crate::case::{self, Case, MOST_WORKERS, text_of};
+use crate::chart::{self, Chart};
 use crate::checker;
 use crate::claim::{self, Claim, MOST_STATES};
+use crate::product::{Automaton, Product};
 use crate::refusal::Refusal;
 use crate::run::{Run, Tallies, by_list, by_rounds};
 
@@ -12,6 +13,8 @@ use crate::run::{Run, Tallies, by_list, by_rounds};
 pub const OUTPUT_BYTES: usize = 8_192;
 /// The least work buffer, in cells.
 pub const WORK_CELLS: usize = 16_384;
+/// The least output of a case that is built and of steps that are listed.
+pub const BUILT_BYTES: usize = 65_536;
 
 /// What a run returns. A refusal has verdict 0; of refusals only 10 has acts
 /// and tallies.
@@ -93,9 +96,9 @@ pub struct Charted {
 }
 
 impl Charted {
-    pub fn of(checked: Result<(), chart::Fault>) -> Self {
+    pub fn of(checked: Result<Chart, chart::Fault>) -> Self {
         match checked {
-            Ok(()) => Charted::default(),
+            Ok(_) => Charted::default(),
             Err(fault) => Charted {
                 refusal: fault.refusal.number(),
                 mode: fault.mode as u32,
@@ -105,7 +108,29 @@ impl Charted {
     }
 }
 
-/// Anything that offers the six entries.
+/// What comes back of a case that is built and of steps that are listed.
+/// Refusals 18 and 19 have the chart's first bad pair; else mode and combination
+/// are 0.
+#[derive(Clone, Copy, Debug, Default, PartialEq, Eq)]
+pub struct Built {
+    pub refusal: u32,
+    pub mode: u32,
+    pub combination: u32,
+    pub written: u32,
+}
+
+impl Built {
+    pub fn refused(fault: chart::Fault) -> Self {
+        Built {
+            refusal: fault.refusal.number(),
+            mode: fault.mode as u32,
+            combination: fault.combination as u32,
+            written: 0,
+        }
+    }
+}
+
+/// Anything that offers the eight entries.
 pub trait Tool {
     fn run_list(&self, text: &[u8], acts: &[u32], output: &mut [u8], work: &mut [i32]) -> Outcome;
 
@@ -118,6 +143,10 @@ pub trait Tool {
     fn claim_moves(&self, text: &[u8], state: u32, values: u32) -> u32;
 
     fn check_chart(&self, text: &[u8]) -> Charted;
+
+    fn build_case(&self, chart: &[u8], claim: &[u8], workers: u32, output: &mut [u8]) -> Built;
+
+    fn list_steps(&self, chart: &[u8], claim: &[u8], answer: &[u8], output: &mut [u8]) -> Built;
 }
 
 /// What a begun run leaves to report.
@@ -186,6 +215,43 @@ pub fn check_with(text: &[u8], check: impl FnOnce(&Case) -> Result<Answer, Refus
     }
 }
 
+/// The frame of building and listing: the output goes before everything, and
+/// only a whole text is written.
+pub fn write_with(
+    output: &mut [u8],
+    make: impl FnOnce() -> Result<Vec<u8>, chart::Fault>,
+) -> Built {
+    if output.len() < BUILT_BYTES {
+        return Built::refused(Refusal::BufferTooSmall.into());
+    }
+    match make() {
+        Ok(text) => {
+            output[..text.len()].copy_from_slice(&text);
+            Built {
+                written: text.len() as u32,
+                ..Built::default()
+            }
+        }
+        Err(fault) => Built::refused(fault),
+    }
+}
+
+/// How many workers a case may be built for.
+pub fn worker_count(workers: u32) -> Result<usize, Refusal> {
+    let in_range = (1..=MOST_WORKERS).contains(&(workers as usize));
+    in_range
+        .then_some(workers as usize)
+        .ok_or(Refusal::CountOutOfRange)
+}
+
+/// A chart and a claim; the whole chart is judged before the claim.
+fn read_product(chart: &[u8], claim: &[u8]) -> Result<Product, chart::Fault> {
+    Ok(Product {
+        chart: Automaton::of_chart(&chart::check(chart)?),
+        claim: Automaton::of_claim(&claim::read(claim)?, claim),
+    })
+}
+
 /// The reference as a tool.
 pub struct Reference;
 
@@ -214,5 +280,22 @@ impl Tool for Reference {
 
     fn check_chart(&self, text: &[u8]) -> Charted {
         Charted::of(chart::check(text))
+    }
+
+    fn build_case(&self, chart: &[u8], claim: &[u8], workers: u32, output: &mut [u8]) -> Built {
+        write_with(output, || {
+            let workers = worker_count(workers)?;
+            let product = read_product(chart, claim)?;
+            Ok(text_of(&product.case(workers)?))
+        })
+    }
+
+    fn list_steps(&self, chart: &[u8], claim: &[u8], answer: &[u8], output: &mut [u8]) -> Built {
+        write_with(output, || {
+            let product = read_product(chart, claim)?;
+            let case = product.case(1)?;
+            let answer = checker::check(&case, answer)?;
+            Ok(product.listing(&case, &answer))
+        })
     }
 }

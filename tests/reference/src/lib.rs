@@ -15,6 +15,7 @@ pub mod claim_label;
 pub mod claim_tokens;
 pub mod entries;
 pub mod plain;
+pub mod product;
 pub mod refusal;
 pub mod run;
 pub mod text;

@@ -23,6 +23,8 @@ pub enum Refusal {
     ChartWrong = 17,
     NoRule = 18,
     TwoRules = 19,
+    CountsDiffer = 20,
+    TooManyEdges = 21,
 }
 
 impl Refusal {

@@ -2,10 +2,11 @@
 //! bindings/rust. The binding keeps every number that the library returns, so
 //! nothing that the comparison looks at is lost on the way.
 
-use reference::entries::{Charted, Checked, ClaimRead, Outcome, Tool};
+use reference::entries::{Built, Charted, Checked, ClaimRead, Outcome, Tool};
 use reference::run::Tallies;
 use rezkundo::{
-    Error, Finding, check_answer, check_chart, claim_moves, read_claim, run_list, run_rounds,
+    Error, Finding, build_case, check_answer, check_chart, claim_moves, list_steps, read_claim,
+    run_list, run_rounds,
 };
 
 /// The proved library.
@@ -59,6 +60,23 @@ impl Tool for Library {
             mode: charted.mode,
             combination: charted.combination,
         }
+    }
+
+    fn build_case(&self, chart: &[u8], claim: &[u8], workers: u32, output: &mut [u8]) -> Built {
+        built(build_case(chart, claim, workers, output))
+    }
+
+    fn list_steps(&self, chart: &[u8], claim: &[u8], answer: &[u8], output: &mut [u8]) -> Built {
+        built(list_steps(chart, claim, answer, output))
+    }
+}
+
+fn built(built: rezkundo::Built) -> Built {
+    Built {
+        refusal: built.refusal,
+        mode: built.mode,
+        combination: built.combination,
+        written: built.written,
     }
 }
 
