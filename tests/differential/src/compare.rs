@@ -3,14 +3,17 @@
 use std::fmt::{self, Debug, Display, Formatter};
 use std::sync::LazyLock;
 
+use inputs::products::{Call, Making};
 use reference::claim::{self, Claim};
-use reference::entries::{Checked, ClaimRead, OUTPUT_BYTES, Outcome, Reference, Tool, WORK_CELLS};
+use reference::entries::{
+    Built, Checked, ClaimRead, OUTPUT_BYTES, Outcome, Reference, Tool, WORK_CELLS,
+};
 use reference::refusal::Refusal;
 
 /// Items of the larger vector before the lent part, and after it.
 const GUARD: usize = 64;
 /// Items that a buffer has at most, guards included.
-const LONGEST_BUFFER: usize = 32_768;
+const LONGEST_BUFFER: usize = 1 << 18;
 
 /// How the run is called.
 #[derive(Clone, Copy)]
@@ -134,8 +137,20 @@ fn difference(got: &Left, want: &Left) -> Option<String> {
     output.or_else(|| got.work.difference(&want.work, "work"))
 }
 
+/// What a tool returns of a call that makes a text, and the output that it
+/// leaves.
+fn made(tool: &dyn Tool, call: &Call) -> (Built, Lent<u8>) {
+    let mut output = Lent::new(call.output, &OUTPUT_PATTERN);
+    let (chart, claim) = (&call.chart, &call.claim);
+    let built = match &call.making {
+        Making::Case(workers) => tool.build_case(chart, claim, *workers, output.part()),
+        Making::Steps(answer) => tool.list_steps(chart, claim, answer, output.part()),
+    };
+    (built, output)
+}
+
 /// One more than the greatest refusal.
-const REFUSALS: usize = 20;
+const REFUSALS: usize = 22;
 
 /// How many calls came out in each way: place 0 counts results and passes,
 /// the others the refusals of that number.
@@ -145,6 +160,8 @@ pub struct Tally {
     checks: [u64; REFUSALS],
     claims: [u64; REFUSALS],
     charts: [u64; REFUSALS],
+    built: [u64; REFUSALS],
+    listed: [u64; REFUSALS],
     /// Calls for the moves of a claim.
     moves: u64,
     /// Lists by which offers meet in a cell.
@@ -153,19 +170,25 @@ pub struct Tally {
 
 impl Tally {
     pub fn calls(&self) -> u64 {
-        let counts = [&self.runs, &self.checks, &self.claims, &self.charts];
-        counts.into_iter().flatten().sum::<u64>() + self.moves
+        let counts = self.by_refusal().into_iter().flat_map(|(_, counts)| counts);
+        counts.sum::<u64>() + self.moves
+    }
+
+    fn by_refusal(&self) -> [(&str, &[u64; REFUSALS]); 6] {
+        [
+            ("runs", &self.runs),
+            ("checks", &self.checks),
+            ("claims", &self.claims),
+            ("charts", &self.charts),
+            ("cases built", &self.built),
+            ("steps listed", &self.listed),
+        ]
     }
 }
 
 impl Display for Tally {
     fn fmt(&self, formatter: &mut Formatter) -> fmt::Result {
-        for (name, counts) in [
-            ("runs", &self.runs),
-            ("checks", &self.checks),
-            ("claims", &self.claims),
-            ("charts", &self.charts),
-        ] {
+        for (name, counts) in self.by_refusal() {
             write!(formatter, "{name} by refusal:")?;
             for (refusal, count) in counts.iter().enumerate().filter(|(_, count)| **count > 0) {
                 write!(formatter, " {refusal}: {count}")?;
@@ -306,6 +329,31 @@ impl<'a> Comparison<'a> {
             inputs: format!("chart:\n{}", shown(text)),
         })
     }
+
+    /// Compares the building of a case or the listing of steps; returns what
+    /// both return, and the text.
+    pub fn make(&mut self, call: &Call) -> Result<(Built, Vec<u8>), Mismatch> {
+        let (want, mut output) = made(&Reference, call);
+        let (name, counts) = match call.making {
+            Making::Case(_) => ("build_case", &mut self.tally.built),
+            Making::Steps(_) => ("list_steps", &mut self.tally.listed),
+        };
+        counts[want.refusal as usize] += 1;
+        let (got, got_output) = made(self.tool, call);
+        let difference = if got == want {
+            got_output.difference(&output, "output")
+        } else {
+            Some(format!("should return {want:?} and returns {got:?}"))
+        };
+        if let Some(difference) = difference {
+            return Err(Mismatch {
+                summary: format!("{name} {difference}"),
+                inputs: call_inputs(call),
+            });
+        }
+        let text = output.part()[..want.written as usize].to_vec();
+        Ok((want, text))
+    }
 }
 
 /// The refusals where they differ, else all numbers.
@@ -345,6 +393,16 @@ fn run_inputs(entry: Entry, text: &[u8], lengths: Lengths) -> String {
         Entry::List(acts) => format!("acts: {acts:?}"),
     };
     format!("{lengths:?}\n{acts}\ncase:\n{}", shown(text))
+}
+
+fn call_inputs(call: &Call) -> String {
+    let (chart, claim) = (shown(&call.chart), shown(&call.claim));
+    let making = match &call.making {
+        Making::Case(workers) => format!("{workers} workers"),
+        Making::Steps(answer) => format!("answer:\n{}", shown(answer)),
+    };
+    let output = call.output;
+    format!("output of {output} bytes\nchart:\n{chart}\nclaim:\n{claim}\n{making}")
 }
 
 /// A text with its odd bytes made visible, line by line.

@@ -11,6 +11,7 @@ mod claims;
 mod compare;
 mod fixed;
 mod mutants;
+mod products;
 mod random;
 
 use std::process::ExitCode;
@@ -101,12 +102,13 @@ impl Found {
 }
 
 /// A part of the comparison: the entries that take a case, those that take a
-/// claim, or the one that takes a chart.
+/// claim, the one that takes a chart, or those that take a chart and a claim.
 #[derive(Clone, Copy)]
 pub enum Part {
     Cases,
     Claims,
     Charts,
+    Products,
 }
 
 impl Part {
@@ -115,6 +117,7 @@ impl Part {
             Part::Cases => fixed::compare_all(comparison),
             Part::Claims => claims::compare_all(comparison),
             Part::Charts => charts::compare_all(comparison),
+            Part::Products => products::compare_all(comparison),
         }
     }
 
@@ -123,12 +126,13 @@ impl Part {
             Part::Cases => random::compare_round(comparison, rng),
             Part::Claims => claims::compare_round(comparison, rng),
             Part::Charts => charts::compare_round(comparison, rng),
+            Part::Products => products::compare_round(comparison, rng),
         }
     }
 }
 
 /// All parts.
-const WHOLE: [Part; 3] = [Part::Cases, Part::Claims, Part::Charts];
+const WHOLE: [Part; 4] = [Part::Cases, Part::Claims, Part::Charts, Part::Products];
 
 /// Compares a tool by these parts; returns how many calls came out in which way.
 fn compare(tool: &dyn Tool, parts: &[Part], length: &Length) -> Result<Tally, Found> {

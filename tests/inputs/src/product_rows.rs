@@ -5,7 +5,7 @@ use std::fmt::Write;
 
 use crate::charts::text_of;
 use crate::products::{
-    Asked, Call, EXAMPLE_ANSWER, EXAMPLE_CASE, EXAMPLE_CHART, EXAMPLE_CLAIM, EXAMPLE_STEPS,
+    Call, EXAMPLE_ANSWER, EXAMPLE_CASE, EXAMPLE_CHART, EXAMPLE_CLAIM, EXAMPLE_STEPS, Making,
     claim_of, counted_chart, counted_claim, split_claim,
 };
 
@@ -53,14 +53,14 @@ fn build(chart: &[u8], claim: &[u8], workers: u32) -> Call {
     Call {
         chart: chart.to_vec(),
         claim: claim.to_vec(),
-        asked: Asked::Case(workers),
+        making: Making::Case(workers),
         output: OUTPUT,
     }
 }
 
 fn list(chart: &[u8], claim: &[u8], answer: &[u8]) -> Call {
     Call {
-        asked: Asked::Steps(answer.to_vec()),
+        making: Making::Steps(answer.to_vec()),
         ..build(chart, claim, 0)
     }
 }
@@ -154,11 +154,7 @@ fn starts() -> Rows {
 /// combination lets both parts move, whichever it is, and not where each moves
 /// on another one.
 fn combinations() -> Rows {
-    let chart = chart(
-        "1 2 0 2",
-        "A B",
-        "0 3 3 1, 0 1 0 0, 0 3 1 0, 1 0 0 1",
-    );
+    let chart = chart("1 2 0 2", "A B", "0 3 3 1, 0 1 0 0, 0 3 1 0, 1 0 0 1");
     let (stay, go) = ([(0, 0), (1, 1)], [(0, 1), (1, 1)]);
     let both = [(0, 0), (0, 1), (1, 1)];
     let rows: [(&str, &[_]); 8] = [
@@ -408,8 +404,8 @@ fn edges() -> Rows {
         (6, 2, 23, 10, 87),
         (32, 8, 69, 15, 29),
         // Edges that are few in 16 bits, and the most that there can be.
-        (32, 8, 512, 15, 129),
-        (32, 8, 512, 15, 225),
+        (32, 4, 512, 15, 129),
+        (32, 4, 512, 15, 225),
     ] {
         let chart = text_of(&counted_chart(modes, flags, pairs));
         let want = if pairs * moves <= 2_000 {

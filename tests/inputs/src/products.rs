@@ -2,6 +2,7 @@
 //! product has a known number of edges, the greatest, and random ones.
 
 use reference::answer::Answer;
+use reference::case::MOST_EDGES;
 use reference::chart::{Chart, LIMITS, Rule};
 
 use crate::charts::{chart_of, greatest_chart, random_cover};
@@ -16,15 +17,15 @@ const MOST_LISTED: usize = 500;
 pub struct Call {
     pub chart: Vec<u8>,
     pub claim: Vec<u8>,
-    pub asked: Asked,
+    pub making: Making,
     /// The output's length.
     pub output: usize,
 }
 
-/// What is asked for: the case file for so many workers, or the steps of an
+/// What a call makes: the case file for so many workers, or the steps of an
 /// answer.
 #[derive(Clone, Debug)]
-pub enum Asked {
+pub enum Making {
     Case(u32),
     Steps(Vec<u8>),
 }
@@ -165,15 +166,55 @@ pub fn greatest_products() -> Vec<(Chart, Vec<u8>)> {
     ]
 }
 
+/// Every chart of two modes and one flag with every claim of two states, of
+/// which the second is accepting: from each state to each there is no edge, one
+/// with the flag, one without it, or one in any case. Every start comes up.
+pub fn every_small_product() -> impl Iterator<Item = (Chart, Vec<u8>)> {
+    (0..1 << 12).map(|number: usize| {
+        let bit = |place: usize| number >> place & 1;
+        let mut chart = chart_of(2, bit(0) ^ bit(5), 1);
+        chart.rules.extend((0..4).map(|pair| Rule {
+            mode: pair / 2,
+            care: 1,
+            value: pair % 2,
+            next: bit(pair),
+        }));
+        let line = |state: usize| {
+            let label =
+                |target: usize| ["f", "0", "!0", "t"][number >> (4 + 4 * state + 2 * target) & 3];
+            let mark = ["", "{0}"][state];
+            format!("{mark} [{}] 0 [{}] 1", label(0), label(1))
+        };
+        (chart, claim_of(bit(2) ^ bit(7), 1, &[line(0), line(1)]))
+    })
+}
+
 /// A random right chart, and a claim that mostly goes with it.
 pub fn random_product(rng: &mut Rng) -> (Chart, Vec<u8>) {
-    let chart = random_cover(rng);
+    if rng.chance(1, 200) {
+        return around_most_edges(rng);
+    }
+    let mut chart = random_cover(rng);
+    // Charts of many pairs take long and show little more.
+    while chart.modes() << chart.flags > 256 && rng.chance(15, 16) {
+        chart = random_cover(rng);
+    }
     let (_, claim) = if rng.chance(1, 10) {
         random_claim(rng)
     } else {
         random_claim_on(rng, chart.flags)
     };
     (chart, claim)
+}
+
+/// A product of some 2,000 edges.
+fn around_most_edges(rng: &mut Rng) -> (Chart, Vec<u8>) {
+    let modes = rng.between(10, LIMITS.modes);
+    let flags = rng.between(2, 4);
+    let pairs = rng.between(modes, 4 * modes);
+    let moves = MOST_EDGES / pairs + rng.below(2);
+    let chart = counted_chart(modes, flags, pairs);
+    (chart, counted_claim(15, flags, moves))
 }
 
 /// A lasso that goes round its cycle as often as the counts of an answer allow,

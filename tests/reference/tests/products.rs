@@ -10,7 +10,7 @@ use inputs::claims::{Drawn, random_claim_on};
 use inputs::damage::{damaged, every_small_change};
 use inputs::product_rows::{READINGS, rows};
 use inputs::products::{
-    Asked, Call, EXAMPLE_ANSWER, EXAMPLE_CASE, greatest_products, many_times_round, random_product,
+    Call, EXAMPLE_ANSWER, EXAMPLE_CASE, Making, greatest_products, many_times_round, random_product,
 };
 use inputs::readings;
 use inputs::rng::Rng;
@@ -31,9 +31,9 @@ const FILLED: u8 = 7;
 fn made(call: &Call) -> (Built, Vec<u8>) {
     let mut output = vec![FILLED; call.output];
     let (chart, claim) = (&call.chart, &call.claim);
-    let built = match &call.asked {
-        Asked::Case(workers) => Reference.build_case(chart, claim, *workers, &mut output),
-        Asked::Steps(answer) => Reference.list_steps(chart, claim, answer, &mut output),
+    let built = match &call.making {
+        Making::Case(workers) => Reference.build_case(chart, claim, *workers, &mut output),
+        Making::Steps(answer) => Reference.list_steps(chart, claim, answer, &mut output),
     };
     let rest = &output[built.written as usize..];
     assert!(rest.iter().all(|&byte| byte == FILLED));
@@ -57,11 +57,11 @@ fn holds(reading: usize) {
 
 fn shown(call: &Call) -> String {
     let front = |text: &[u8]| text[..text.len().min(2_000)].escape_ascii().to_string();
-    let asked = match &call.asked {
-        Asked::Case(workers) => format!("{workers} workers"),
-        Asked::Steps(answer) => front(answer),
+    let making = match &call.making {
+        Making::Case(workers) => format!("{workers} workers"),
+        Making::Steps(answer) => front(answer),
     };
-    format!("{}\n{}\n{asked}", front(&call.chart), front(&call.claim))
+    format!("{}\n{}\n{making}", front(&call.chart), front(&call.claim))
 }
 
 readings! {
@@ -78,18 +78,18 @@ readings! {
     reading_11_names 11
 }
 
-fn call(chart: &[u8], claim: &[u8], asked: Asked) -> Call {
+fn call(chart: &[u8], claim: &[u8], making: Making) -> Call {
     Call {
         chart: chart.to_vec(),
         claim: claim.to_vec(),
-        asked,
+        making,
         output: OUTPUT,
     }
 }
 
 /// The case of a chart and a claim that may have one.
 fn case_of(chart: &[u8], claim: &[u8], workers: u32) -> Option<Case> {
-    let (built, text) = made(&call(chart, claim, Asked::Case(workers)));
+    let (built, text) = made(&call(chart, claim, Making::Case(workers)));
     (built.refusal == 0).then(|| case::read(&text).expect("what is built is a case"))
 }
 
@@ -221,8 +221,8 @@ fn what_is_built_is_read_back_and_written_again() {
     let mut greatest = (0, 0);
     for (chart, claim) in greatest_products().into_iter().chain(random) {
         let workers = 1 + chart.rules.len() as u32 % 16;
-        let asked = Asked::Case(workers);
-        let (built, text) = made(&call(&text_of(&chart), &claim, asked));
+        let making = Making::Case(workers);
+        let (built, text) = made(&call(&text_of(&chart), &claim, making));
         if built.refusal != 0 {
             assert!(matches!(built.refusal, 20 | 21));
             continue;
@@ -263,7 +263,7 @@ fn listings_follow_the_checker() {
         for answer in answers {
             let text = answer.text().into_bytes();
             let refusal = checker::check(&case, &text).err().map(Refusal::number);
-            let (built, listed) = made(&call(&chart_text, &claim, Asked::Steps(text)));
+            let (built, listed) = made(&call(&chart_text, &claim, Making::Steps(text)));
             assert_eq!(built.refusal, refusal.unwrap_or(0));
             if refusal.is_none() {
                 let left = edges_of(&answer).into_iter().map(|edge| case.edges[edge].0);
@@ -318,10 +318,10 @@ fn no_other_refusal_and_no_pair_without_a_bad_one() {
             claim = changed(rng, &claim);
         }
         let answer = damaged(rng, EXAMPLE_ANSWER.as_bytes());
-        let asked = [Asked::Case(rng.below(18) as u32), Asked::Steps(answer)];
+        let making = [Making::Case(rng.below(18) as u32), Making::Steps(answer)];
         let known: [&[u32]; 2] = [&[0, 5], &[0, 1, 3, 12, 13]];
-        for (asked, known) in asked.into_iter().zip(known) {
-            let (built, _) = made(&call(&chart, &claim, asked));
+        for (making, known) in making.into_iter().zip(known) {
+            let (built, _) = made(&call(&chart, &claim, making));
             assert!(known.contains(&built.refusal) || (14..=21).contains(&built.refusal));
             let no_pair = (built.mode, built.combination) == (0, 0);
             assert!(matches!(built.refusal, 18 | 19) || no_pair);
