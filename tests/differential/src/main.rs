@@ -11,6 +11,7 @@ mod claims;
 mod compare;
 mod fixed;
 mod mutants;
+mod product_mutants;
 mod products;
 mod random;
 

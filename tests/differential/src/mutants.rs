@@ -1,7 +1,8 @@
 //! The reference with one fault each: the comparison must find every one.
 //!
-//! A mutant takes over one hook of a run, a check, the reading of a claim or the
-//! check of a chart and leaves the rest as the reference has it.
+//! A mutant takes over one hook of a run, a check, the reading of a claim, the
+//! check of a chart or the making of a case or of steps from both, and leaves the
+//! rest as the reference has it.
 
 use std::borrow::Cow;
 
@@ -22,6 +23,7 @@ use reference::run::{Finding, Run, Tallies, by_list, judge_acts};
 use crate::Part;
 use crate::chart_mutants::chart_mutants;
 use crate::claim_mutants::claim_mutants;
+use crate::product_mutants::product_mutants;
 
 /// A faulty tool: each hook is right unless a mutant takes it over.
 pub trait Faulty {
@@ -105,6 +107,33 @@ pub trait Faulty {
     fn bad_pair(&self, bad_pairs: &mut dyn Iterator<Item = chart::Fault>) -> Option<chart::Fault> {
         bad_pairs.next()
     }
+
+    /// Refuses the building of a case before its output is looked at.
+    fn before_output(&self, _workers: u32) -> Result<(), Refusal> {
+        Ok(())
+    }
+
+    /// The chart and the claim that a case is made of.
+    fn both(
+        &self,
+        chart: Result<Chart, chart::Fault>,
+        claim: Result<Claim, Refusal>,
+    ) -> Result<(Chart, Claim), chart::Fault> {
+        Ok((chart?, claim?))
+    }
+
+    /// The case of a product.
+    fn product_case(&self, product: &Product, workers: usize) -> Result<Case, Refusal> {
+        product.case(workers)
+    }
+
+    /// What is listed of a passing answer.
+    fn listing(&self, product: &Product, case: &Case, answer: &Answer) -> Vec<u8> {
+        product.listing(case, answer)
+    }
+
+    /// Changes what building and listing leave in the output.
+    fn leave_built(&self, _built: Built, _output: &mut [u8]) {}
 }
 
 /// Copies of both buffers, made before a run.
@@ -185,10 +214,21 @@ impl Mutant {
     }
 
     fn product(&self, chart: &[u8], claim: &[u8]) -> Result<Product, chart::Fault> {
+        let (chart, read) = self.fault.both(self.chart(chart), self.claim(claim))?;
         Ok(Product {
-            chart: Automaton::of_chart(&self.chart(chart)?),
-            claim: Automaton::of_claim(&self.claim(claim)?, claim),
+            chart: Automaton::of_chart(&chart),
+            claim: Automaton::of_claim(&read, claim),
         })
+    }
+
+    fn write(
+        &self,
+        output: &mut [u8],
+        make: impl FnOnce() -> Result<Vec<u8>, chart::Fault>,
+    ) -> Built {
+        let built = write_with(output, make);
+        self.fault.leave_built(built, output);
+        built
     }
 }
 
@@ -229,19 +269,22 @@ impl Tool for Mutant {
     }
 
     fn build_case(&self, chart: &[u8], claim: &[u8], workers: u32, output: &mut [u8]) -> Built {
-        write_with(output, || {
+        if let Err(refusal) = self.fault.before_output(workers) {
+            return Built::refused(refusal.into());
+        }
+        self.write(output, || {
             let workers = worker_count(workers)?;
             let product = self.product(chart, claim)?;
-            Ok(text_of(&product.case(workers)?))
+            Ok(text_of(&self.fault.product_case(&product, workers)?))
         })
     }
 
     fn list_steps(&self, chart: &[u8], claim: &[u8], answer: &[u8], output: &mut [u8]) -> Built {
-        write_with(output, || {
+        self.write(output, || {
             let product = self.product(chart, claim)?;
-            let case = product.case(1)?;
+            let case = self.fault.product_case(&product, 1)?;
             let answer = self.fault.check(&case, answer)?;
-            Ok(product.listing(&case, &answer))
+            Ok(self.fault.listing(&product, &case, &answer))
         })
     }
 }
@@ -270,6 +313,14 @@ pub fn chart_mutant(name: &'static str, fault: impl Faulty + 'static) -> Mutant 
     }
 }
 
+/// A mutant that makes cases and steps.
+pub fn product_mutant(name: &'static str, fault: impl Faulty + 'static) -> Mutant {
+    Mutant {
+        part: Part::Products,
+        ..mutant(name, fault)
+    }
+}
+
 /// The tool without any fault: the comparison must not find anything.
 pub fn faultless() -> Mutant {
     mutant("no fault", NoFault)
@@ -280,6 +331,7 @@ pub fn mutants() -> Vec<Mutant> {
     let mut mutants = case_mutants();
     mutants.extend(claim_mutants());
     mutants.extend(chart_mutants());
+    mutants.extend(product_mutants());
     mutants
 }
 
