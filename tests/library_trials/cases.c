@@ -60,12 +60,12 @@ void write_case(struct text *to, enum shape shape)
     write_edges(to, shape);
 }
 
-void write_longest_lasso(struct text *to)
+void write_longest_lasso(struct text *to, int edge)
 {
     to->size = 0;
     append(to, "version verdict stem cycle reached\n1 lasso %d %d 0\nedge\n", MOST_LISTED, MOST_LISTED);
     for (int line = 0; line < 2 * MOST_LISTED; line++)
-        append(to, "%d\n", EDGES - 1);
+        append(to, "%d\n", edge);
 }
 
 /* One pass; its length. */
@@ -101,4 +101,21 @@ void write_chart(struct text *to, int modes)
     for (int rule = 0; rule < REZKUNDO_MOST_RULES; rule++)
         append(to, "%d %d %d %d\n", rule * matched / combinations, combinations - matched, rule * matched % combinations,
                modes - 1);
+}
+
+void write_claim(struct text *to)
+{
+    const char *labels[] = {"((((((((((((((((t))))))))))))))))", "!!!!!!!!!!!!!!!!t", "0 | !0", "t"};
+    int states = REZKUNDO_MOST_STATES;
+    to->size = 0;
+    append(to, "HOA: v1\nStates: %d\nStart: 0\nAP: %d", states, REZKUNDO_MOST_FLAGS);
+    for (int flag = 0; flag < REZKUNDO_MOST_FLAGS; flag++)
+        append(to, " \"p%d\"", flag);
+    append(to, "\nAcceptance: 1 Inf(0)\n--BODY--\n");
+    for (int state = 0; state < states; state++) {
+        append(to, "State: %d \"%032d\" {0}\n", state, state);
+        for (int move = 0; move < MOVES; move++)
+            append(to, "[%s] %d\n", labels[move], (state + move) % states);
+    }
+    append(to, "--END--\n");
 }

@@ -1,4 +1,4 @@
-/* The largest cases that there are, as texts, lists of acts for them, and the largest charts. */
+/* The largest cases that there are, as texts, lists of acts for them, the largest charts, and a claim for them. */
 #ifndef CASES_H
 #define CASES_H
 
@@ -23,8 +23,9 @@ enum shape { LAP, KNOT, LADDER, SHAPES };
 
 void write_case(struct text *to, enum shape shape);
 
-/* An answer to the KNOT of greatest counts: 500 times round the source's edge to itself, and 500 times more. */
-void write_longest_lasso(struct text *to);
+/* An answer of greatest counts: 500 times round this edge, from the source to itself, and 500 times more. In the KNOT it is
+ * the last one. */
+void write_longest_lasso(struct text *to, int edge);
 
 /* Passes over a shape, the last one cut: for each vertex a turn of its owner and deliveries on all its edges. */
 void write_acts(uint32_t acts[ACTS], enum shape shape);
@@ -32,5 +33,11 @@ void write_acts(uint32_t acts[ACTS], enum shape shape);
 /* A right chart with as many rules as there may be, shared evenly among its modes, of which there are a power of two from 2
  * on. The more modes, the longer it is. */
 void write_chart(struct text *to, int modes);
+
+/* A right claim with as many states and propositions as there may be, longest names and deepest labels. Whatever the flags,
+ * it goes from each state to MOVES states; from state 0, the start, first to itself. With the longest chart it makes a case
+ * of 480 vertices and 1,920 edges. */
+#define MOVES 4
+void write_claim(struct text *to);
 
 #endif

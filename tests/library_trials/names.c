@@ -1,5 +1,5 @@
-/* Prints what the header names, and where what comes of a run, a claim and a chart has its fields, as the other bindings'
- * trials do. refusals.inc is made of the header's own names: REFUSAL(name) for each. */
+/* Prints what the header names, and where what comes of a run, a claim, a chart and what is built of both has its fields, as
+ * the other bindings' trials do. refusals.inc is made of the header's own names: REFUSAL(name) for each. */
 #include <stdio.h>
 
 #include "rezkundo.h"
@@ -23,6 +23,8 @@ int main(void)
     LIMIT(MOST_FLAGS)
     LIMIT(MOST_RULES)
     LIMIT(LONGEST_NAME)
+    LIMIT(LEAST_CASE)
+    LIMIT(LEAST_STEPS)
     VERDICT(LASSO)
     VERDICT(EMPTY)
 #include "refusals.inc"
@@ -46,5 +48,10 @@ int main(void)
     FIELD(charted, refusal)
     FIELD(charted, mode)
     FIELD(charted, combination)
+    printf("built of %zu bytes\n", sizeof(rezkundo_built));
+    FIELD(built, refusal)
+    FIELD(built, mode)
+    FIELD(built, combination)
+    FIELD(built, written)
     return 0;
 }

@@ -1,11 +1,12 @@
-//! Prints what the Rust binding names, and where what comes of a run, a claim and a chart has its fields, as the other
-//! bindings' trials do.
+//! Prints what the Rust binding names, and where what comes of a run, a claim, a chart and what is built of both has its
+//! fields, as the other bindings' trials do.
 
 use std::mem::{offset_of, size_of, size_of_val};
 
 use rezkundo::{
-    Charted, Claim, LEAST_OUTPUT, LEAST_WORK, LONGEST_CLAIM, LONGEST_FILE, LONGEST_NAME,
-    MOST_FLAGS, MOST_MODES, MOST_RULES, MOST_STATES, Outcome, Refusal, VERSION, Verdict, version,
+    Built, Charted, Claim, LEAST_CASE, LEAST_OUTPUT, LEAST_STEPS, LEAST_WORK, LONGEST_CLAIM,
+    LONGEST_FILE, LONGEST_NAME, MOST_FLAGS, MOST_MODES, MOST_RULES, MOST_STATES, Outcome, Refusal,
+    VERSION, Verdict, version,
 };
 
 fn main() {
@@ -15,6 +16,7 @@ fn main() {
     println!("MOST_STATES {MOST_STATES}\nLONGEST_CLAIM {LONGEST_CLAIM}");
     println!("MOST_MODES {MOST_MODES}\nMOST_FLAGS {MOST_FLAGS}");
     println!("MOST_RULES {MOST_RULES}\nLONGEST_NAME {LONGEST_NAME}");
+    println!("LEAST_CASE {LEAST_CASE}\nLEAST_STEPS {LEAST_STEPS}");
     for verdict in [Verdict::Lasso, Verdict::Empty] {
         println!("verdict {} {}", verdict.number(), in_capitals(&verdict));
     }
@@ -38,6 +40,8 @@ fn print_layout() {
     print_fields! { Claim: refusal states start propositions accepting name_at name_length }
     println!("charted of {} bytes", size_of::<Charted>());
     print_fields! { Charted: refusal mode combination }
+    println!("built of {} bytes", size_of::<Built>());
+    print_fields! { Built: refusal mode combination written }
 }
 
 /// `TooLong` as `TOO_LONG`.

@@ -55,3 +55,18 @@ rezkundo_charted rezkundo_check_chart(const uint8_t *chart, size_t chart_len)
     (void)chart, (void)chart_len;
     return charted;
 }
+
+rezkundo_built rezkundo_build_case(const uint8_t *chart, size_t chart_len, const uint8_t *claim, size_t claim_len,
+                                   uint32_t workers, uint8_t *output, size_t output_len)
+{
+    rezkundo_built built = {.refusal = 99};
+    (void)chart, (void)chart_len, (void)claim, (void)claim_len, (void)workers, (void)output, (void)output_len;
+    return built;
+}
+
+rezkundo_built rezkundo_list_steps(const uint8_t *chart, size_t chart_len, const uint8_t *claim, size_t claim_len,
+                                   const uint8_t *lent, size_t lent_len, uint8_t *output, size_t output_len)
+{
+    (void)lent, (void)lent_len;
+    return rezkundo_build_case(chart, chart_len, claim, claim_len, 1, output, output_len);
+}

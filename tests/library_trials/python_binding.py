@@ -59,9 +59,9 @@ raised(TypeError, library.read_claim, 'HOA: v1')
 raised(Unknown, other.read_claim, claim)
 
 
-def bad_pair(chart):
+def bad_pair(call, *arguments):
     """The refusal of a chart, and its first bad pair."""
-    error = raised(ChartRefused, library.check_chart, chart)
+    error = raised(ChartRefused, call, *arguments)
     return error.refusal, error.mode, error.combination
 
 
@@ -69,12 +69,36 @@ def bad_pair(chart):
 front = b'version modes start flags\n1 2 1 2\nname\nHold\nclimb2\nmode care value next\n0 0 0 1\n1 1 1 0\n'
 assert library.check_chart(front + b'1 1 0 1\n') is None
 assert library.check_chart(memoryview(front + b'1 3 0 1\n1 3 2 0\n')) is None
-assert bad_pair(front + b'1 3 0 1\n') == (Refusal.CHART_GAP, 1, 2)
-assert bad_pair(front + b'1 0 0 1\n') == (Refusal.CHART_OVERLAP, 1, 1)
-assert bad_pair(front + b'1 1 0 1') == (Refusal.CHART, 0, 0)
+assert bad_pair(library.check_chart, front + b'1 3 0 1\n') == (Refusal.CHART_GAP, 1, 2)
+assert bad_pair(library.check_chart, front + b'1 0 0 1\n') == (Refusal.CHART_OVERLAP, 1, 1)
+assert bad_pair(library.check_chart, front + b'1 1 0 1') == (Refusal.CHART, 0, 0)
 assert refused(library.check_chart, b'') == (Refusal.CHART, 0, none)
 raised(TypeError, library.check_chart, front.decode())
 raised(Unknown, other.check_chart, front)
+# The chart with a claim: their case, the steps of its answer, and one refusal of each kind.
+chart = front + b'1 1 0 1\n'
+promise = (b'HOA: v1 States: 1 Start: 0 AP: 2 "p" "q" Acceptance: 1 Inf(0) --BODY-- State: 0 "on \\"w\\"" {0} [!0] 0 '
+           b'--END--')
+product = (b'version vertices edges source workers\n1 2 2 1 2\nvertex accepting owner\n0 1 0\n1 1 1\nfrom to\n0 1\n'
+           b'1 1\n')
+turning = library.run_rounds(product).answer
+assert library.build_case(chart, memoryview(promise), 2) == product
+assert library.list_steps(chart, promise, bytearray(turning)) == b'climb2 on \\"w\\"\n'
+never = promise.replace(b' {0}', b'')
+assert library.list_steps(chart, never, library.run_rounds(library.build_case(chart, never, 1)).answer) == b''
+assert refused(library.build_case, b'', b'', 17) == (Refusal.CASE_COUNT, 0, none)
+assert refused(library.build_case, chart, b'', 1) == (Refusal.NOT_A_CLAIM, 0, none)
+assert refused(library.build_case, chart, promise.replace(b'2 "p"', b'1'), 1) == (Refusal.COUNTS_DIFFER, 0, none)
+assert refused(library.list_steps, chart, promise, turning + b'\n') == (Refusal.ANSWER_LAYOUT, 0, none)
+assert refused(library.list_steps, chart, never, turning) == (Refusal.ANSWER_FALSE, 0, none)
+assert bad_pair(library.build_case, front + b'1 3 0 1\n', b'', 1) == (Refusal.CHART_GAP, 1, 2)
+assert bad_pair(library.list_steps, front + b'1 0 0 1\n', b'', b'') == (Refusal.CHART_OVERLAP, 1, 1)
+raised(OverflowError, library.build_case, chart, promise, -1)
+raised(OverflowError, library.build_case, chart, promise, 2 ** 32)
+raised(TypeError, library.build_case, chart, promise.decode(), 1)
+raised(TypeError, library.list_steps, chart, promise, 5)
+raised(Unknown, other.build_case, chart, promise, 1)
+raised(Unknown, other.list_steps, chart, promise, turning)
 # Numbers that would be cut to other acts, and what has no bytes.
 raised(OverflowError, library.run_list, case, [2 ** 32])
 raised(OverflowError, library.run_list, case, [-1])
