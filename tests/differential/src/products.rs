@@ -3,8 +3,10 @@
 //! checker and the listing.
 
 use inputs::answers::{numbered_empty, walked_lasso};
+use inputs::chart_rows;
 use inputs::charts::{text_of, with_changed_rule};
 use inputs::claim_changes::{self, changed};
+use inputs::claim_rows;
 use inputs::damage::{damaged, every_change_by, every_small_change};
 use inputs::product_rows::{READINGS, rows};
 use inputs::products::{
@@ -41,6 +43,7 @@ pub fn compare_all(comparison: &mut Comparison) -> Result<(), Mismatch> {
     for (call, _) in (1..=READINGS).flat_map(rows) {
         comparison.make(&call)?;
     }
+    compare_rows_of_parts(comparison)?;
     for (number, (chart, claim)) in every_small_product().enumerate() {
         let chart = text_of(&chart);
         compare_whole(comparison, &Parts { chart, claim }, 1 + number as u32 % 3)?;
@@ -50,6 +53,21 @@ pub fn compare_all(comparison: &mut Comparison) -> Result<(), Mismatch> {
         compare_whole(comparison, &Parts { chart, claim }, MOST_WORKERS as u32)?;
     }
     compare_small_changes(comparison)
+}
+
+/// The rows of every reading of charts and of claims, each with the other part
+/// of the example.
+fn compare_rows_of_parts(comparison: &mut Comparison) -> Result<(), Mismatch> {
+    let charts = (1..=chart_rows::READINGS).flat_map(chart_rows::rows);
+    let with_chart = charts.map(|(chart, _)| (chart, EXAMPLE_CLAIM.into()));
+    let claims = (1..=claim_rows::READINGS).flat_map(claim_rows::rows);
+    let with_claim = claims.map(|(claim, _)| (EXAMPLE_CHART.into(), claim));
+    for (chart, claim) in with_chart.chain(with_claim) {
+        let parts = Parts { chart, claim };
+        comparison.make(&parts.call(Making::Case(2)))?;
+        comparison.make(&parts.call(Making::Steps(EXAMPLE_ANSWER.into())))?;
+    }
+    Ok(())
 }
 
 /// Every small change of the example's chart, claim and answer.

@@ -538,9 +538,9 @@ fn names() -> Rows {
     ] {
         let chart = chart("1 1 0 1", mode, "0 0 0 0");
         let claim = claim_of(0, 1, &[format!("{written} {{0}} [t] 0")]);
-        for times in [1, 2, 500] {
-            let answer = lasso(&vec![0; times], &vec![0; times]);
-            let text = format!("{mode} {shown}\n").repeat(2 * times);
+        for (stem, cycle) in [(0, 1), (2, 1), (500, 500)] {
+            let answer = lasso(&vec![0; stem], &vec![0; cycle]);
+            let text = format!("{mode} {shown}\n").repeat(stem + cycle);
             rows.push((
                 list(&chart, &claim, answer.as_bytes()),
                 Ok(text.into_bytes()),

@@ -4,13 +4,16 @@
 use std::collections::BTreeSet;
 
 use inputs::answers::walked_lasso;
+use inputs::chart_rows;
 use inputs::charts::{random_cover, text_of};
 use inputs::claim_changes::changed;
+use inputs::claim_rows;
 use inputs::claims::{Drawn, random_claim_on};
 use inputs::damage::{damaged, every_small_change};
 use inputs::product_rows::{READINGS, rows};
 use inputs::products::{
-    Call, EXAMPLE_ANSWER, EXAMPLE_CASE, Making, greatest_products, many_times_round, random_product,
+    Call, EXAMPLE_ANSWER, EXAMPLE_CASE, EXAMPLE_CHART, EXAMPLE_CLAIM, Making, greatest_products,
+    many_times_round, random_product,
 };
 use inputs::readings;
 use inputs::rng::Rng;
@@ -18,6 +21,7 @@ use reference::answer::Answer;
 use reference::case::{self, Case};
 use reference::chart::{Chart, Rule};
 use reference::checker;
+use reference::claim::{self, Claim};
 use reference::entries::{Built, OUTPUT_BYTES, Reference, Tool, WORK_CELLS};
 use reference::plain;
 use reference::refusal::Refusal;
@@ -216,23 +220,76 @@ fn reached_from(chart: &Chart, drawn: &Drawn, mut reached: Pairs) -> Pairs {
 }
 
 #[test]
-fn what_is_built_is_read_back_and_written_again() {
+fn what_is_built_is_read_back_as_the_product() {
     let random = (0..ROUNDS).map(|round| random_product(&mut Rng::for_round(2, round)));
     let mut greatest = (0, 0);
     for (chart, claim) in greatest_products().into_iter().chain(random) {
-        let workers = 1 + chart.rules.len() as u32 % 16;
-        let making = Making::Case(workers);
+        let workers = 1 + chart.rules.len() % 16;
+        let making = Making::Case(workers as u32);
         let (built, text) = made(&call(&text_of(&chart), &claim, making));
         if built.refusal != 0 {
             assert!(matches!(built.refusal, 20 | 21));
             continue;
         }
         let case = case::read(&text).expect("what is built is a case");
-        assert_eq!(case.workers, workers as usize);
+        let claim = claim::read(&claim).expect("what is built has a claim");
+        assert_eq!(case, product_of(&chart, &claim, workers));
         assert_eq!(case::text_of(&case), text);
         greatest = greatest.max((case.vertices(), case.edges.len()));
     }
     assert_eq!(greatest, (480, 2_000));
+}
+
+/// The product once more: vertex by vertex, by the customer's formula and by
+/// the moves of a claim.
+fn product_of(chart: &Chart, claim: &Claim, workers: usize) -> Case {
+    let states = claim.states.len();
+    let vertices = chart.modes() * states;
+    let moves = |vertex: usize, combination: usize| {
+        let next = next_mode(chart, vertex / states, combination);
+        let moves = claim.moves((vertex % states) as u32, combination as u32);
+        (0..states)
+            .filter(move |state| moves >> state & 1 == 1)
+            .map(move |state| next * states + state)
+    };
+    let mut edges = Vec::new();
+    for from in 0..vertices {
+        let all = (0..1 << chart.flags).flat_map(|combination| moves(from, combination));
+        let entered: BTreeSet<usize> = all.collect();
+        edges.extend(entered.into_iter().map(|to| (from, to)));
+    }
+    Case {
+        source: chart.start * states + claim.start as usize,
+        workers,
+        accepting: (0..vertices)
+            .map(|vertex| claim.states[vertex % states].accepting)
+            .collect(),
+        owners: (0..vertices).map(|vertex| vertex % workers).collect(),
+        edges,
+    }
+}
+
+/// By the rows of charts and of claims: the chart's refusal and pair, else the
+/// claim's refusal.
+#[test]
+fn charts_and_claims_are_refused_as_they_are_alone() {
+    for (chart, charted) in (1..=chart_rows::READINGS).flat_map(chart_rows::rows) {
+        for claim in [EXAMPLE_CLAIM.as_bytes(), b""] {
+            let (built, _) = made(&call(&chart, claim, Making::Steps(vec![])));
+            let pair = (built.refusal, built.mode, built.combination);
+            let want = (charted.refusal, charted.mode, charted.combination);
+            assert!(
+                charted.refusal == 0 || pair == want,
+                "{pair:?} for {want:?}"
+            );
+        }
+    }
+    for (claim, refusal) in (1..=claim_rows::READINGS).flat_map(claim_rows::rows) {
+        let chart = EXAMPLE_CHART.as_bytes();
+        let (built, _) = made(&call(chart, &claim, Making::Case(1)));
+        assert!(refusal == 0 || built.refusal == refusal);
+        assert!(refusal != 0 || matches!(built.refusal, 0 | 20));
+    }
 }
 
 #[test]
