@@ -1,5 +1,5 @@
-//! Charts and claims that go together: the example of our note, some whose
-//! product has a known number of edges, the greatest, and random ones.
+//! Charts and claims that go together: an example, some whose product has a
+//! known number of edges, the greatest, every small one, and random ones.
 
 use reference::answer::Answer;
 use reference::case::MOST_EDGES;

@@ -159,14 +159,13 @@ impl Product {
         let Answer::Lasso { stem, cycle } = answer else {
             return Vec::new();
         };
+        let pairs = self.pairs();
         let edges = stem.iter().chain(cycle);
-        let left = edges.map(|&edge| case.edges[edge].0);
-        left.flat_map(|vertex| self.line(vertex)).collect()
+        let left = edges.map(|&edge| pairs[case.edges[edge].0]);
+        left.flat_map(|pair| self.line(pair)).collect()
     }
 
-    /// The line of a vertex.
-    pub fn line(&self, vertex: usize) -> Vec<u8> {
-        let (mode, state) = self.pairs()[vertex];
+    fn line(&self, (mode, state): Pair) -> Vec<u8> {
         let names = [self.chart.shown(mode), self.claim.shown(state)];
         [names.join(&b' '), b"\n".to_vec()].concat()
     }
