@@ -12,8 +12,11 @@ use crate::products::{
 /// How many readings there are.
 pub const READINGS: usize = 11;
 
-/// The text that a call writes, or its refusal with mode and combination.
-pub type Want = Result<Vec<u8>, (u32, u32, u32)>;
+/// A refusal with mode and combination.
+type Refused = (u32, u32, u32);
+
+/// The text that a call writes, or its refusal.
+pub type Want = Result<Vec<u8>, Refused>;
 
 /// Calls, each with what it leaves.
 pub type Rows = Vec<(Call, Want)>;
@@ -299,7 +302,7 @@ fn workers() -> Rows {
 }
 
 /// A chart of two flags in four ways, with what each is refused by.
-fn charts_by_refusal() -> Vec<(Vec<u8>, Option<(u32, u32, u32)>)> {
+fn charts_by_refusal() -> Vec<(Vec<u8>, Option<Refused>)> {
     let right = counted_chart(6, 2, 23);
     let mut gap = right.clone();
     gap.rules.pop();

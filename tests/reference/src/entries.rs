@@ -236,7 +236,7 @@ pub fn write_with(
     }
 }
 
-/// How many workers a case may be built for.
+/// The workers, if a case may be built for so many.
 pub fn worker_count(workers: u32) -> Result<usize, Refusal> {
     let in_range = (1..=MOST_WORKERS).contains(&(workers as usize));
     in_range
