@@ -24,7 +24,7 @@ use compare::{Comparison, Mismatch, Tally};
 use mutants::{faultless, mutants};
 
 const DEFAULT_SEED: u64 = 1;
-/// About 10 seconds.
+/// Less than 20 seconds.
 const DEFAULT_ROUNDS: u64 = 10_000;
 /// A mutant that this many rounds do not find has survived.
 const DEFAULT_MUTANT_ROUNDS: u64 = 500;
