@@ -2,7 +2,8 @@
  *
  * Buffers. Every pointer must be valid for its length, and no two buffers may overlap. A buffer of length 0 is neither
  * read nor written, so its pointer may be null: null text is a file of no bytes (2, as a claim 14), null acts a list of no
- * acts, null output or work a buffer that is too short (11), a null answer or chart a file of no bytes (12, 17).
+ * acts, null output or work a buffer that is too short (11), a null answer, chart or claim a file of no bytes
+ * (12, 17, 14).
  *
  * Calls. Each call returns, for all contents of the buffers. The library takes no memory of its own and keeps nothing
  * between calls, so calls may run side by side on different buffers; what is only read may be shared. A call takes less
@@ -44,6 +45,10 @@ uint32_t rezkundo_version(void);
 #define REZKUNDO_MOST_RULES 512
 #define REZKUNDO_LONGEST_NAME 16
 
+/* The least output in bytes to build a case file, and to list steps; they suffice for every chart, claim and answer. */
+#define REZKUNDO_LEAST_CASE 65536
+#define REZKUNDO_LEAST_STEPS 65536
+
 /* Verdicts. None stands with every refusal. */
 enum {
     REZKUNDO_NONE = 0,
@@ -71,7 +76,9 @@ enum {
     REZKUNDO_REFUSED_CLAIM_FEATURE = 16,
     REZKUNDO_REFUSED_CHART = 17,
     REZKUNDO_REFUSED_CHART_GAP = 18,
-    REZKUNDO_REFUSED_CHART_OVERLAP = 19
+    REZKUNDO_REFUSED_CHART_OVERLAP = 19,
+    REZKUNDO_REFUSED_COUNTS_DIFFER = 20,
+    REZKUNDO_REFUSED_TOO_MANY_EDGES = 21
 };
 
 /* Of a run: refusal or 0; verdict; the acts counted; the answer's length in bytes; and three tallies of its messages:
@@ -130,6 +137,24 @@ typedef struct { uint32_t refusal, mode, combination; } rezkundo_charted;
 
 /* Checks a chart of modes, laid out as docs/FORMATS.md says. */
 rezkundo_charted rezkundo_check_chart(const uint8_t *chart, size_t chart_len);
+
+/* Of a case file that is built, or of steps that are listed: refusal or 0; with 18 and 19 the chart's first bad pair, else 0
+ * and 0; the length in bytes of what was written, 0 with every refusal. */
+typedef struct { uint32_t refusal, mode, combination, written; } rezkundo_built;
+
+/* Builds the case file of a chart and a claim for so many workers, as docs/FORMATS.md says. 11 if the output has under
+ * 65,536 bytes, then 5 if the workers are not 1 to 16; then 17 to 19 for the chart, 14 to 16 for the claim, 20 if the claim
+ * has another number of propositions than the chart has flags, 21 if the case would have more than 2,000 edges. A refused
+ * call leaves the output as it was. After a result the case file stands at the output's front, the rest of it unchanged. */
+rezkundo_built rezkundo_build_case(const uint8_t *chart, size_t chart_len, const uint8_t *claim, size_t claim_len,
+                                   uint32_t workers, uint8_t *output, size_t output_len);
+
+/* Lists the steps of an answer to that case file by names: for each edge of a lasso, stem first, a line with the mode and the
+ * claim state that the edge leaves. 11, and 14 to 21, as above; then 1, 3, 12 or 13 for the answer, as the check of it to the
+ * case file gives, whatever the workers. A refused call leaves the output as it was. After a result the lines stand at the
+ * output's front, the rest of it unchanged; an "empty" that passes has none, with refusal 0 and length 0. */
+rezkundo_built rezkundo_list_steps(const uint8_t *chart, size_t chart_len, const uint8_t *claim, size_t claim_len,
+                                   const uint8_t *answer, size_t answer_len, uint8_t *output, size_t output_len);
 
 #ifdef __cplusplus
 }

@@ -1,8 +1,8 @@
 """Rezkundo's library as Python functions, over ctypes. include/rezkundo.h has the contract of each entry.
 
 A run or a check gives a verdict or raises an error; a claim that is not taken and a chart that is not right raise one as
-well. Numbers that this binding does not know raise one too, so nothing is ever taken for "empty", or for right, that is
-not."""
+well, and so do a case that cannot be built and steps that cannot be listed. Numbers that this binding does not know raise
+one too, so nothing is ever taken for "empty", or for right, that is not."""
 import array
 import ctypes
 import enum
@@ -23,6 +23,9 @@ MOST_MODES = 32
 MOST_FLAGS = 8
 MOST_RULES = 512
 LONGEST_NAME = 16
+# The least output in bytes to build a case file, and to list steps; they suffice for every chart, claim and answer.
+LEAST_CASE = 65536
+LEAST_STEPS = 65536
 
 
 class Verdict(enum.IntEnum):
@@ -52,6 +55,8 @@ class Refusal(enum.IntEnum):
     CHART = 17
     CHART_GAP = 18
     CHART_OVERLAP = 19
+    COUNTS_DIFFER = 20
+    TOO_MANY_EDGES = 21
 
 
 class Tallies(NamedTuple):
@@ -127,6 +132,18 @@ class _Charted(ctypes.Structure):
     _fields_ = [(name, ctypes.c_uint32) for name in ('refusal', 'mode', 'combination')]
 
 
+class _Built(ctypes.Structure):
+    _fields_ = [(name, ctypes.c_uint32) for name in ('refusal', 'mode', 'combination', 'written')]
+
+
+# What only a chart gets, and what a case to be built and steps to be listed get besides.
+_OF_CHARTS = {Refusal.CHART, Refusal.CHART_GAP, Refusal.CHART_OVERLAP}
+_OF_BOTH = {Refusal.BUFFER_TOO_SHORT, Refusal.NOT_A_CLAIM, Refusal.CLAIM, Refusal.CLAIM_FEATURE, Refusal.COUNTS_DIFFER,
+            Refusal.TOO_MANY_EDGES}
+_OF_CASES = _OF_BOTH | {Refusal.CASE_COUNT}
+_OF_STEPS = _OF_BOTH | {Refusal.TOO_LONG, Refusal.OTHER_VERSION, Refusal.ANSWER_LAYOUT, Refusal.ANSWER_FALSE}
+
+
 class Library:
     """librezkundo.so, loaded from a path, else from the one in REZKUNDO_SO, else by the system's search."""
 
@@ -140,6 +157,8 @@ class Library:
         self._declare('rezkundo_read_claim', _Claim, slices)
         self._declare('rezkundo_claim_moves', ctypes.c_uint32, slices + [ctypes.c_uint32] * 2)
         self._declare('rezkundo_check_chart', _Charted, slices)
+        self._declare('rezkundo_build_case', _Built, slices * 2 + [ctypes.c_uint32] + slices)
+        self._declare('rezkundo_list_steps', _Built, slices * 4)
 
     def _declare(self, name, result, parameters):
         entry = getattr(self._library, name)
@@ -185,13 +204,22 @@ class Library:
     def check_chart(self, chart):
         """Checks a chart of modes: returns if it is right, else raises ChartRefused."""
         chart = _bytes(chart)
-        charted = self._library.rezkundo_check_chart(chart, len(chart))
-        refusal, mode, combination = charted.refusal, charted.mode, charted.combination
-        has_pair = refusal in (Refusal.CHART_GAP, Refusal.CHART_OVERLAP)
-        if not has_pair and (refusal not in (0, Refusal.CHART) or mode or combination):
-            raise Unknown(f'the library returned refusal {refusal}, mode {mode}, combination {combination}')
-        if refusal:
-            raise ChartRefused(Refusal(refusal), mode, combination)
+        _right(self._library.rezkundo_check_chart(chart, len(chart)), set())
+
+    def build_case(self, chart, claim, workers):
+        """Builds the case file of a chart and a claim, for so many workers."""
+        chart, claim = _bytes(chart), _bytes(claim)
+        # As for acts: a number that 32 bits do not hold is an error.
+        [workers] = array.array('I', [workers])
+        lent = chart, len(chart), claim, len(claim), workers
+        return _built(self._library.rezkundo_build_case, lent, LEAST_CASE, _OF_CASES)
+
+    def list_steps(self, chart, claim, answer):
+        """Lists the steps of an answer to the case of a chart and a claim, by names: a line for each edge of a lasso, and no
+        byte for an "empty"."""
+        chart, claim, answer = _bytes(chart), _bytes(claim), _bytes(answer)
+        lent = chart, len(chart), claim, len(claim), answer, len(answer)
+        return _built(self._library.rezkundo_list_steps, lent, LEAST_STEPS, _OF_STEPS)
 
 
 def _state(text, accepting, at, length):
@@ -213,6 +241,28 @@ def _run(entry, text, *acts):
     return Finding(verdict, ran.acts, bytes(output[:ran.written]), _tallies(ran))
 
 
+def _built(entry, lent, room, known):
+    output = (ctypes.c_uint8 * room)()
+    built = entry(*lent, output, room)
+    if built.written > (0 if built.refusal else room):
+        raise Unknown(_numbers(built))
+    _right(built, known)
+    return bytes(output[:built.written])
+
+
+def _right(said, known):
+    """Returns where nothing was refused, else raises the error that the numbers mean: of a chart, or one of those known. Only a
+    gap and an overlap have a pair."""
+    refusal, pair = said.refusal, (said.mode, said.combination)
+    has_pair = refusal in (Refusal.CHART_GAP, Refusal.CHART_OVERLAP)
+    if refusal not in {0} | _OF_CHARTS | known or (any(pair) and not has_pair):
+        raise Unknown(_numbers(said))
+    if refusal in _OF_CHARTS:
+        raise ChartRefused(Refusal(refusal), *pair)
+    if refusal:
+        raise Refused(Refusal(refusal), 0, Tallies(0, 0, 0))
+
+
 def _tallies(ran):
     return Tallies(ran.sent, ran.delivered, ran.joined)
 
@@ -226,5 +276,8 @@ def _verdict(ran):
     known = ran.refusal == Refusal.UNENDED or (ran.refusal in set(Refusal) and not counts)
     if known and ran.verdict == 0 and ran.written == 0:
         raise Refused(Refusal(ran.refusal), ran.acts, _tallies(ran))
-    numbers = ', '.join(f'{name} {getattr(ran, name)}' for name, _ in _Outcome._fields_)
-    raise Unknown(f'the library returned {numbers}')
+    raise Unknown(_numbers(ran))
+
+
+def _numbers(said):
+    return 'the library returned ' + ', '.join(f'{name} {getattr(said, name)}' for name, _ in said._fields_)
