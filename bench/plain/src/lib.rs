@@ -1,8 +1,13 @@
 //! Plain Rust versions of what the library does, written for speed, to be
 //! measured beside it.
 
+pub mod answers;
 pub mod charts;
 pub mod claims;
+mod cursor;
 pub mod nested;
+mod next_modes;
+pub mod product;
 pub mod reader;
 pub mod rounds;
+mod writer;

@@ -3,20 +3,20 @@
 pub const MOST_VERTICES: usize = 500;
 pub const MOST_EDGES: usize = 2_000;
 pub const MOST_WORKERS: usize = 16;
-const LONGEST_FILE: usize = 65_536;
+pub(crate) const LONGEST_FILE: usize = 65_536;
 const MOST_DIGITS: usize = 9;
 
-const COUNT_NAMES: &[u8] = b"version vertices edges source workers\n";
-const VERTEX_NAMES: &[u8] = b"vertex accepting owner\n";
-const EDGE_NAMES: &[u8] = b"from to\n";
-const VERSION_WORD: &[u8] = b"version ";
+pub(crate) const COUNT_NAMES: &[u8] = b"version vertices edges source workers\n";
+pub(crate) const VERTEX_NAMES: &[u8] = b"vertex accepting owner\n";
+pub(crate) const EDGE_NAMES: &[u8] = b"from to\n";
+pub(crate) const VERSION_WORD: &[u8] = b"version ";
 
 /// Numbers of the refusals.
-const TOO_LONG: u32 = 1;
+pub(crate) const TOO_LONG: u32 = 1;
 const NO_VERSION_WORD: u32 = 2;
-const OTHER_VERSION: u32 = 3;
+pub(crate) const OTHER_VERSION: u32 = 3;
 const LAYOUT: u32 = 4;
-const COUNT: u32 = 5;
+pub(crate) const COUNT: u32 = 5;
 const VERTEX_LINE: u32 = 6;
 const EDGE_END: u32 = 7;
 const EDGE_ORDER: u32 = 8;
@@ -118,7 +118,7 @@ pub fn read(text: &[u8]) -> Result<Case, u32> {
 }
 
 /// Whether line 2's first field is a number other than 1.
-fn has_other_version(text: &[u8]) -> bool {
+pub(crate) fn has_other_version(text: &[u8]) -> bool {
     let Some(first_end) = text.iter().position(|&byte| byte == b'\n') else {
         return false;
     };

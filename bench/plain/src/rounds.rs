@@ -5,6 +5,7 @@
 //! cell is empty when the next round begins.
 
 use crate::reader::{Case, read};
+use crate::writer::Writer;
 
 /// Marks a vertex without a distance and a cell without a message; above
 /// every true distance.
@@ -288,33 +289,5 @@ impl<'a> Run<'a> {
             }
             writer.number(distance.unsigned_abs(), b'\n');
         }
-    }
-}
-
-struct Writer<'a> {
-    output: &'a mut [u8],
-    length: usize,
-}
-
-impl Writer<'_> {
-    fn word(&mut self, word: &[u8]) {
-        self.output[self.length..][..word.len()].copy_from_slice(word);
-        self.length += word.len();
-    }
-
-    /// A number and the byte that ends it.
-    fn number(&mut self, mut number: u32, end: u8) {
-        let mut digits = [0; 10];
-        let mut first = digits.len();
-        loop {
-            first -= 1;
-            digits[first] = b'0' + (number % 10) as u8;
-            number /= 10;
-            if number == 0 {
-                break;
-            }
-        }
-        self.word(&digits[first..]);
-        self.word(&[end]);
     }
 }
