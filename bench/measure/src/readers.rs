@@ -1,4 +1,5 @@
-//! The table for a reader: the library's beside one in plain Rust.
+//! The table for a reader: the library's beside one in plain Rust. It does for
+//! what is built or listed, too.
 
 /// A text with a name for the table.
 pub struct Text {
@@ -16,16 +17,21 @@ pub struct Measured {
 
 /// Measures one text after the other and prints a row for each.
 pub fn print(kind: &str, texts: &[Text], measured: impl Fn(&[u8]) -> Measured) {
-    println!(
-        "{kind:<34}{:>7}{:>9}{:>12}{:>11}{:>10}",
-        "bytes", "refusal", "library/us", "plain/us", "l/plain"
-    );
+    print_heading(kind, "bytes");
     for text in texts {
-        println!("{}", row(text, &measured(&text.text)));
+        print_row(text.name, text.text.len(), &measured(&text.text));
     }
 }
 
-fn row(text: &Text, measured: &Measured) -> String {
+/// What the rows are about, and which bytes they count.
+pub fn print_heading(kind: &str, bytes: &str) {
+    println!(
+        "{kind:<34}{bytes:>7}{:>9}{:>12}{:>11}{:>10}",
+        "refusal", "library/us", "plain/us", "l/plain"
+    );
+}
+
+pub fn print_row(name: &str, bytes: usize, measured: &Measured) {
     let Measured {
         refusal,
         library,
@@ -33,9 +39,5 @@ fn row(text: &Text, measured: &Measured) -> String {
     } = measured;
     let ratio = library.map_or("-".to_owned(), |library| format!("{:.2}", library / plain));
     let library = library.map_or("-".to_owned(), |library| format!("{library:.1}"));
-    let bytes = text.text.len();
-    format!(
-        "{:<34}{bytes:>7}{refusal:>9}{library:>12}{plain:>11.1}{ratio:>10}",
-        text.name
-    )
+    println!("{name:<34}{bytes:>7}{refusal:>9}{library:>12}{plain:>11.1}{ratio:>10}");
 }
