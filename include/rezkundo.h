@@ -22,8 +22,8 @@
 extern "C" {
 #endif
 
-/* The version that this header goes with, 1.4.0: major x 10,000 + minor x 100 + patch. */
-#define REZKUNDO_VERSION 10400
+/* The version that this header goes with, 1.5.0: major x 10,000 + minor x 100 + patch. */
+#define REZKUNDO_VERSION 10500
 
 /* The version of the linked library. If it is not REZKUNDO_VERSION, header and library do not belong together. */
 uint32_t rezkundo_version(void);
