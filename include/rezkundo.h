@@ -7,7 +7,8 @@
  *
  * Calls. Each call returns, for all contents of the buffers. The library takes no memory of its own and keeps nothing
  * between calls, so calls may run side by side on different buffers; what is only read may be shared. A call takes less
- * than REZKUNDO_STACK bytes of the caller's stack.
+ * than REZKUNDO_STACK bytes of the caller's stack, but to build a case REZKUNDO_STACK_CASE, and to list steps
+ * REZKUNDO_STACK_STEPS.
  *
  * Linking. The archive has one object, for x86-64 Linux by the System V calling convention. It is position independent,
  * and of all other code it needs only memset.
@@ -45,9 +46,12 @@ uint32_t rezkundo_version(void);
 #define REZKUNDO_MOST_RULES 512
 #define REZKUNDO_LONGEST_NAME 16
 
-/* The least output in bytes to build a case file, and to list steps; they suffice for every chart, claim and answer. */
+/* The least output in bytes to build a case file, and to list steps, which suffice for every chart, claim and answer; and
+ * the stack of each. */
 #define REZKUNDO_LEAST_CASE 65536
 #define REZKUNDO_LEAST_STEPS 65536
+#define REZKUNDO_STACK_CASE 65536
+#define REZKUNDO_STACK_STEPS 131072
 
 /* Verdicts. None stands with every refusal. */
 enum {

@@ -27,22 +27,17 @@ use Rattle.model.specs.Product.{product-graph, product-case, graph-in, b
 use Rattle.model.specs.Steps.{shown, step-row, step-rows, walk-in, steps-text, steps-refusal}
 use Rattle.model.specs.ProductPromise.{Steps-check, Steps-fit}
 use Rattle.model.proofs.Walks.{walk-append, lasso-parts}
-use Rattle.model.proofs.Accepting.{first-zero, refuse-zero, refuse-not}
+use Rattle.model.proofs.Accepting.{first-zero, first-one, refuse-zero, refuse-not}
 use Rattle.model.proofs.Fits.{text-length}
 use Rattle.model.proofs.Products.{right, unrefused}
 
 -- AS THE CHECKER DOES: an accepted case leaves the answer's refusal
-one-left : (k : ℕ) → first-of (0 ∷ k ∷ []) ≡ k
-unfolding first-of
-one-left zero = refl
-one-left (suc k) = rw (ne-eqb (suc k) 0 (λ e. omega arith)) refl
-
 pub steps-check : Steps-check
-unfolding Steps-check check-refusal accepted product-case
+unfolding Steps-check check-refusal accepted product-case first-of
 steps-check bs cs ts p e s l =
     let u = unrefused bs cs e in
     let x = right (chart-in bs) (claim-in cs) p (u .chart) (u .claim) s l (u .edges) in
-    rw (eqb-true (case-refusal (case-file (built-case bs cs p))) 0 (x .accepted), x .back) (one-left (answer-refusal (graph-in bs cs) ts))
+    rw (eqb-true (case-refusal (case-file (built-case bs cs p))) 0 (x .accepted), x .back) (first-one (answer-refusal (graph-in bs cs) ts))
 
 -- HOW LONG: a name of the chart or of the claim, or a number
 shown-short : (k : Claim) → Claim-sound k → (c : ℕ) (o : Option (List ℕ)) → state k c .name ≡ o → length (shown o c) ≤ longest-title

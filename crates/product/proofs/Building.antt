@@ -22,7 +22,8 @@ use Rattle.model.specs.Product.{graph-in, built-case, product-refusal, least-ca
 use Rattle.model.specs.BuiltEntry.{names-pair, Built-says, Build-says}
 use Rattle.model.specs.declared.Built.{Built}
 use Rattle.model.specs.declared.Charted.{Charted}
-use Rattle.model.proofs.Accepting.{first-last}
+use Rattle.model.proofs.Accepting.{first-one}
+use Rattle.casefile.proofs.Refusals.{first-append, first-decides}
 use Rattle.model.proofs.Products.{unrefused, right}
 use Rattle.model.proofs.BuiltKept.{accepted-short}
 use Rattle.product.specs.Both.{refused-by, texts-refusal, Both-held, Both-refused}
@@ -32,10 +33,6 @@ use Rattle.product.specs.declared.build.Sizes.{Sizes}
 use Rattle.product.specs.declared.build.Product.{Product}
 use Rattle.product.specs.declared.build.Product.the-variants.{Written, TooMany}
 use Rattle.product.proofs.BothRead.{plain-says}
-
-pub alone : (k : ℕ) → first-of (k ∷ []) ≡ k
-unfolding first-of
-alone k = first-last [] k
 
 -- A RESULT: a text put at the front
 pub puts-says : (t : List ℕ) {n : ℕ} {o z : List ℕ} → Puts 0 t n o z → length t ≤ length o → (n ≡ length t) × (z ≡ in-front t o)
@@ -47,22 +44,22 @@ unfolding names-pair
 done-says c t p h = let f = puts-says t p h in record { refusal = refl; mode = refl; combination = refl; written = f .0; output = f .1 }
 
 -- CHART AND CLAIM: 21 comes after all their other refusals
-product-last : (bs cs : List ℕ) → product-refusal bs cs ≡ cond (eqb (texts-refusal bs cs) 0) (refuse (ltb most-edges (length (graph-in bs cs .edges))) 21) (texts-refusal bs cs)
+product-last : (bs cs : List ℕ) → product-refusal bs cs ≡ first-of (texts-refusal bs cs ∷ refuse (ltb most-edges (length (graph-in bs cs .edges))) 21 ∷ [])
 unfolding product-refusal texts-refusal
-product-last bs cs = first-last (chart-says bs .refusal ∷ claim-refusal cs ∷ refuse (not (eqb (claim-in cs .propositions) (chart-in bs .flags))) 20 ∷ []) (refuse (ltb most-edges (length (graph-in bs cs .edges))) 21)
+product-last bs cs = first-append (chart-says bs .refusal ∷ claim-refusal cs ∷ refuse (not (eqb (claim-in cs .propositions) (chart-in bs .flags))) 20 ∷ []) (refuse (ltb most-edges (length (graph-in bs cs .edges))) 21 ∷ [])
 
 module _ (bs cs : List ℕ) where
   pub product-refused : (texts-refusal bs cs ≡ 0 → ⊥) → product-refusal bs cs ≡ texts-refusal bs cs
-  product-refused n = product-last bs cs ∙ rw (ne-eqb (texts-refusal bs cs) 0 n) refl
+  product-refused n = product-last bs cs ∙ first-decides (texts-refusal bs cs) _ n
 
   module _ (e : texts-refusal bs cs ≡ 0) where
     pub product-many : most-edges < length (graph-in bs cs .edges) → product-refusal bs cs ≡ 21
-    unfolding refuse
-    product-many l = product-last bs cs ∙ rw (eq-eqb (texts-refusal bs cs) 0 e, lt-ltb most-edges (length (graph-in bs cs .edges)) l) refl
+    unfolding first-of refuse
+    product-many l = product-last bs cs ∙ rw (e, lt-ltb most-edges (length (graph-in bs cs .edges)) l) refl
 
     pub product-passes : length (graph-in bs cs .edges) ≤ most-edges → product-refusal bs cs ≡ 0
-    unfolding refuse
-    product-passes l = product-last bs cs ∙ rw (eq-eqb (texts-refusal bs cs) 0 e, le-ltb most-edges (length (graph-in bs cs .edges)) l) refl
+    unfolding first-of refuse
+    product-passes l = product-last bs cs ∙ rw (e, le-ltb most-edges (length (graph-in bs cs .edges)) l) refl
 
 -- its case file fits
 pub case-short : (bs cs : List ℕ) (p : ℕ) → product-refusal bs cs ≡ 0 → 1 ≤ p → p ≤ most-workers → length (case-file (built-case bs cs p)) ≤ longest-file
@@ -101,7 +98,7 @@ module _ (bs cs : List ℕ) (p : ℕ) (o : List ℕ) where
     module _ (right : workers-right p ≡ true) where
       build-is : build-refusal bs cs p (length o) ≡ product-refusal bs cs
       unfolding build-refusal first-of refuse workers-right
-      build-is = rw (le-ltb (length o) least-case-output room, right) (first-last [] (product-refusal bs cs))
+      build-is = rw (le-ltb (length o) least-case-output room, right) (first-one (product-refusal bs cs))
 
       pub build-refused : {b : Built} → Both-refused bs cs b → Build-says bs cs p b o o
       unfolding Build-says

@@ -30,7 +30,8 @@ use Rattle.model.specs.ProductPromise.{Steps-check, Steps-fit}
 use Rattle.model.specs.declared.Built.{Built}
 use Rattle.model.specs.declared.Checked.{Checked}
 use Rattle.model.proofs.Pairs.{pair-below}
-use Rattle.model.proofs.Accepting.{first-zero, first-last}
+use Rattle.model.proofs.Accepting.{first-zero, first-one}
+use Rattle.casefile.proofs.Refusals.{first-decides}
 use Rattle.model.proofs.Refusals.{answer-numbers}
 use Rattle.model.proofs.Charts.{passed-right}
 use Rattle.model.proofs.Products.{Unrefused, unrefused, right}
@@ -47,7 +48,7 @@ use Rattle.product.specs.declared.build.Product.{Product}
 use Rattle.product.specs.declared.build.Product.the-variants.{Written, TooMany}
 use Rattle.product.proofs.BothRead.{plain-says}
 use Rattle.product.proofs.Listing.{edges-single, rows-listed}
-use Rattle.product.proofs.Building.{alone, puts-says, done-says, product-refused, product-many, product-passes, case-short}
+use Rattle.product.proofs.Building.{puts-says, done-says, product-refused, product-many, product-passes, case-short}
 
 module _ (bs cs ts o : List ℕ) where
   pub steps-small : length o < least-steps-output → Steps-say bs cs ts (refused-by 11) o o
@@ -55,23 +56,23 @@ module _ (bs cs ts o : List ℕ) where
   steps-small l = rw (lt-ltb (length o) least-steps-output l) (plain-says 11 (λ z. omega arith) (λ z. omega arith) (λ z. omega arith) _ _ o)
 
   module _ (room : least-steps-output ≤ length o) where
-    steps-is : steps-refusal bs cs ts (length o) ≡ cond (eqb (product-refusal bs cs) 0) (answer-refusal (graph-in bs cs) ts) (product-refusal bs cs)
+    steps-is : steps-refusal bs cs ts (length o) ≡ first-of (product-refusal bs cs ∷ answer-refusal (graph-in bs cs) ts ∷ [])
     unfolding steps-refusal first-of refuse
-    steps-is = rw (le-ltb (length o) least-steps-output room) (first-last (product-refusal bs cs ∷ []) (answer-refusal (graph-in bs cs) ts) ∙ rw (alone (product-refusal bs cs)) refl)
+    steps-is = rw (le-ltb (length o) least-steps-output room) refl
 
     pub steps-refused : {b : Built} → Both-refused bs cs b → Steps-say bs cs ts b o o
     unfolding Steps-say
     steps-refused r =
         let e = product-refused bs cs (r .fails) in
-        rw (steps-is, e, ne-eqb (texts-refusal bs cs) 0 (r .fails)) (r .says _ o)
+        rw (steps-is ∙ first-decides (product-refusal bs cs) _ (λ z. r .fails (sym e ∙ z)) ∙ e) (r .says _ o)
 
     pub steps-many : texts-refusal bs cs ≡ 0 → most-edges < length (graph-in bs cs .edges) → Steps-say bs cs ts (refused-by 21) o o
     unfolding Steps-say
-    steps-many e l = rw (steps-is, product-many bs cs e l) (plain-says 21 (λ z. omega arith) (λ z. omega arith) (λ z. omega arith) _ _ o)
+    steps-many e l = rw (steps-is ∙ first-decides (product-refusal bs cs) _ (λ z. omega (arith, product-many bs cs e l)) ∙ product-many bs cs e l) (plain-says 21 (λ z. omega arith) (λ z. omega arith) (λ z. omega arith) _ _ o)
 
     module _ (passes : product-refusal bs cs ≡ 0) where
       by-answer : steps-refusal bs cs ts (length o) ≡ answer-refusal (graph-in bs cs) ts
-      by-answer = steps-is ∙ rw (eq-eqb (product-refusal bs cs) 0 passes) refl
+      by-answer = steps-is ∙ (unfold first-of in (rw passes (first-one (answer-refusal (graph-in bs cs) ts))))
 
       pub answer-refused : {k : ℕ} → k ≡ answer-refusal (graph-in bs cs) ts → (k ≡ 0 → ⊥) → Steps-say bs cs ts (refused-by k) o o
       unfolding Steps-say
