@@ -3,10 +3,10 @@
 use mathlib.Core.Path.{_≡_, refl, sym, ap, _∙_}
 use mathlib.Core.Bool.{Bool, true, false, _||_, cond, or-false, or-assoc}
 use mathlib.Core.List.{List, [], _∷_, _++_, append-nil, append-assoc}
-use Prim.Native.Nat.{ℕ, zero, suc, _+_, _<_}
+use Prim.Native.Nat.{ℕ, zero, suc, _+_, _<_, _≤_}
 use native.Mathlib.Omega.{arith}
 use lib.Bits.{bitOr}
-use lib.ListN.{length, getD, set, replicate, length-set}
+use lib.ListN.{length, getD, set, replicate, length-set, length-append}
 use lib.Seq.{getD-set-same, getD-set-other}
 use borrow.Author.Tests.{eq-eqb, ne-eqb}
 use Rattle.text.proofs.Tests.{Same, same?, same, other}
@@ -92,6 +92,12 @@ from-snoc zero s a = let e : s + 0 ≡ s = omega arith in rw (e, append-nil (edg
 from-snoc (suc k) s a =
     let e : s + suc k ≡ suc s + k = omega arith in
     rw (e, from-snoc k (suc s) a) (sym (append-assoc (edges-to (a .states) 0 a s) (edges-from k (suc s) a) (edges-to (a .states) 0 a (suc s + k))))
+
+pub from-grows : (j k s : ℕ) (a : Automaton) → length (edges-from k s a) ≤ length (edges-from (k + j) s a)
+from-grows zero k s a = let e : k + 0 ≡ k = omega arith in rw e (omega arith)
+from-grows (suc j) k s a =
+    let e : k + suc j ≡ suc (k + j) = omega arith in
+    rw e (omega (arith, from-grows j k s a, ap length (from-snoc (k + j) s a), length-append (edges-from (k + j) s a) (edges-to (a .states) 0 a (s + (k + j)))))
 
 -- some states more
 pub to-append : (k j t : ℕ) (a : Automaton) (s : ℕ) → edges-to (k + j) t a s ≡ edges-to k t a s ++ edges-to j (t + k) a s

@@ -8,7 +8,7 @@ use native.Mathlib.Omega.{arith}
 use lib.Dec.{leb}
 use lib.Seq.{take-add}
 use lib.ListN.{length, take, drop, length-append}
-use borrow.Author.Tests.{ltb-false, leb-true, eqb-true, ne-eqb}
+use borrow.Author.Tests.{ltb-false, leb-true, eqb-true}
 use Rattle.text.specs.Ascii.{space}
 use Rattle.text.specs.Lines.{Line, lines, line-at, joined, text}
 use Rattle.text.specs.Numbers.{number-at}

@@ -11,6 +11,7 @@ use lib.ListN.{length, getD, set, take, replicate, length-set, length-append, le
 use lib.Seq.{take-suc-set, length-take-le}
 use borrow.Author.Tests.{eq-eqb, ne-eqb}
 use Rattle.model.specs.Graph.{Edge}
+use Rattle.model.specs.Case.{most-edges}
 use Rattle.model.specs.Chart.{Chart, most-modes, next-mode}
 use Rattle.model.specs.ClaimLabels.{bit}
 use Rattle.model.specs.ClaimGrammar.{most-states}
@@ -20,7 +21,7 @@ use Rattle.model.proofs.Bits.{bit-zero, bit-test}
 use Rattle.model.proofs.Pairs.{next-base, Pair, pair}
 use Rattle.claim.specs.Cells.{moves-from}
 use Rattle.chart.specs.Pairs.{one-rule}
-use Rattle.model.proofs.Masks.{Row, row-start, row-step, row-end, edge-if, to-snoc, from-snoc, to-append}
+use Rattle.model.proofs.Masks.{Row, row-start, row-step, row-end, edge-if, to-snoc, from-snoc, from-grows, to-append}
 use Rattle.product.specs.Tables.{ends-of}
 use Rattle.product.specs.Edges.{both-of, most-both, Goes, Leads, Given, Asks, Listed, Adds, Mask-adds, Holds, Row-adds, Row-asks, Row-filled, Vertex-adds, Edges-found}
 
@@ -156,7 +157,7 @@ row-next {row} {v} {modes} {states} {r} {w} {n} {m} {l} d h long small p x y = r
 pub row-last : {row : List ℕ} {v modes states r w n m : ℕ} {fs gs ts us : List ℕ} → Row-read row v modes states r w n m fs gs ts us → modes ≤ r → Row-adds row v modes states n m fs gs ts us
 row-last {row} {v} {modes} {states} {r} {w} d h =
     let e : r ≡ modes = omega (arith, d .within) in
-    record { few = omega (arith, d .few); edges = λ a b. adds-as (ap (λ (x : ℕ). edges-to x 0 a v) (d .place ∙ rw e refl)) (d .edges a b) }
+    record { edges = λ a b. adds-as (ap (λ (x : ℕ). edges-to x 0 a v) (d .place ∙ rw e refl)) (d .edges a b) }
 
 -- FILLING A ROW: f combinations are done
 pub record Filling (at from count f : ℕ) (follow cells row : List ℕ) : Type 0 where
@@ -227,7 +228,6 @@ pub vertex-adds : {v modes states count n r : ℕ} {follow cells row fs gs ts us
 vertex-adds {v} {modes} {states} {count} {n} {r} {follow} {cells} {row} p h w a =
     let d = pair modes states v h in
     record {
-      few = omega (arith, a .few, p .few-modes);
       edges = λ c k g.
           let x = w .holds c k (v / states) (v % states) (rw (← g .of-states) (d .second)) (g .of-flags) (λ f b. g .next (v / states) f (d .first) b) (λ f b. g .goes (v % states) f (d .second) b) in
           let y : Holds (both-of c k) v states row = rw (← g .of-states, d .whole) at x in
@@ -237,7 +237,6 @@ vertex-adds {v} {modes} {states} {count} {n} {r} {follow} {cells} {row} p h w a 
 -- ALL OF THEM: those that leave the vertices below v
 pub record Vertices-done (modes states count v n : ℕ) (follow cells fs gs ts us : List ℕ) : Type 0 where
   pub within : v ≤ modes * states
-  pub few : n ≤ most-both * v
   pub kept-froms : length gs ≡ length fs
   pub kept-tos : length us ≡ length ts
   pub edges : (h : Chart) (k : Claim) → Given h k modes states count follow cells → Listed (edges-from v 0 (both-of h k)) n gs us
@@ -246,7 +245,6 @@ pub vertices-first : (modes states count : ℕ) (follow cells fs ts : List ℕ) 
 unfolding edges-from ends-of
 vertices-first modes states count follow cells fs ts = record {
   within = omega arith;
-  few = omega arith;
   kept-froms = refl;
   kept-tos = refl;
   edges = λ h k g. record { count = refl; ends = λ a b. refl };
@@ -261,7 +259,6 @@ pub vertices-next : {modes states count v n r : ℕ} {follow cells fs gs ks ts u
     → Vertices-done modes states count (v + 1) r follow cells fs ks ts ls
 vertices-next {modes} {states} {count} {v} {n} {r} {follow} {cells} {fs} {gs} {ks} {ts} {us} {ls} d h p x y = record {
   within = omega arith;
-  few = omega (arith, d .few, p .few);
   kept-froms = x ∙ d .kept-froms;
   kept-tos = y ∙ d .kept-tos;
   edges = λ c k g.
@@ -273,8 +270,21 @@ vertices-next {modes} {states} {count} {v} {n} {r} {follow} {cells} {fs} {gs} {k
 pub vertices-last : {modes states count v n : ℕ} {follow cells fs gs ts us : List ℕ} → Vertices-done modes states count v n follow cells fs gs ts us → modes * states ≤ v
     → Edges-found modes states count follow cells n gs us
 unfolding graph-of
-vertices-last {modes} {states} {v = v} d h = record {
-  edges = λ c k g.
-      let e : v ≡ both-of c k .states = let m : v ≡ modes * states = omega (arith, d .within) in m ∙ states-are g in
-      rw e at (d .edges c k g);
+vertices-last {modes} {states} {count} {v} {n} {follow} {cells} {gs = gs} {us = us} d h = record { edges = λ c k g l. all c k g; many = λ c k g l. omega (arith, all c k g .count) }
+  where
+    all : (c : Chart) (k : Claim) → Given c k modes states count follow cells → Listed (edges-from (both-of c k .states) 0 (both-of c k)) n gs us
+    all c k g =
+        let e : v ≡ both-of c k .states = let m : v ≡ modes * states = omega (arith, d .within) in m ∙ states-are g in
+        rw e at (d .edges c k g)
+
+-- or there are too many already
+pub vertices-many : {modes states count v n : ℕ} {follow cells fs gs ts us : List ℕ} → Vertices-done modes states count v n follow cells fs gs ts us → most-edges < n
+    → Edges-found modes states count follow cells n gs us
+unfolding graph-of
+vertices-many {modes} {states} {v = v} d h = record {
+  edges = λ c k g l. absurd (omega arith);
+  many = λ c k g l.
+      let a = both-of c k in
+      let e : v + (a .states - v) ≡ a .states = omega (arith, d .within, states-are g) in
+      omega (arith, d .edges c k g .count, ap (λ (m : ℕ). length (edges-from m 0 a)) e, from-grows (a .states - v) v 0 a);
 }

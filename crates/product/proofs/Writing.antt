@@ -134,14 +134,14 @@ module _ {z : Sizes} {workers m : ℕ} {follow cells fs ts froms tos : List ℕ}
       }
 
   pub product-refused : (o : List ℕ) → most-edges < m → Product-says z workers follow cells TooMany froms tos o o
-  product-refused o l = record { says = λ h k g. (rw (found .edges h k (g .given) .count) at l, refl) }
+  product-refused o l = record { says = λ h k g. (found .many h k (g .given) l, refl) }
 
   pub product-written : {n : ℕ} {o o′ : List ℕ} → m ≤ most-edges
       → Puts 0 (case-file (case-by (z .modes * z .states) (z .states) (z .source) workers cells (take m froms) (take m tos))) n o o′
       → Product-says z workers follow cells (Written n) froms tos o o′
   product-written l w = record {
     says = λ h k g.
-        let f = found .edges h k (g .given) in
+        let f = found .edges h k (g .given) l in
         let ends = f .ends (omega (arith, a .froms-long)) (omega (arith, a .tos-long)) in
         let c = product-is h k z workers (take m froms) (take m tos) g (a .tables .some-states) ends in
         record { few = rw (f .count) at l; file = puts-as (ap case-file c) w; ends = rw (f .count) at ends };

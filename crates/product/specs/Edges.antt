@@ -5,6 +5,7 @@ use mathlib.Core.List.{List, _++_}
 use Prim.Native.Nat.{ℕ, _+_, _*_, _≤_, _<_}
 use lib.ListN.{length, getD, take, replicate}
 use Rattle.model.specs.Graph.{Edge}
+use Rattle.model.specs.Case.{most-edges}
 use Rattle.model.specs.ClaimLabels.{bit}
 use Rattle.model.specs.ClaimGrammar.{most-states}
 use Rattle.model.specs.Claim.{Claim, claim-moves}
@@ -18,7 +19,7 @@ use Rattle.product.specs.Tables.{ends-of}
 abbrev pub both-of : Chart → Claim → Automaton
 both-of h k = product (chart-automaton h) (claim-automaton k)
 
--- a product has at most so many vertices, and so many edges leave one of them
+-- a product has at most so many vertices
 abbrev pub most-both : ℕ
 most-both = most-modes * most-states
 
@@ -68,7 +69,6 @@ pub record Holds (a : Automaton) (v states : ℕ) (row : List ℕ) : Type 0 wher
   pub bits : (r t : ℕ) → r < length row → t < states → bit (getD row r 0) t ≡ has-edge a v (r * states + t)
 
 pub record Row-adds (row : List ℕ) (v modes states n r : ℕ) (fs gs ts us : List ℕ) : Type 0 where
-  pub few : r ≤ n + most-states * modes
   pub edges : (a : Automaton) → Holds a v states row → Adds (edges-to (modes * states) 0 a v) n r fs gs ts us
 
 -- the entries of one mode start at `at`, those of one state at `from`
@@ -84,10 +84,10 @@ pub record Row-filled (at from count : ℕ) (follow cells row : List ℕ) : Type
       → ((f : ℕ) → f < count → getD follow (at + f) 0 ≡ next-mode h q f + one-rule) → ((f : ℕ) → f < count → Goes k f s (getD cells (from + f) 0))
       → Holds (both-of h k) (q * length (k .states) + s) (length (k .states)) row
 
--- THE WHOLE: the edges that leave one vertex, and all of them
+-- THE WHOLE: the edges that leave one vertex, and all of them, if there are not too many
 pub record Vertex-adds (v modes states count : ℕ) (follow cells : List ℕ) (n r : ℕ) (fs gs ts us : List ℕ) : Type 0 where
-  pub few : r ≤ n + most-both
   pub edges : (h : Chart) (k : Claim) → Given h k modes states count follow cells → Adds (edges-to (modes * states) 0 (both-of h k) v) n r fs gs ts us
 
 pub record Edges-found (modes states count : ℕ) (follow cells : List ℕ) (r : ℕ) (froms tos : List ℕ) : Type 0 where
-  pub edges : (h : Chart) (k : Claim) → Given h k modes states count follow cells → Listed (graph-of (both-of h k) .edges) r froms tos
+  pub edges : (h : Chart) (k : Claim) → Given h k modes states count follow cells → r ≤ most-edges → Listed (graph-of (both-of h k) .edges) r froms tos
+  pub many : (h : Chart) (k : Claim) → Given h k modes states count follow cells → most-edges < r → most-edges < length (graph-of (both-of h k) .edges)

@@ -5,6 +5,7 @@ ghost use lib.ListN.{length};
 ghost use Rattle.model.specs.ClaimGrammar.{most-states};
 ghost use Rattle.model.specs.Chart.{most-modes};
 ghost use Rattle.product.specs.Edges.{Asks, Mask-adds, Row-adds, Row-asks, Row-filled, Vertex-adds, Edges-found};
+use casefile::Case;
 use casefile::put;
 use chart::Chart;
 use claim::Counts;
@@ -102,7 +103,8 @@ fn add_vertex(
     add_row(&row, v as u32, modes, states as u32, n, froms, tos)
 }
 
-// All edges: how many there are, and their ends in the tables if these have room for all.
+// All edges: how many there are, and their ends in the tables if these have room for all; or more than a case file may have, as
+// soon as that is known.
 pub(crate) fn all_edges(
     follow: &[u8],
     cells: &[u32],
@@ -119,6 +121,9 @@ pub(crate) fn all_edges(
     let mut n: usize = 0;
     let mut v: usize = 0;
     while v < vertices {
+        if Case::MOST_EDGES < n {
+            return n;
+        }
         n = add_vertex(v, follow, cells, modes, states, count, n, froms, tos);
         v += 1;
     }
