@@ -3,28 +3,25 @@ use mathlib.Core.Path.{_≡_, refl, sym, ap, _∙_}
 use mathlib.Core.Bool.{Bool, true, false, cond}
 use mathlib.Core.List.{List, [], _∷_, _++_, append-nil, append-assoc}
 use mathlib.Core.Logic.{_⊎_, inl, inr}
-use Prim.Native.Nat.{ℕ, zero, suc, _+_, _/_, _%_, _^_, _≤_, _<_}
+use Prim.Native.Nat.{ℕ, zero, suc, _/_, _%_, _^_, _≤_, _<_}
 use native.Mathlib.Omega.{arith}
-use lib.Dec.{ltb, eqb}
+use lib.Dec.{eqb}
 use lib.ListN.{length, length-append}
 use borrow.Author.Tests.{eq-eqb, ne-eqb, lt-ltb, le-ltb}
 use Rattle.text.specs.Ascii.{ascii}
-use Rattle.text.specs.Lines.{text, joined}
-use Rattle.text.specs.Numbers.{decimal}
 use Rattle.text.specs.Writing.{Writes, Puts, Chain}
 use Rattle.text.proofs.Chains.{puts, puts-none, puts-then, puts-as}
-use Rattle.text.proofs.Decimals.{decimal-most}
 use Rattle.model.specs.ClaimLabels.{bit}
 use Rattle.model.specs.Chart.{most-flags, longest-name, mode-name, chart-in, chart-says}
 use Rattle.model.specs.declared.Charted.{Charted}
-use Rattle.desk.specs.Lines.{count-line, refused-line, refused-parts, Shows}
-use Rattle.desk.proofs.Writing.{puts-shows, between-puts, refused-puts, refused-short}
+use Rattle.desk.specs.Lines.{refused-lines, all-parts, Shows}
+use Rattle.desk.proofs.Writing.{puts-shows, all-puts, all-short}
 use Rattle.text.specs.Reading.{field-here}
 use Rattle.chart.specs.Reading.{name-place, returned, Chart-read}
 use Rattle.chart.specs.declared.Chart.{Chart}
 use Rattle.chart.specs.declared.Read.{Read}
 use Rattle.chart.proofs.Whole.{read-returns, Bad-read, bad-mode, bad-flags, name-part, name-short}
-use Rattle.chartcheck.specs.Printing.{pair-lines, charted-lines, printed, bit-digit, bits, fault-words, pair-words, told, page-room}
+use Rattle.chartcheck.specs.Printing.{charted-lines, printed, bit-digit, bits, fault-words, pair-words, told, page-room}
 
 -- STANDARD OUTPUT, as it is written
 module _ (c : Charted) {r : ℕ} {o z : List ℕ} where
@@ -32,43 +29,17 @@ module _ (c : Charted) {r : ℕ} {o z : List ℕ} where
   unfolding charted-lines
   writes-pass e w = puts-as (sym (rw (eq-eqb (c .refusal) 0 e) refl)) (puts w)
 
-  pub writes-fault : (c .refusal ≡ 0 → ⊥) → c .refusal ≤ 17 → Chain (refused-parts (c .refusal)) 0 r o z → Puts 0 (charted-lines c) r o z
+  pub writes-refused : (c .refusal ≡ 0 → ⊥) → Chain (all-parts (c .refusal) (c .mode) (c .combination)) 0 r o z → Puts 0 (charted-lines c) r o z
   unfolding charted-lines
-  writes-fault n l w =
-      puts-as (sym (rw (ne-eqb (c .refusal) 0 n, le-ltb 17 (c .refusal) l) (append-nil (refused-line (c .refusal))))) (refused-puts (c .refusal) w)
-
-pair-parts : (q f : ℕ) → (ascii "mode " ++ decimal q ++ (10 ∷ [])) ++ (ascii "flags " ++ decimal f ++ (10 ∷ [])) ≡ pair-lines q f
-unfolding pair-lines count-line text joined
-pair-parts q f = refl
-
-pub writes-bad : (c : Charted) {r s t : ℕ} {o x y z : List ℕ} → (c .refusal ≡ 0 → ⊥) → 17 < c .refusal → Chain (refused-parts (c .refusal)) 0 r o x
-    → Chain (ascii "mode " ∷ decimal (c .mode) ∷ (10 ∷ []) ∷ []) r s x y → Chain (ascii "flags " ∷ decimal (c .combination) ∷ (10 ∷ []) ∷ []) s t y z → Puts 0 (charted-lines c) t o z
-unfolding charted-lines
-writes-bad c n l u v w =
-    puts-as (ap (λ (p : List ℕ). refused-line (c .refusal) ++ p) (pair-parts (c .mode) (c .combination)) ∙ sym (rw (ne-eqb (c .refusal) 0 n, lt-ltb 17 (c .refusal) l) refl))
-    (puts-then (refused-puts (c .refusal) u) (puts-then (between-puts (ascii "mode ") (c .mode) (10 ∷ []) v) (between-puts (ascii "flags ") (c .combination) (10 ∷ []) w)))
-
-count-short : (s : List ℕ) (n : ℕ) → length (count-line s n) ≤ length s + 12
-unfolding count-line text joined
-count-short s n = omega (arith, length-append (s ++ (32 ∷ decimal n)) (10 ∷ []), length-append s (32 ∷ decimal n), decimal-most n)
+  writes-refused n w = puts-as (sym (rw (ne-eqb (c .refusal) 0 n) refl)) (all-puts (c .refusal) (c .mode) (c .combination) w)
 
 charted-short : (c : Charted) → length (charted-lines c) ≤ page-room
-unfolding charted-lines pair-lines
-charted-short c = go (eqb (c .refusal) 0) (ltb 17 (c .refusal))
+unfolding charted-lines
+charted-short c = go (eqb (c .refusal) 0)
   where
-    k : List ℕ
-    k = refused-line (c .refusal)
-
-    q : List ℕ
-    q = count-line (ascii "mode") (c .mode)
-
-    f : List ℕ
-    f = count-line (ascii "flags") (c .combination)
-
-    go : (a b : Bool) → length (cond a (ascii "pass\n") (k ++ cond b (q ++ f) [])) ≤ page-room
-    go true b = omega arith
-    go false true = omega (arith, length-append k (q ++ f), length-append q f, refused-short (c .refusal), count-short (ascii "mode") (c .mode), count-short (ascii "flags") (c .combination))
-    go false false = omega (arith, length-append k [], refused-short (c .refusal))
+    go : (b : Bool) → length (cond b (ascii "pass\n") (refused-lines (c .refusal) (c .mode) (c .combination))) ≤ page-room
+    go true = omega arith
+    go false = omega (arith, all-short (c .refusal) (c .mode) (c .combination))
 
 pub charted-shows : (bs : List ℕ) {c : Charted} {r : ℕ} {o z : List ℕ} → c ≡ chart-says bs → Puts 0 (charted-lines c) r o z → page-room ≤ length o → Shows (printed bs) r z
 unfolding printed

@@ -5,10 +5,11 @@ use Rattle.text.specs.Lines.{joined, text}
 use Rattle.text.specs.Numbers.{digits, decimal}
 use Rattle.model.specs.ClaimLabels.{bit}
 use Rattle.model.proofs.ChartRows.{computed}
-use Rattle.desk.specs.Lines.{count-line, refused-line}
-use Rattle.chartcheck.specs.Printing.{pair-lines, charted-lines, printed, bit-digit, bits, fault-words, pair-words, told}
+use Rattle.model.specs.BuiltEntry.{names-pair}
+use Rattle.desk.specs.Lines.{count-line, refused-line, pair-lines, refused-lines}
+use Rattle.chartcheck.specs.Printing.{charted-lines, printed, bit-digit, bits, fault-words, pair-words, told}
 use Rattle.chartcheck.specs.Rows.{all-print, rows}
 
 pub rows-print : all-print rows ≡ true
-unfolding computed joined text digits decimal bit count-line refused-line pair-lines charted-lines printed bit-digit bits fault-words pair-words told all-print
+unfolding computed joined text digits decimal bit names-pair count-line refused-line pair-lines refused-lines charted-lines printed bit-digit bits fault-words pair-words told all-print
 rows-print = refl

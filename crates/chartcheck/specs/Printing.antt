@@ -8,15 +8,11 @@ use Rattle.text.specs.Ascii.{ascii}
 use Rattle.model.specs.ClaimLabels.{bit}
 use Rattle.model.specs.Chart.{mode-name, chart-in, chart-says}
 use Rattle.model.specs.declared.Charted.{Charted}
-use Rattle.desk.specs.Lines.{count-line, refused-line}
+use Rattle.desk.specs.Lines.{refused-lines}
 
 -- STANDARD OUTPUT: `pass`; or `refused` and the number, and with 18 and 19 two lines for the pair
-unfoldable pub pair-lines : (mode flags : ℕ) → List ℕ
-pair-lines q f = count-line (ascii "mode") q ++ count-line (ascii "flags") f
-
 unfoldable pub charted-lines : Charted → List ℕ
-charted-lines c =
-    cond (eqb (c .refusal) 0) (ascii "pass\n") (refused-line (c .refusal) ++ cond (ltb 17 (c .refusal)) (pair-lines (c .mode) (c .combination)) [])
+charted-lines c = cond (eqb (c .refusal) 0) (ascii "pass\n") (refused-lines (c .refusal) (c .mode) (c .combination))
 
 unfoldable pub printed : (text : List ℕ) → List ℕ
 printed bs = charted-lines (chart-says bs)

@@ -4,8 +4,7 @@ ghost use Prim.Native.Nat.{_≤_, _<_};
 ghost use Rattle.text.specs.Writing.{Puts};
 ghost use Rattle.model.specs.Chart.{most-flags};
 ghost use Rattle.chartcheck.specs.Printing.{charted-lines, bit-digit, bits, fault-words, pair-words};
-use desk::write_between;
-use desk::write_refusal;
+use desk::write_refused;
 use model::Charted;
 use text::write::write_byte;
 use text::write::write_bytes;
@@ -17,12 +16,7 @@ pub(crate) fn write_charted(page: &mut [u8], said: Charted) -> usize
     if said.refusal == 0 {
         return write_bytes(page, 0, b"pass\n");
     }
-    let a = write_refusal(page, said.refusal);
-    if said.refusal <= Charted::FAULTY {
-        return a;
-    }
-    let b = write_between(page, a, b"mode ", said.mode, b"\n");
-    write_between(page, b, b"flags ", said.combination, b"\n")
+    write_refused(page, said.refusal, said.mode, said.combination)
 }
 
 // Flag i as a digit.

@@ -1,4 +1,4 @@
-// What the desk programs share: files read whole into lent buffers, printing, and the line of a refusal. What is read or
+// What the desk programs share: files read whole into lent buffers, printing, and the lines of a refusal. What is read or
 // written no contract can say (Offered in specs/ names that part); that the bytes of a line are right, its writer's does.
 mod input;
 mod output;
@@ -10,3 +10,4 @@ pub use output::complain;
 pub use output::print;
 pub use output::write_between;
 pub use output::write_refusal;
+pub use output::write_refused;
