@@ -1,3 +1,4 @@
 -- Laws of the desk programs' texts.
 pub mod Writing
+pub mod Words
 pub mod Buffers

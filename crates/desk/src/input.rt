@@ -1,8 +1,10 @@
-// Files read whole into a lent buffer. A failed read is never taken for the file's end, so that a file is not cut to a
-// shorter one.
+// Files read whole into a lent buffer, and arguments that are numbers. A failed read is never taken for the file's end, so
+// that a file is not cut to a shorter one.
 ghost use Prim.Native.Nat.{_-_, _≤_};
 ghost use lib.ListN.{length};
-ghost use Rattle.desk.specs.Filling.{Fills};
+ghost use Rattle.desk.specs.Filling.{Fills, Said-by-word};
+use text::read::Number;
+use text::read::number_in;
 
 // How many bytes of the file stand at the buffer's front; or a read failed, and errno says why.
 pub enum Filled {
@@ -67,4 +69,16 @@ pub fn read_argument(i: usize, buffer: &mut [u8]) -> Filled
         return Filled::Failed;
     }
     read_file(&path[..n], buffer)
+}
+
+// An argument as a number; one that is missing, or too long to be read, is none.
+pub fn number_argument(i: usize) -> Number
+    ensures { λ r. ⌜ Said-by-word r ⌝ }
+{
+    let mut word = io::buffer();
+    let n = os::arg(i, &mut word);
+    if os::errno() != 0 {
+        return Number::Not;
+    }
+    number_in(&word[..n])
 }
