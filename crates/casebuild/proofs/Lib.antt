@@ -1,0 +1,2 @@
+-- From what building says to what is printed.
+pub mod Printing

@@ -1,0 +1,2 @@
+-- What `casebuild` prints.
+pub mod Printing
