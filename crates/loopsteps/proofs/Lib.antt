@@ -1,0 +1,2 @@
+-- From what listing says to what is printed.
+pub mod Printing

@@ -1,0 +1,2 @@
+-- What `loopsteps` prints.
+pub mod Printing
