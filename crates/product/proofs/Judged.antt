@@ -21,7 +21,7 @@ use Rattle.model.specs.Answer.{lasso-verdict, empty-verdict}
 use Rattle.model.specs.Passing.{says-lasso, answer-refusal, check-refusal, answer-verdict}
 use Rattle.model.specs.Entry.{in-front, Check-says}
 use Rattle.model.specs.Claim.{claim-in, Claim-sound}
-use Rattle.model.specs.Chart.{chart-in, chart-right, Chart-sound}
+use Rattle.model.specs.Chart.{most-modes, chart-in, chart-right, Chart-sound}
 use Rattle.model.specs.Product.{product, chart-automaton, claim-automaton, graph-of, graph-in, built-case, product-refusal}
 use Rattle.model.specs.Steps.{listing, least-steps-output, steps-refusal}
 use Rattle.model.specs.BuiltEntry.{Steps-say}
@@ -39,7 +39,7 @@ use Rattle.model.specs.ClaimGrammar.{most-states}
 use Rattle.claim.specs.Cells.{claim-cells}
 use Rattle.product.specs.Both.{refused-by, texts-refusal, Both-refused}
 use Rattle.product.specs.Entries.{written-by, List-asks, Check-asks}
-use Rattle.product.specs.Names.{named-row, rows-by, Steps-written}
+use Rattle.product.specs.Names.{Places-filled, named-row, rows-by, Steps-written}
 use Rattle.product.specs.Tables.{ends-of}
 use Rattle.product.specs.Written.{File-written, Product-is, Product-says}
 use Rattle.product.specs.declared.build.Sizes.{Sizes}
@@ -141,23 +141,26 @@ module _ {bs cs case tos cells : List ℕ} {states source : ℕ} {o : List ℕ} 
     chart-is-right = passed-right bs (first-zero _ _ (a .passes) .0)
 
     -- the edges stand from line 4 on
-    module _ (n : r .verdict ≡ empty-verdict → ⊥) {x y at : ℕ} (p : x ≡ past-line ts 0) (q : y ≡ past-line ts x) (u : at ≡ past-line ts y) {m : ℕ} {o′ : List ℕ}
-        (w : Steps-written (named-row bs cs cells states) ts at source tos m o o′) where
+    module _ (n : r .verdict ≡ empty-verdict → ⊥) {x y at : ℕ} (p : x ≡ past-line ts 0) (q : y ≡ past-line ts x) (u : at ≡ past-line ts y) {places : List ℕ} (filled : Places-filled bs places) (long : length places ≡ most-modes) {m : ℕ} {o′ : List ℕ}
+        (w : Steps-written (named-row bs cs places cells states) ts at source tos m o o′) where
+      modes-fit : chart-in bs .modes ≤ length places
+      modes-fit = omega (arith, sound .chart .modes)
+
       lasso : answer-verdict ts ≡ lasso-verdict
       lasso = is-lasso (λ z. n (verdict-is ∙ z))
 
       place : lines (drop at ts) ≡ drop 3 (lines ts)
       place = let e : at ≡ skip 3 ts 0 = unfold skip in (u ∙ ap (past-line ts) (q ∙ ap (past-line ts) p)) in rw e (skip-lines 3 ts 0)
 
-      rows : text (rows-by (named-row bs cs cells states) tos source (column 0 (lines (drop at ts)))) ≡ listing bs cs ts
+      rows : text (rows-by (named-row bs cs places cells states) tos source (column 0 (lines (drop at ts)))) ≡ listing bs cs ts
       rows =
-          ap (λ (ls : List Line). text (rows-by (named-row bs cs cells states) tos source (column 0 ls))) place
-          ∙ ap (λ (k : ℕ). text (rows-by (named-row bs cs cells k) tos source (column 0 (drop 3 (lines ts))))) (a .of-states)
-          ∙ ap (λ (v : ℕ). text (rows-by (named-row bs cs cells (length (claim-in cs .states))) tos v (column 0 (drop 3 (lines ts))))) (a .of-source)
-          ∙ rows-listed bs cs chart-is-right (sound .claim) (a .claim) tos (a .ends) ts right-answer lasso (source-below bs cs (sound .chart) (sound .claim))
+          ap (λ (ls : List Line). text (rows-by (named-row bs cs places cells states) tos source (column 0 ls))) place
+          ∙ ap (λ (k : ℕ). text (rows-by (named-row bs cs places cells k) tos source (column 0 (drop 3 (lines ts))))) (a .of-states)
+          ∙ ap (λ (v : ℕ). text (rows-by (named-row bs cs places cells (length (claim-in cs .states))) tos v (column 0 (drop 3 (lines ts))))) (a .of-source)
+          ∙ rows-listed bs cs chart-is-right (sound .claim) (a .claim) filled modes-fit tos (a .ends) ts right-answer lasso (source-below bs cs (sound .chart) (sound .claim))
 
       listed : Puts 0 (listing bs cs ts) m o o′
-      listed = puts-as rows (w .lines (rw place (edges-single bs cs chart-is-right (sound .claim) (a .claim) tos (a .ends) ts right-answer lasso)))
+      listed = puts-as rows (w .lines (rw place (edges-single bs cs chart-is-right (sound .claim) (a .claim) filled modes-fit tos (a .ends) ts right-answer lasso)))
 
       pub checked-fits : m ≤ longest-file
       checked-fits = lasso-listed bs cs ts o (a .room) (a .passes) right-answer listed .0

@@ -28,7 +28,7 @@ use Rattle.model.proofs.Products.{move-edge}
 use Rattle.model.proofs.StepLines.{Lasso-lines, lasso-lines, walk-walks}
 use Rattle.claim.specs.Cells.{name-cell, length-cell, Claim-held}
 use Rattle.chart.proofs.Whole.{name-part}
-use Rattle.product.specs.Names.{state-text, named-row, rows-by, all-single}
+use Rattle.product.specs.Names.{state-text, Places-filled, named-row, rows-by, all-single}
 
 -- THE EDGES stand alone on their lines, up to the answer's end
 single : (k m : ℕ) (ls : List Line) → listed-edges-refusal k m ls ≡ 0 → length ls ≤ k → all-single ls ≡ true
@@ -45,15 +45,15 @@ unfolding state-text shown
 shown-is none claim cells s e = rw (eq-eqb (getD cells (name-cell s) 0) 0 (e .0)) refl
 shown-is (some w) claim cells s e = rw (ne-eqb (getD cells (name-cell s) 0) 0 (λ q. omega (arith, e .0))) (e .2)
 
-module _ (bs cs : List ℕ) (right : chart-right bs ≡ true) (sound : Claim-sound (claim-in cs)) {cells : List ℕ} (held : Claim-held cs (claim-in cs) cells) where
+module _ (bs cs : List ℕ) (right : chart-right bs ≡ true) (sound : Claim-sound (claim-in cs)) {cells : List ℕ} (held : Claim-held cs (claim-in cs) cells) {places : List ℕ} (filled : Places-filled bs places) (most : chart-in bs .modes ≤ length places) where
   abbrev size : ℕ
   size = length (claim-in cs .states)
 
-  row-is : (v : ℕ) → v < chart-in bs .modes * size → named-row bs cs cells size v ≡ step-row (chart-in bs) (claim-in cs) v
+  row-is : (v : ℕ) → v < chart-in bs .modes * size → named-row bs cs places cells size v ≡ step-row (chart-in bs) (claim-in cs) v
   unfolding named-row step-row
   row-is v b =
       let d = pair (chart-in bs .modes) size v b in
-      rw (name-part bs right (v / size) (d .first), shown-is (state (claim-in cs) (v % size) .name) cs cells (v % size) (held .names (v % size) (omega (arith, d .second, sound .states)))) refl
+      rw (filled .at (v / size) (omega (arith, d .first)), name-part bs right (v / size) (d .first), shown-is (state (claim-in cs) (v % size) .name) cs cells (v % size) (held .names (v % size) (omega (arith, d .second, sound .states)))) refl
 
   to-below : (e : ℕ) → e < length (graph-in bs cs .edges) → edge (graph-in bs cs) e .to < chart-in bs .modes * size
   unfolding edge product chart-automaton claim-automaton
@@ -61,7 +61,7 @@ module _ (bs cs : List ℕ) (right : chart-right bs ≡ true) (sound : Claim-sou
 
   -- along a walk, by a table that has each edge's end
   module _ (tos : List ℕ) (ends : (e : ℕ) → e < length (graph-in bs cs .edges) → getD tos e 0 ≡ edge (graph-in bs cs) e .to) where
-    rows-are : (v : ℕ) (es : List ℕ) → v < chart-in bs .modes * size → is-walk (graph-in bs cs) v es ≡ true → rows-by (named-row bs cs cells size) tos v es ≡ step-rows (chart-in bs) (claim-in cs) es
+    rows-are : (v : ℕ) (es : List ℕ) → v < chart-in bs .modes * size → is-walk (graph-in bs cs) v es ≡ true → rows-by (named-row bs cs places cells size) tos v es ≡ step-rows (chart-in bs) (claim-in cs) es
     unfolding rows-by step-rows
     rows-are v [] b w = refl
     rows-are v (e ∷ es) b w =
@@ -76,8 +76,8 @@ module _ (bs cs : List ℕ) (right : chart-right bs ≡ true) (sound : Claim-sou
       pub edges-single : all-single (drop 3 (lines ts)) ≡ true
       edges-single = single (found .many) _ (drop 3 (lines ts)) (found .edges) (omega (arith, found .few, length-drop 3 (lines ts)))
 
-      pub rows-listed : graph-in bs cs .source < chart-in bs .modes * size → text (rows-by (named-row bs cs cells size) tos (graph-in bs cs .source) (column 0 (drop 3 (lines ts)))) ≡ listing bs cs ts
+      pub rows-listed : graph-in bs cs .source < chart-in bs .modes * size → text (rows-by (named-row bs cs places cells size) tos (graph-in bs cs .source) (column 0 (drop 3 (lines ts)))) ≡ listing bs cs ts
       unfolding steps-text
       rows-listed b =
           let w : walk-in ts ≡ column 0 (drop 3 (lines ts)) = found .walk ∙ ap (column 0) (take-all (found .many) (drop 3 (lines ts)) (omega (arith, found .few, length-drop 3 (lines ts)))) in
-          ap text (ap (rows-by (named-row bs cs cells size) tos (graph-in bs cs .source)) (sym w) ∙ rows-are (graph-in bs cs .source) (walk-in ts) b (walk-walks (graph-in bs cs) ts passes))
+          ap text (ap (rows-by (named-row bs cs places cells size) tos (graph-in bs cs .source)) (sym w) ∙ rows-are (graph-in bs cs .source) (walk-in ts) b (walk-walks (graph-in bs cs) ts passes))

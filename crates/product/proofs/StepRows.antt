@@ -5,22 +5,23 @@ use mathlib.Core.List.{List, [], _∷_, _++_, append-assoc}
 use Prim.Native.Nat.{ℕ, _+_, _-_, _/_, _%_, _≤_, _<_, min}
 use native.Mathlib.Omega.{arith}
 use lib.Dec.{leb}
-use lib.ListN.{length, getD, take, drop, length-drop, drop-of-length-le}
-use lib.Seq.{take-all}
+use lib.ListN.{length, getD, set, take, drop, length-set, length-drop, drop-of-length-le}
+use lib.Seq.{take-all, getD-set-same, getD-set-other}
 use borrow.Author.Tests.{leb-true, leb-false, eq-eqb, ne-eqb}
 use Rattle.text.specs.Ascii.{space, line-feed}
 use Rattle.text.specs.Lines.{lines, joined, text}
 use Rattle.text.specs.Numbers.{decimal, numbers-line}
-use Rattle.text.specs.Reading.{line-here, field-here}
+use Rattle.text.specs.Reading.{line-here, field-here, past-line, skip}
 use Rattle.text.specs.Writing.{Writes, Puts}
-use Rattle.text.proofs.Tests.{and-both, clash}
+use Rattle.text.proofs.Tests.{Same, same?, same, other, and-both, clash}
+use Rattle.text.proofs.Places.{skip-last}
 use Rattle.text.proofs.Reading.{Row, No-row, row-rest, no-lines, some-lines, lines-here}
 use Rattle.text.proofs.Chains.{puts, puts-as, puts-then, Still, still-start, still-step, still-end}
 use Rattle.text.proofs.Rows.{text-append}
 use Rattle.model.specs.CaseFile.{column}
 use Rattle.claim.specs.Cells.{name-cell, length-cell}
 use Rattle.chart.specs.Reading.{name-place}
-use Rattle.product.specs.Names.{state-text, named-row, rows-by, all-single, Steps-written}
+use Rattle.product.specs.Names.{state-text, Places-filled, named-row, rows-by, all-single, Steps-written}
 
 -- A PART cut at the text's end
 take-min : (n : ℕ) (l : List ℕ) → take (min n (length l)) l ≡ take n l
@@ -57,12 +58,37 @@ line-parts : (a b : List ℕ) → a ++ (space ∷ []) ++ b ++ (line-feed ∷ [])
 unfolding joined text
 line-parts a b = simp append-assoc
 
-pub step-puts : (h k cs : List ℕ) (states v : ℕ) {at a b d r : ℕ} {m o x y w z : List ℕ} → m ≡ field-here h (name-place h (v / states))
+pub step-puts : (h k ps cs : List ℕ) (states v : ℕ) {p at a b d r : ℕ} {m o x y w z : List ℕ} → p ≡ getD ps (v / states) 0 → m ≡ field-here h p
     → Writes at m a o x → Writes a (space ∷ []) b x y → Puts b (state-text k cs (v % states)) d y w → Writes d (line-feed ∷ []) r w z
-    → Puts at (text (named-row h k cs states v ∷ [])) r o z
+    → Puts at (text (named-row h k ps cs states v ∷ [])) r o z
 unfolding named-row
-step-puts h k cs states v n f g l c =
-    puts-as (line-parts (field-here h (name-place h (v / states))) (state-text k cs (v % states))) (puts-then (puts-then (puts-then (puts-as n (puts f)) (puts g)) l) (puts c))
+step-puts h k ps cs states v {p} q n f g l c =
+    rw (← q) (puts-as (line-parts (field-here h p) (state-text k cs (v % states))) (puts-then (puts-then (puts-then (puts-as n (puts f)) (puts g)) l) (puts c)))
+
+-- THE PLACES of the names below q
+pub record Placing (s ps now : List ℕ) (at q : ℕ) : Type 0 where
+  pub kept : length now ≡ length ps
+  pub here : at ≡ name-place s q
+  pub done : (i : ℕ) → i < q → getD now i 0 ≡ name-place s i
+
+pub placing-start : (s ps : List ℕ) {x y at : ℕ} → x ≡ past-line s 0 → y ≡ past-line s x → at ≡ past-line s y → Placing s ps ps at 0
+unfolding skip
+placing-start s ps p q u = record { kept = refl; here = u ∙ ap (past-line s) (q ∙ ap (past-line s) p); done = λ i l. absurd (omega arith) }
+
+pub placing-next : {s ps now : List ℕ} {at next q : ℕ} → Placing s ps now at q → q < length now → next ≡ past-line s at → Placing s ps (set now q at) next (q + 1)
+placing-next {s} {ps} {now} {at} {next} {q} d l e =
+    record {
+      kept = length-set now q at ∙ d .kept;
+      here = e ∙ ap (past-line s) (d .here) ∙ sym (skip-last q s (skip 3 s 0));
+      done = λ i h. go i h (same? i q);
+    }
+  where
+    go : (i : ℕ) → i < q + 1 → Same i q → getD (set now q at) i 0 ≡ name-place s i
+    go i h (same x) = ap (λ (j : ℕ). getD (set now q at) j 0) x ∙ getD-set-same now q at 0 l ∙ d .here ∙ ap (name-place s) (sym x)
+    go i h (other n) = getD-set-other now q i at 0 n ∙ d .done i (omega (arith, n))
+
+pub placing-end : {s ps now : List ℕ} {at q : ℕ} → Placing s ps now at q → length now ≤ q → Places-filled s now
+placing-end d h = record { at = λ i l. d .done i (omega arith) }
 
 -- THE LINES: what is left of them from place `here` of the answer on
 abbrev rows-from : (row : ℕ → List (List ℕ)) → (answer tos : List ℕ) → (here v : ℕ) → List ℕ

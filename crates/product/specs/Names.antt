@@ -3,7 +3,7 @@
 use mathlib.Core.Path.{_≡_}
 use mathlib.Core.Bool.{Bool, true, _&&_, cond}
 use mathlib.Core.List.{List, [], _∷_}
-use Prim.Native.Nat.{ℕ, _+_, _/_, _%_, min}
+use Prim.Native.Nat.{ℕ, _+_, _/_, _%_, _<_, min}
 use lib.Dec.{eqb}
 use lib.ListN.{length, getD, take, drop}
 use denote.Ref.{RefT, now}
@@ -26,7 +26,7 @@ pub record Piece (text : RefT (List ℕ)) (at many : ℕ) (part : RefT (List ℕ
 
 -- a mode's name is a field of the chart, a state's is what stands between its quotes in the claim
 abbrev pub Name-is : (chart claim : RefT (List ℕ)) → Place → (name : RefT (List ℕ)) → Type 0
-Name-is h k (Mode q) r = Part h (name-place (now h) q) r
+Name-is h k (Mode at) r = Part h at r
 Name-is h k (State at many) r = Piece k at many r
 
 -- a claim state, by where its name stands
@@ -35,9 +35,13 @@ state-text k cs s =
     let at = getD cs (name-cell s) 0 in
     cond (eqb at 0) (decimal s) (take (getD cs (length-cell s) 0) (drop at k))
 
--- A LINE OF THE LISTING, by the texts and the claim's cells
-unfoldable pub named-row : (chart claim cells : List ℕ) → (states vertex : ℕ) → List (List ℕ)
-named-row h k cs n v = field-here h (name-place h (v / n)) ∷ state-text k cs (v % n) ∷ []
+-- where the modes' names stand
+pub record Places-filled (chart places : List ℕ) : Type 0 where
+  pub at : (q : ℕ) → q < length places → getD places q 0 ≡ name-place chart q
+
+-- A LINE OF THE LISTING, by the texts, these places and the claim's cells
+unfoldable pub named-row : (chart claim places cells : List ℕ) → (states vertex : ℕ) → List (List ℕ)
+named-row h k ps cs n v = field-here h (getD ps (v / n) 0) ∷ state-text k cs (v % n) ∷ []
 
 -- one line for each edge of a walk from v on, by the vertex that each leads to
 unfoldable pub rows-by : (row : ℕ → List (List ℕ)) → (tos : List ℕ) → (v : ℕ) → (walk : List ℕ) → List (List (List ℕ))

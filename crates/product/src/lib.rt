@@ -17,6 +17,7 @@ use checker::check_answer;
 use claim::Counts;
 use model::Built;
 use model::Outcome;
+use names::fill_places;
 use steps::write_steps;
 use text::read::next_line;
 
@@ -115,6 +116,8 @@ fn list_checked<'a>(
     let second = next_line(answer, 0);
     let third = next_line(answer, second);
     let edges = next_line(answer, third);
+    let mut places = [0usize; Chart::MOST_MODES];
+    fill_places(chart, &mut places);
     let n = write_steps(
         output,
         answer,
@@ -123,6 +126,7 @@ fn list_checked<'a>(
         tos,
         chart,
         claim,
+        &places,
         cells,
         states,
     );

@@ -1,10 +1,12 @@
 // Names of modes and of claim states, as parts of the lent texts. Contracts cite specs/Names.antt.
 ghost use mathlib.Core.Path.{_≡_};
 ghost use Prim.Native.Nat.{min};
-ghost use Rattle.product.specs.Names.{Piece, Name-is};
-use chart::mode_name;
+ghost use lib.ListN.{getD};
+ghost use Rattle.product.specs.Names.{Piece, Name-is, Places-filled};
+use text::read::field;
+use text::read::next_line;
 
-// Where a name stands: a mode's in the chart, by the mode's number; a state's in the claim, from a place on, so many bytes.
+// Where a name stands: a mode's in the chart, up to its line's end; a state's in the claim, from a place on, so many bytes.
 pub(crate) enum Place {
     Mode(usize),
     State(usize, usize),
@@ -33,7 +35,32 @@ pub(crate) fn name_at<'a>(chart: &'a [u8], claim: &'a [u8], place: Place) -> &'a
     ensures { λ r. ⌜ Name-is (chart .entry) (claim .entry) place r ⌝ }
 {
     match place {
-        Place::Mode(mode) => mode_name(chart, mode),
+        Place::Mode(at) => field(chart, at),
         Place::State(at, many) => part(claim, at, many),
     }
+}
+
+// Where the name of each mode stands: in the lines from the fourth on. The places past the last mode's are of other lines.
+pub(crate) fn fill_places(chart: &[u8], places: &mut [usize])
+    ensures { λ r. ⌜ Places-filled (now (chart .entry)) (now (places .exit)) ⌝ }
+{
+    let second = next_line(chart, 0);
+    let third = next_line(chart, second);
+    let mut at = next_line(chart, third);
+    let mut q: usize = 0;
+    while q < places.len() {
+        places[q] = at;
+        at = next_line(chart, at);
+        q += 1;
+    }
+}
+
+// A place of those, 0 past their end.
+pub(crate) fn place_of(places: &[usize], q: usize) -> usize
+    ensures { λ r. ⌜ r ≡ getD (now (places .entry)) q 0 ⌝ }
+{
+    if q < places.len() {
+        return places[q];
+    }
+    0
 }

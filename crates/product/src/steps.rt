@@ -10,6 +10,7 @@ ghost use Rattle.claim.specs.Cells.{claim-cells};
 ghost use Rattle.product.specs.Names.{state-text, named-row, Steps-written};
 use crate::names::Place;
 use crate::names::name_at;
+use crate::names::place_of;
 use checker::tables::cell;
 use claim::Counts;
 use text::read::Row1;
@@ -38,20 +39,22 @@ fn write_state<'a>(
     write_bytes(output, at, name_at(chart, claim, Place::State(place, many)))
 }
 
-// The line of vertex v, of a claim of so many states.
+// The line of vertex v, of a claim of so many states; `places` has those of the modes' names.
 fn write_step<'a>(
     output: &mut [u8],
     at: usize,
     chart: &'a [u8],
     claim: &'a [u8],
+    places: &[usize],
     cells: &[u32],
     states: usize,
     v: usize,
 ) -> usize
     requires { ⌜ (1 ≤ states) × (states ≤ most-states) × (claim-cells ≤ length (now cells)) ⌝ }
-    ensures { λ r. ⌜ Puts at (text (named-row (now (chart .entry)) (now (claim .entry)) (now (cells .entry)) states v ∷ [])) r (now (output .entry)) (now (output .exit)) ⌝ }
+    ensures { λ r. ⌜ Puts at (text (named-row (now (chart .entry)) (now (claim .entry)) (now (places .entry)) (now (cells .entry)) states v ∷ [])) r (now (output .entry)) (now (output .exit)) ⌝ }
 {
-    let mode = name_at(chart, claim, Place::Mode(v / states));
+    let place = place_of(places, v / states);
+    let mode = name_at(chart, claim, Place::Mode(place));
     let mut next = write_bytes(output, at, mode);
     next = write_byte(output, next, b' ');
     next = write_state(output, next, chart, claim, cells, v % states);
@@ -67,11 +70,12 @@ pub(crate) fn write_steps<'a>(
     tos: &[u32],
     chart: &'a [u8],
     claim: &'a [u8],
+    places: &[usize],
     cells: &[u32],
     states: usize,
 ) -> usize
     requires { ⌜ (1 ≤ states) × (states ≤ most-states) × (claim-cells ≤ length (now cells)) ⌝ }
-    ensures { λ r. ⌜ Steps-written (named-row (now (chart .entry)) (now (claim .entry)) (now (cells .entry)) states) (now (answer .entry)) at v (now (tos .entry)) r (now (output .entry)) (now (output .exit)) ⌝ }
+    ensures { λ r. ⌜ Steps-written (named-row (now (chart .entry)) (now (claim .entry)) (now (places .entry)) (now (cells .entry)) states) (now (answer .entry)) at v (now (tos .entry)) r (now (output .entry)) (now (output .exit)) ⌝ }
 {
     let mut here = at;
     let mut place: usize = 0;
@@ -80,7 +84,7 @@ pub(crate) fn write_steps<'a>(
         let Row1::Read(e, next) = row_of_1(answer, here) else {
             return place;
         };
-        place = write_step(output, place, chart, claim, cells, states, w);
+        place = write_step(output, place, chart, claim, places, cells, states, w);
         w = cell(tos, e as usize);
         here = next;
     }

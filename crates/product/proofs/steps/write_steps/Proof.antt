@@ -10,10 +10,10 @@ use Rattle.product.proofs.steps.write_steps.Statement.{statement}
 use Rattle.product.proofs.steps.write_steps.Tie as tie
 
 abbrev Inv-loop : tie.InvT-loop
-Inv-loop output₀ answer at v tos chart claim cells states here₀ place₀ w₀ output here place w = Steps-left (named-row chart claim cells states) answer at v tos here place w output₀ output
+Inv-loop output₀ answer at v tos chart claim places cells states here₀ place₀ w₀ output here place w = Steps-left (named-row chart claim places cells states) answer at v tos here place w output₀ output
 
 abbrev μ-loop : tie.MeasureT-loop
-μ-loop output₀ answer at v tos chart claim cells states here₀ place₀ w₀ output here place w = length (lines (drop here answer))
+μ-loop output₀ answer at v tos chart claim places cells states here₀ place₀ w₀ output here place w = length (lines (drop here answer))
 
 loop-holds : tie.Need-loop-holds Inv-loop μ-loop
 loop-holds c = steps-start _ _ _ _ _ _
