@@ -43,6 +43,26 @@ chart_fails() { # NAME ERRORS ARGUMENT...
     trial "chartcheck, $name" '' "$errors" "$programs/chartcheck" "$@"
 }
 
+build_of() { # NAME OUTPUT CHART CLAIM WORKERS
+    trial "casebuild, $1" "$2" '' "$programs/casebuild" "$3" "$4" "$5"
+}
+
+build_fails() { # NAME ERRORS ARGUMENT...
+    local name=$1 errors=$2
+    shift 2
+    trial "casebuild, $name" '' "$errors" "$programs/casebuild" "$@"
+}
+
+steps_of() { # NAME OUTPUT CHART CLAIM ANSWER
+    trial "loopsteps, $1" "$2" '' "$programs/loopsteps" "$3" "$4" "$5"
+}
+
+steps_fail() { # NAME ERRORS ARGUMENT...
+    local name=$1 errors=$2
+    shift 2
+    trial "loopsteps, $name" '' "$errors" "$programs/loopsteps" "$@"
+}
+
 find_in K1 "$lasso_1" k1
 find_in K2 "$empty_2" k2
 find_in K3 "$lasso_3" k3
@@ -428,3 +448,339 @@ chart_fails 'no file named -' $'-: No such file or directory\n' -
 trial 'chartcheck, no room' '' $'standard output: No space left on device\n' into_full "$programs/chartcheck" chart
 trial 'chartcheck, a bad pair and no room' '' $'standard output: No space left on device\nmode Land, flags 00: no rule\n' \
     into_full "$programs/chartcheck" none
+
+# ---- casebuild: what is built
+
+# A claim on standard output. A proposition has no letter in its name: names of propositions mean nothing.
+hoa() { # STATES START PROPOSITIONS BODY
+    printf 'HOA: v1\nStates: %d\nStart: %d\nAP: %d%s\nAcceptance: 1 Inf(0)\n--BODY--\n%s--END--\n' \
+        "$1" "$2" "$3" "$(same "$3" ' ""' | tr -d '\n')" "$4"
+}
+marks=$'vertex accepting owner\n'
+duo=$modes$'1 2 0 2\nname\nHold\nClimb\n'$rules
+file duo "$duo"$'0 1 1 1\n0 1 0 0\n1 1 1 1\n1 1 0 0\n'
+hoa 2 0 2 $'State: 0 "watch"\n[t] 0\n[!1] 1\nState: 1 {0}\n[!1] 1\n' >watch
+duo_edges=$'from to\n0 0\n0 1\n0 2\n0 3\n1 1\n1 3\n2 0\n2 1\n2 2\n2 3\n3 1\n3 3\n'
+built_1="${names}1 4 12 0 1"$'\n'"$marks"$'0 0 0\n1 1 0\n2 0 0\n3 1 0\n'$duo_edges
+built_2="${names}1 4 12 0 2"$'\n'"$marks"$'0 0 0\n1 1 1\n2 0 0\n3 1 1\n'$duo_edges
+build_of 'an example' "$built_2" duo watch 2
+build_of '1 worker' "$built_1" duo watch 1
+build_of '3 workers' "${names}1 4 12 0 3"$'\n'"$marks"$'0 0 0\n1 1 1\n2 0 2\n3 1 0\n'"$duo_edges" duo watch 3
+build_of '16 workers' "${names}1 4 12 0 16"$'\n'"$marks"$'0 0 0\n1 1 1\n2 0 2\n3 1 3\n'"$duo_edges" duo watch 16
+
+# Three modes and two states, both starts the last ones, and the states listed from the last to the first.
+file trio "${modes}1 3 2 1"$'\nname\nA\nB\nC\n'"$rules"$'0 0 0 1\n1 1 0 1\n1 1 1 2\n2 1 1 0\n2 1 0 2\n'
+hoa 2 1 1 $'State: 1 "wait"\n[!0] 1\n[0] 0\nState: 0 "on" {0}\n[0] 0\n' >waiting
+build_of 'starts that are not 0' "${names}1 6 9 5 4"$'\n'"$marks"$'0 1 0\n1 0 1\n2 1 2\n3 0 3\n4 1 0\n5 0 1
+from to\n0 2\n1 2\n1 3\n2 4\n3 3\n3 4\n4 0\n5 0\n5 5\n' trio waiting 4
+
+file one "${modes}1 1 0 1"$'\nname\na\n'"$rules"$'0 0 0 0\n'
+for edges in '' '[f] 0' '[0 & !0] 0'; do
+    hoa 1 0 1 "State: 0 {0} $edges"$'\n' >dead
+    build_of "a state with '$edges' alone" "${names}1 1 0 0 1"$'\n'"$marks"$'0 1 0\nfrom to\n' one dead 1
+done
+hoa 1 0 1 $'State: 0 [!0] 0 [0] 0 [t] 0 [t] 0\n' >often
+build_of 'an edge that is allowed often' "${names}1 1 1 0 1"$'\n'"$marks"$'0 0 0\nfrom to\n0 0\n' one often 1
+
+# Flag 7 leads from A to B; each label is true on one combination of all.
+file eight "${modes}1 2 0 8"$'\nname\nA\nB\n'"$rules"$'0 128 0 0\n0 128 128 1\n1 0 0 1\n'
+hoa 1 0 8 $'State: 0 [!0 & !1 & !2 & !3 & !4 & !5 & !6 & !7] 0\n' >all.off
+hoa 1 0 8 $'State: 0 [0 & 1 & 2 & 3 & 4 & 5 & 6 & 7] 0\n' >all.on
+hoa 1 0 8 $'State: 0 [0 & !1 & 2 & !3 & 4 & !5 & 6 & !7] 0\n' >some.on
+two_modes="${names}1 2 2 0 1"$'\n'"$marks"$'0 0 0\n1 0 0\nfrom to\n'
+build_of 'the first combination alone' "$two_modes"$'0 0\n1 1\n' eight all.off 1
+build_of 'the last combination alone' "$two_modes"$'0 1\n1 1\n' eight all.on 1
+build_of 'a combination between' "$two_modes"$'0 0\n1 1\n' eight some.on 1
+
+# ---- casebuild: cases at a limit
+
+# A chart of so many modes on three flags. The last S of them have N next modes each, and those before them one more; these
+# are the first ones, and the last of them stands for the combinations that are left.
+spread() { # MODES N S
+    printf '%s1 %d 0 3\nname\n' "$modes" "$1"
+    awk -v m="$1" -v n="$2" -v s="$3" 'BEGIN {
+        for (q = 0; q < m; q++) print "M" q
+        print "mode care value next"
+        for (q = 0; q < m; q++) for (f = 0; f < 8; f++) {
+            most = q < m - s ? n : n - 1
+            print q, 7, f, f < most ? f : most
+        }
+    }'
+}
+# The body of a claim of 10 states with the first of all edges between them, each twice.
+between() { # EDGES
+    awk -v n="$1" 'BEGIN {
+        for (c = 0; c < 10; c++) {
+            print "State: " c (c == 9 ? " {0}" : "")
+            for (d = 0; d < 10; d++) if (10 * c + d < n) print "[t] " d "\n[0 | !0] " d
+        }
+    }'
+}
+spread 5 4 5 >next.20
+spread 5 4 2 >next.23
+hoa 10 0 3 "$(between 100)"$'\n' >edges.100
+hoa 10 0 3 "$(between 87)"$'\n' >edges.87
+most_edges=$(awk 'BEGIN {
+    print "1 50 2000 0 7\nvertex accepting owner"
+    for (v = 0; v < 50; v++) print v, v % 10 == 9, v % 7
+    print "from to"
+    for (v = 0; v < 50; v++) for (w = 0; w < 40; w++) print v, w
+}')
+build_of '20 × 100 = 2,000 edges' "$names$most_edges"$'\n' next.20 edges.100 7
+build_of '23 × 87 = 2,001 edges' $'refused 21\n' next.23 edges.87 7
+
+# Each mode leads to the next one, and the last to the first.
+ring() { # MODES FLAGS
+    printf '%s1 %d %d %d\nname\n' "$modes" "$1" $(($1 - 1)) "$2"
+    awk -v m="$1" 'BEGIN {
+        for (q = 0; q < m; q++) printf "%016d\n", q
+        print "mode care value next"
+        for (q = 0; q < m; q++) print q, 0, 0, (q + 1) % m
+    }'
+}
+# Every state of the claim leads to state 0, so of each mode only that one is reached, and of the last mode state 14 too.
+ring 32 8 >ring.32
+most_vertices=$(awk 'BEGIN {
+    print "1 480 480 479 16\nvertex accepting owner"
+    for (v = 0; v < 480; v++) print v, v % 15 % 2, v % 16
+    print "from to"
+    for (v = 0; v < 480; v++) print v, (int(v / 15) + 1) % 32 * 15
+}')
+in_reach=$(awk 'BEGIN { for (q = 0; q < 32; q++) print q * 15, 0; print 479, 0 }')$'\n'
+most_reached=$answers$'1 empty 0 0 33\nvertex distance\n'$in_reach
+build_of '32 × 15 = 480 vertices' "$names$most_vertices"$'\n' ring.32 states.15 16
+"$programs/casebuild" ring.32 states.15 16 >ring.case
+find_in 'a case of 480 vertices' "$most_reached" ring.case
+
+build_of 'a claim of 16,384 bytes' "${names}1 4 10 0 1"$'\n'"$marks"$'0 1 0\n1 0 0\n2 1 0\n3 0 0
+from to\n0 1\n0 2\n0 3\n1 1\n1 3\n2 1\n2 2\n2 3\n3 1\n3 3\n' duo spaced.16384 1
+
+# ---- loopsteps: what is listed
+
+lasso_of() { # STEM CYCLE EDGE...: an answer on standard output
+    printf '%s1 lasso %d %d 0\nedge\n' "$answers" "$1" "$2"
+    printf '%d\n' "${@:3}"
+}
+file duo.case "$built_2"
+file duo.answer "$answers"$'1 lasso 1 1 0\nedge\n1\n4\n'
+find_in 'the case of an example' "$answers"$'1 lasso 1 1 0\nedge\n1\n4\n' duo.case
+duo_steps=$'Hold watch\nHold 1\n'
+steps_of 'an example' "$duo_steps" duo watch duo.answer
+lasso_of 3 2 0 0 1 4 4 >edited
+steps_of 'edges that come again' $'Hold watch\nHold watch\nHold watch\nHold 1\nHold 1\n' duo watch edited
+lasso_of 2 2 2 9 10 5 >edited
+steps_of 'a lasso by other modes' $'Hold watch\nClimb watch\nClimb 1\nHold 1\n' duo watch edited
+lasso_of 1 3 7 0 3 6 >edited
+steps_of 'starts that are not 0' $'C wait\nA on\nB on\nC on\n' trio waiting edited
+
+# From accepting states the claim goes on to one that is not, and stays there.
+hoa 2 0 2 $'State: 0 {0} [!1] 1\nState: 1 [t] 1\n' >passing
+passed=$answers$'1 empty 0 0 3\nvertex distance\n0 0\n1 -1\n3 -1\n'
+file passing.answer "$passed"
+build_of 'a case without a lasso' "${names}1 4 8 0 2"$'\n'"$marks"$'0 1 0\n1 0 1\n2 1 0\n3 0 1
+from to\n0 1\n0 3\n1 1\n1 3\n2 1\n2 3\n3 1\n3 3\n' duo passing 2
+"$programs/casebuild" duo passing 2 >passing.case
+find_in 'the same' "$passed" passing.case
+steps_of 'an empty that passes' '' duo passing passing.answer
+file edited "$answers"$'1 empty 0 0 3\nvertex distance\n0 500\n1 -500\n3 -500\n'
+steps_of 'numbers of another tool' '' duo passing edited
+file most.reached "$most_reached"
+steps_of 'an empty of 480 vertices' '' ring.32 states.15 most.reached
+
+by_state() { # NAME OUTPUT STATE: what is listed of a, and of a claim of one state with this between its number and its mark
+    hoa 1 0 1 "State: 0 $3 {0} [t] 0"$'\n' >stated
+    steps_of "$1" "$2" one stated a3
+}
+long_name=$(printf '%032d' 7)
+by_state 'no name' $'a 0\n' ''
+by_state 'an empty name' $'a \n' '""'
+by_state 'a name as stored' $'a a\\"b c\\\\\n' '"a\"b c\\"'
+by_state 'a name of two spaces' $'a   \n' '"  "'
+by_state 'a name of a tab, a carriage return and a byte above 127' $'a \t\r\xff\n' $'"\t\r\xff"'
+by_state 'a name of 32 bytes' "a $long_name"$'\n' "\"$long_name\""
+by_state 'a name of 33 bytes' $'refused 15\n' "\"0$long_name\""
+hoa 1 0 1 $'State: 0 "0#0" {0} [t] 0\n' | tr '#' '\0' >stated
+seen() { "$@" | tr '\0' '#'; }
+trial 'loopsteps, a name with a zero byte' $'a 0#0\n' '' seen "$programs/loopsteps" one stated a3
+
+numbered=$(awk 'BEGIN { for (c = 0; c < 15; c++) print "State: " c (c == 14 ? " {0}" : "") " [t] " (c + 1) % 15 }')
+hoa 15 0 1 "$numbered"$'\n' >numbers
+lasso_of 0 15 {0..14} >edited
+steps_of '15 states without names' "$(printf 'a %d\n' {0..14})"$'\n' one numbers edited
+ring 1 1 >wide
+hoa 1 0 1 "State: 0 \"$long_name\" {0} [t] 0"$'\n' >stated
+{ printf '%s1 lasso 500 500 0\nedge\n' "$answers"; same 1000 0; } >edited
+steps_of '50,000 bytes' "$(same 1000 "$(printf '%016d' 0) $long_name")"$'\n' wide stated edited
+{ printf '%s1 lasso 501 500 0\nedge\n' "$answers"; same 1001 0; } >edited
+steps_of '1,001 edges' $'refused 12\n' wide stated edited
+lasso_of 0 2 9 360 >edited
+steps_of '2,000 edges' $'M0 0\nM0 9\n' next.20 edges.100 edited
+
+# ---- casebuild and loopsteps: the examples, as a dealer uses them
+
+photo=$root/examples/photo.chart gusts=$root/examples/claim-gusts-no-photo.hoa
+photo_answer=$answers$'1 lasso 1 2 0\nedge\n2\n10\n5\n'
+photo_steps=$'Hold watch\nClimb after calm\nHold after wind\n'
+build_and_find() { "$programs/casebuild" "$@" | "$programs/loopfind"; }
+build_of 'the example of docs/FORMATS.md' "$(cat "$root/examples/photo-gusts.case")"$'\n' "$photo" "$gusts" 4
+for workers in {1..16}; do
+    trial "casebuild and loopfind, $workers workers" "$photo_answer" '' build_and_find "$photo" "$gusts" "$workers"
+done
+file photo.answer "$photo_answer"
+steps_of 'the example of docs/FORMATS.md' "$photo_steps" "$photo" "$gusts" photo.answer
+trial 'examples, the answer of a chart and a claim' "$photo_answer" '' cat "$root/examples/photo-gusts.answer"
+trial 'examples, the steps of a chart and a claim' "$photo_steps" '' cat "$root/examples/photo-gusts.steps"
+
+# ---- casebuild and loopsteps: refusals, and which of two goes first
+
+# No case is built, nor are steps listed whatever the answer is; workers out of range go before all of it.
+neither() { # NAME OUTPUT CHART CLAIM
+    local answer workers
+    build_of "$1" "$2" "$3" "$4" 1
+    for workers in 0 17; do build_of "$1, and $workers workers" $'refused 5\n' "$3" "$4" "$workers"; done
+    for answer in torn.0 answer.long answer.newer answer.false; do
+        steps_of "$1, and $answer" "$2" "$3" "$4" "$answer"
+    done
+}
+{ cat duo.answer; head -c 65537 /dev/zero; } | head -c 65537 >answer.long
+sed 's/^1 lasso/2 lasso/' duo.answer >answer.newer
+sed 's/^4$/5/' duo.answer >answer.false
+
+duo_rules=$'0 1 1 1\n0 1 0 0\n1 1 0 0\n'
+file duo.gap "$duo$duo_rules"$'1 3 1 1\n'
+file duo.overlap "$duo$duo_rules"$'1 1 1 1\n1 3 2 1\n'
+file duo.faulty "$duo$duo_rules"$'1 1 1 2\n'
+duo_gap=$'refused 18\nmode 1\nflags 3\n' duo_overlap=$'refused 19\nmode 1\nflags 2\n'
+hoa 1 0 3 $'State: 0 [t] 0\n' >three.flags
+hoa 1 0 1 $'State: 0 [t] 0\n' >one.flag
+file no.flag 'HOA: v1 States: 1 Start: 0 Acceptance: 1 Inf(0) --BODY-- State: 0 [t] 0 --END--'
+head -n 9 watch >claim.15
+{ head -n 9 watch; echo '/* */'; } >claim.16
+for claim in watch torn.0 claim.15 claim.16 three.flags; do
+    neither "a fault in the chart, the claim $claim" "$faulty" duo.faulty "$claim"
+    neither "no rule in the chart, the claim $claim" "$duo_gap" duo.gap "$claim"
+    neither "two rules in the chart, the claim $claim" "$duo_overlap" duo.overlap "$claim"
+done
+neither 'an empty chart and an empty claim' "$faulty" torn.0 torn.0
+neither 'the two files swapped' "$faulty" watch duo
+neither 'an empty claim' $'refused 14\n' duo torn.0
+neither 'a chart for the claim' $'refused 14\n' duo duo
+neither 'a torn claim' $'refused 15\n' duo claim.15
+neither 'a claim with a comment' $'refused 16\n' duo claim.16
+{ cat claim.16; echo 'State: 9'; } >claim.16.15
+{ cat claim.15; echo 'State: 9 /* */'; } >claim.15.16
+neither 'a comment, and then a fault' $'refused 16\n' duo claim.16.15
+neither 'a fault, and then a comment' $'refused 15\n' duo claim.15.16
+for claim in no.flag one.flag three.flags; do neither "2 flags, the claim $claim" $'refused 20\n' duo "$claim"; done
+neither '3 flags, and a claim for 2' $'refused 20\n' chart watch
+head -n -1 three.flags >edited
+neither '2 flags, and a torn claim for 3' $'refused 15\n' duo edited
+sed 's/^HOA: v1/& Alias: @a t/' three.flags >edited
+neither '2 flags, and a claim for 3 with an alias' $'refused 16\n' duo edited
+
+neither '2,001 edges' $'refused 21\n' next.23 edges.87
+head -n -1 next.23 >edited
+neither '2,001 edges, and no rule' $'refused 18\nmode 4\nflags 7\n' edited edges.87
+{ cat next.23; echo 3 7 6 0; } >edited
+neither '2,001 edges, and two rules' $'refused 19\nmode 3\nflags 6\n' edited edges.87
+{ cat next.23; echo 3 7 6 5; } >edited
+neither '2,001 edges, and a fault in the chart' "$faulty" edited edges.87
+sed 's/^HOA:/HOA/' edges.87 >edited
+neither '2,001 edges, and no claim' $'refused 14\n' next.23 edited
+head -n -1 edges.87 >edited
+neither '2,001 edges, and a torn claim' $'refused 15\n' next.23 edited
+{ cat edges.87; echo '/* */'; } >edited
+neither '2,001 edges, and a comment' $'refused 16\n' next.23 edited
+hoa 10 0 4 "$(between 87)"$'\n' >edited
+neither '2,001 edges, and a flag too few' $'refused 20\n' next.23 edited
+
+neither 'a claim of 16,385 bytes' $'refused 15\n' duo spaced.16385
+{ cat claim; head -c 1000000 /dev/zero | tr '\0' ' '; } >spaced.1000000
+neither 'a claim of a million bytes' $'refused 15\n' duo spaced.1000000
+neither 'a million bytes that are no claim' $'refused 14\n' duo long.1000000
+{ cat duo; same 8200 '1 0 0 0'; } | head -c 65537 >edited
+neither 'a chart of 65,537 bytes' "$faulty" edited watch
+neither 'a chart of a million bytes' "$faulty" long.1000000 watch
+
+# ---- loopsteps: answers that do not pass
+
+answer_of() { # NAME REFUSAL: an answer, in the file edited, to the case of duo and watch
+    steps_of "$1" "refused $2"$'\n' duo watch edited
+}
+steps_of 'an empty answer' $'refused 12\n' duo watch torn.0
+steps_of '65,537 bytes' $'refused 1\n' duo watch answer.long
+steps_of 'a newer version' $'refused 3\n' duo watch answer.newer
+steps_of 'a cycle that does not come back' $'refused 13\n' duo watch answer.false
+sed 's/^1 lasso/2 lasso/' answer.long >edited
+answer_of '65,537 bytes of a newer version' 1
+head -c 65536 answer.long >edited
+answer_of '65,536 bytes' 12
+sed 's/^1 lasso/2 lasso/' answer.false >edited
+answer_of 'a newer version, and a cycle that does not come back' 3
+sed 's/lasso/loop/' answer.newer >edited
+answer_of 'a newer version, and another word' 3
+sed 1s/version/Version/ answer.newer >edited
+answer_of 'a newer version, and other names' 12
+sed 's/^2 lasso/02 lasso/' answer.newer >edited
+answer_of 'a version that is no number' 12
+{ cat answer.false; echo; } >edited
+answer_of 'a cycle that does not come back, and an empty line' 12
+head -c -1 duo.answer >edited
+answer_of 'a torn answer' 12
+sed 's/$/\r/' duo.answer >edited
+answer_of 'carriage returns' 12
+cp duo.case edited
+answer_of 'the case for the answer' 12
+lasso_of 1 1 1 12 >edited
+answer_of 'an edge that is not there' 13
+lasso_of 1 1 4 4 >edited
+answer_of 'a walk from elsewhere' 13
+lasso_of 1 1 0 0 >edited
+answer_of 'a cycle of a state that is not accepting' 13
+file edited "$answers"$'1 empty 0 0 4\nvertex distance\n0 0\n1 0\n2 0\n3 0\n'
+answer_of 'an empty where there is a lasso' 13
+steps_of 'an empty that leaves a vertex out' $'refused 13\n' duo passing a2
+steps_of 'the answer to another chart' $'refused 13\n' duo passing duo.answer
+
+# ---- casebuild and loopsteps: how they are called
+
+usage=$'usage: casebuild CHART CLAIM WORKERS\n'
+build_fails 'no argument' "$usage"
+build_fails 'two arguments' "$usage" duo watch
+build_fails 'four arguments' "$usage" duo watch 1 1
+for workers in '' x 01 00 1x x1 +1 -1 ' 1' '1 ' 1.0 1000000000 4294967297 18446744073709551617 "$(printf '%05000d' 1)"; do
+    build_fails "the workers '${workers:0:20}'" "$usage" duo watch "$workers"
+    build_fails "the workers '${workers:0:20}', and no files" "$usage" missing missing "$workers"
+done
+for workers in 0 17 100 257 65537 999999999; do build_of "$workers workers" $'refused 5\n' duo watch "$workers"; done
+usage=$'usage: loopsteps CHART CLAIM ANSWER\n'
+steps_fail 'no argument' "$usage"
+steps_fail 'two arguments' "$usage" duo watch
+steps_fail 'four arguments' "$usage" duo watch duo.answer duo.answer
+
+too_long=$(printf '%05000d' 0)
+both_fail() { # NAME ERRORS CHART CLAIM
+    build_fails "$1" "$2" "$3" "$4" 1
+    steps_fail "$1" "$2" "$3" "$4" duo.answer
+}
+both_fail 'no such chart' $'missing: No such file or directory\n' missing watch
+both_fail 'no such claim' $'missing: No such file or directory\n' duo missing
+both_fail 'neither chart nor claim' $'missing.chart: No such file or directory\n' missing.chart missing.claim
+both_fail 'an empty chart, and no such claim' $'missing: No such file or directory\n' torn.0 missing
+both_fail 'a folder for the chart' $'folder: Is a directory\n' folder watch
+both_fail 'a folder for the claim' $'folder: Is a directory\n' duo folder
+both_fail 'a name without letters' $': No such file or directory\n' '' watch
+both_fail 'a name too long' $'file name: File name too long\n' duo "$too_long"
+both_fail 'a file below a file' $'duo/duo: Not a directory\n' duo/duo watch
+both_fail 'no file named -' $'-: No such file or directory\n' - watch
+steps_fail 'no such answer' $'missing: No such file or directory\n' duo watch missing
+steps_fail 'no such claim and answer' $'missing.claim: No such file or directory\n' duo missing.claim missing.answer
+steps_fail 'an empty chart, and no such answer' $'missing: No such file or directory\n' torn.0 watch missing
+steps_fail 'a folder for the answer' $'folder: Is a directory\n' duo watch folder
+steps_fail 'a name too long for the answer' $'file name: File name too long\n' duo watch "$too_long"
+no_room=$'standard output: No space left on device\n'
+trial 'casebuild, no room' '' "$no_room" into_full "$programs/casebuild" duo watch 2
+trial 'casebuild, refused and no room' '' "$no_room" into_full "$programs/casebuild" duo.gap watch 2
+trial 'loopsteps, no room' '' "$no_room" into_full "$programs/loopsteps" duo watch duo.answer
+trial 'loopsteps, refused and no room' '' "$no_room" into_full "$programs/loopsteps" duo watch torn.0
+trial 'loopsteps, no room, and nothing to print' '' '' into_full "$programs/loopsteps" duo passing passing.answer
