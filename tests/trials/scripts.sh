@@ -14,7 +14,7 @@ rule() { awk -F '\t' -v number="$1" '$1 == number { print $3 }' "$root/share/rez
 # ---- a result
 
 find=$scripts/loopfind check=$scripts/loopcheck list=$scripts/looplist claims=$scripts/claimcheck
-charts=$scripts/chartcheck
+charts=$scripts/chartcheck build=$scripts/casebuild steps=$scripts/loopsteps
 input=k1
 ends 0 'bin/loopfind' "$lasso_1" '' "$find"
 ends 0 'bin/loopfind -' "$lasso_1" '' "$find" -
@@ -28,6 +28,12 @@ input=claim
 ends 0 'bin/claimcheck -' "$shown_claim" '' "$claims" -
 input=/dev/null
 ends 0 'bin/chartcheck, a file' $'pass\n' '' "$charts" chart
+ends 0 'bin/casebuild' "$built_2" '' "$build" duo watch 2
+ends 0 'bin/casebuild, 2,000 edges' "$names$most_edges"$'\n' '' "$build" next.20 edges.100 7
+ends 0 'bin/loopsteps' "$duo_steps" '' "$steps" duo watch duo.answer
+ends 0 'bin/loopsteps, an empty that passes' '' '' "$steps" duo passing passing.answer
+hoa 1 0 1 $'State: 0 "" {0} [t] 0\n' >stated
+ends 0 'bin/loopsteps, an empty name' $'a \n' '' "$steps" one stated a3
 
 # ---- a refusal: which file, and the rule in plain words
 
@@ -65,6 +71,52 @@ overlap_words=$'mode climb, flags 011: more than one rule\nchartcheck: chart: a 
 ends 1 'bin/chartcheck, a fault of the text' "$faulty" "chartcheck: chart: $(rule 17)"$'\n' "$charts" torn.0
 ends 1 'bin/chartcheck, no rule' "$gap" "$gap_words" "$charts" chart_gap
 ends 1 'bin/chartcheck, two rules' "$overlap" "$overlap_words" "$charts" chart_overlap
+refused_by() { # PROGRAM NAME OUTPUT WHOSE FILE...: by the number in the output
+    local number=${3#refused }
+    ends 1 "bin/$1, $2" "$3" "$1: $4: $(rule "${number%%$'\n'*}")"$'\n' "$scripts/$1" "${@:5}"
+}
+for workers in 0 17 999999999; do refused_by casebuild "$workers workers" $'refused 5\n' workers duo watch "$workers"; done
+refused_by casebuild '0 workers and an empty chart' $'refused 5\n' workers torn.0 torn.0 0
+both_refused() { # NAME OUTPUT WHOSE CHART CLAIM: by both programs
+    refused_by casebuild "$1" "$2" "$3" "$4" "$5" 2
+    refused_by loopsteps "$1" "$2" "$3" "$4" "$5" duo.answer
+}
+both_refused 'a fault in the chart' "$faulty" chart duo.faulty watch
+both_refused 'no rule' "$duo_gap" chart duo.gap watch
+both_refused 'two rules' "$duo_overlap" chart duo.overlap watch
+both_refused 'no rule, and an empty claim' "$duo_gap" chart duo.gap torn.0
+both_refused 'no claim' $'refused 14\n' claim duo torn.0
+both_refused 'a torn claim' $'refused 15\n' claim duo claim.15
+both_refused 'a claim with a comment' $'refused 16\n' claim duo claim.16
+both_refused 'a claim for other flags' $'refused 20\n' 'chart and claim' duo three.flags
+both_refused '2,001 edges' $'refused 21\n' 'chart and claim' next.23 edges.87
+refused_by loopsteps 'a long answer' $'refused 1\n' answer duo watch answer.long
+refused_by loopsteps 'a newer answer' $'refused 3\n' answer duo watch answer.newer
+refused_by loopsteps 'an answer without a byte' $'refused 12\n' answer duo watch torn.0
+refused_by loopsteps 'a false answer' $'refused 13\n' answer duo watch answer.false
+
+# Listings that begin as a refusal does, since the first mode is named so, and refusals of such charts. The last listing is
+# a refusal to the byte.
+file like "${modes}1 1 0 1"$'\nname\nrefused\n'"$rules"$'0 0 0 0\n'
+for state in '' '"12"' '"13"' '"20"' '"x"'; do
+    hoa 1 0 1 "State: 0 $state {0} [t] 0"$'\n' >stated
+    state=${state//\"/}
+    ends 0 "bin/loopsteps, the step 'refused ${state:-0}'" "refused ${state:-0}"$'\n' '' "$steps" like stated a3
+done
+ends 0 'bin/casebuild, a mode named refused' "$(cat k3)"$'\n' '' "$build" like stated 1
+hoa 1 0 1 $'State: 0 [t] 0\n' >stated
+file like.empty "$source_only"
+ends 0 'bin/loopsteps, a mode named refused, and no lasso' '' '' "$steps" like stated like.empty
+refused_by loopsteps 'a mode named refused, and a false answer' $'refused 13\n' answer like stated a3
+refused_by loopsteps 'a mode named refused, and no answer' $'refused 12\n' answer like stated torn.0
+refused_by loopsteps 'a mode named refused, and no claim' $'refused 14\n' claim like torn.0 a3
+file like.pair "${modes}1 3 0 1"$'\nname\nrefused\nmode\nflags\n'"$rules"$'0 0 0 1\n1 0 0 2\n2 0 0 0\n'
+hoa 3 0 1 $'State: 0 "18" {0} [t] 1\nState: 1 [t] 2\nState: 2 "0" [t] 0\n' >like.claim
+lasso_of 0 3 0 4 8 >like.answer
+like_pair=$'refused 18\nmode 1\nflags 0\n'
+ends 0 'bin/loopsteps, the steps of a pair' "$like_pair" '' "$steps" like.pair like.claim like.answer
+grep -v '^1 0' like.pair >like.gap
+refused_by loopsteps 'the same pair without a rule' "$like_pair" chart like.gap like.claim like.answer
 
 # The table has each refusal once, in order, and docs/REFUSALS.md has a row for each.
 in_table() { cut -f 1 "$root/share/rezkundo/refusals"; }
@@ -92,6 +144,32 @@ ends 2 'bin/chartcheck, a name without letters' '' $': No such file or directory
 ends 2 'bin/chartcheck, two files' '' $'usage: chartcheck [CHART]\n' "$charts" chart chart
 ends 2 'bin/chartcheck, no room' '' "chartcheck$unwritten" into_full "$charts" chart
 ends 2 'bin/chartcheck, a bad pair and no room' '' "${gap_words%%$'\n'*}"$'\n'"chartcheck$unwritten" into_full "$charts" chart_gap
+for name in casebuild loopsteps; do
+    last=2
+    usage=$'usage: casebuild CHART CLAIM WORKERS\n'
+    all=two
+    if [ "$name" = loopsteps ]; then last=duo.answer usage=$'usage: loopsteps CHART CLAIM ANSWER\n' all=three; fi
+    ends 2 "bin/$name, no argument" '' "$usage" "$scripts/$name"
+    ends 2 "bin/$name, two arguments" '' "$usage" "$scripts/$name" duo watch
+    ends 2 "bin/$name, four arguments" '' "$usage" "$scripts/$name" duo watch "$last" "$last"
+    ends 2 "bin/$name, no such chart" '' $'missing: No such file or directory\n' "$scripts/$name" missing watch "$last"
+    ends 2 "bin/$name, no such claim" '' $'missing: No such file or directory\n' "$scripts/$name" duo missing "$last"
+    ends 2 "bin/$name, a folder" '' $'folder: Is a directory\n' "$scripts/$name" folder watch "$last"
+    ends 2 "bin/$name, a name without letters" '' $': No such file or directory\n' "$scripts/$name" '' watch "$last"
+    ends 2 "bin/$name, - twice" '' "$name: only one of the $all files can be standard input"$'\n' "$scripts/$name" - - "$last"
+    ends 2 "bin/$name, no room" '' "$name$unwritten" into_full "$scripts/$name" duo watch "$last"
+    ends 2 "bin/$name, refused and no room" '' "$name$unwritten" into_full "$scripts/$name" duo.gap watch "$last"
+    ends 2 "bin/$name, output closed" '' "$name$unwritten" closed "$scripts/$name" duo watch "$last"
+done
+for workers in '' x 01 1000000000 -; do
+    ends 2 "bin/casebuild, the workers '$workers'" '' $'usage: casebuild CHART CLAIM WORKERS\n' "$build" duo watch "$workers"
+done
+ends 2 'bin/loopsteps, no such answer' '' $'missing: No such file or directory\n' "$steps" duo watch missing
+ends 2 'bin/loopsteps, no such answer, and no lasso' '' $'missing: No such file or directory\n' "$steps" duo passing missing
+ends 2 'bin/loopsteps, - for chart and answer' '' $'loopsteps: only one of the three files can be standard input\n' "$steps" - watch -
+ends 2 'bin/loopsteps, - for claim and answer' '' $'loopsteps: only one of the three files can be standard input\n' "$steps" duo - -
+ends 2 'bin/loopsteps, a mode named refused, and no room' '' "loopsteps$unwritten" into_full "$steps" like.pair like.claim like.answer
+ends 0 'bin/loopsteps, no room, and nothing to print' '' '' into_full "$steps" duo passing passing.answer
 ends 2 'bin/loopcheck, no such file' '' $'missing: No such file or directory\n' "$check" k1 missing
 ends 2 'bin/loopcheck, one file' '' $'usage: loopcheck CASE ANSWER\n' "$check" k1
 ends 2 'bin/loopcheck, - twice' '' $'loopcheck: only one of the two files can be standard input\n' "$check" - -
@@ -139,6 +217,33 @@ ends 1 'bin/chartcheck, no byte' "$faulty" "chartcheck: chart: $(rule 17)"$'\n' 
 cp chart_gap ./-
 ends 0 'bin/chartcheck, - and a file of that name' $'pass\n' '' piped "$charts" -
 ends 1 'bin/chartcheck, a file of that name' "$gap" "$gap_words" "$charts" ./-
+input=duo
+ends 0 'bin/casebuild, - for the chart' "$built_2" '' "$build" - watch 2
+ends 0 'bin/loopsteps, - for the chart' "$duo_steps" '' "$steps" - watch duo.answer
+refused_by casebuild 'a claim for other flags, the chart by -' $'refused 20\n' 'chart and claim' - three.flags 2
+input=watch
+ends 0 'bin/casebuild, - for the claim' "$built_2" '' "$build" duo - 2
+ends 0 'bin/loopsteps, - for the claim' "$duo_steps" '' "$steps" duo - duo.answer
+input=claim.16
+refused_by casebuild 'a claim with a comment, by -' $'refused 16\n' claim duo - 2
+input=duo.answer
+ends 0 'bin/loopsteps, - for the answer' "$duo_steps" '' "$steps" duo watch -
+input=passing.answer
+ends 0 'bin/loopsteps, an empty that passes, by -' '' '' "$steps" duo passing -
+input=answer.false
+refused_by loopsteps 'a false answer by -' $'refused 13\n' answer duo watch -
+input=like.pair
+ends 0 'bin/loopsteps, the steps of a pair, the chart by -' "$like_pair" '' "$steps" - like.claim like.answer
+input=like.claim
+ends 0 'bin/loopsteps, the steps of a pair, the claim by -' "$like_pair" '' "$steps" like.pair - like.answer
+input=like.answer
+ends 0 'bin/loopsteps, the steps of a pair, the answer by -' "$like_pair" '' "$steps" like.pair like.claim -
+input=like.gap
+refused_by loopsteps 'the same pair without a rule, by -' "$like_pair" chart - like.claim like.answer
+input=/dev/null
+refused_by loopsteps 'no byte by -' $'refused 12\n' answer duo watch -
+cp like.pair ./-x
+ends 0 'bin/loopsteps, names that begin with -' "$like_pair" '' "$steps" -x like.claim like.answer
 cp k1 ./-:k1
 ends 0 'bin/loopcheck, a name that begins -:' $'pass lasso\n' '' on_terminal k1 "$check" -:k1 a1
 input=folder
@@ -146,6 +251,8 @@ ends 2 'bin/loopcheck, a folder by -' '' $'head: error reading \'standard input\
 loopcheck: standard input was not read\n' "$check" - a1
 ends 2 'bin/chartcheck, a folder by standard input' '' $'head: error reading \'standard input\': Is a directory
 chartcheck: standard input was not read\n' "$charts"
+ends 2 'bin/loopsteps, a folder by -' '' $'head: error reading \'standard input\': Is a directory
+loopsteps: standard input was not read\n' "$steps" duo watch -
 input=/dev/null
 
 hint=$': reads from the terminal; end the file by Ctrl-D on a line of its own\n'
@@ -154,6 +261,9 @@ ends 0 'bin/loopcheck, from a terminal' $'pass lasso\n' "loopcheck$hint" on_term
 ends 0 'bin/loopfind, a file and a terminal' "$lasso_1" '' on_terminal torn.0 "$find" k1
 ends 0 'bin/chartcheck, from a terminal' $'pass\n' "chartcheck$hint" on_terminal chart "$charts"
 ends 0 'bin/chartcheck, a file and a terminal' $'pass\n' '' on_terminal torn.0 "$charts" chart
+ends 0 'bin/casebuild, from a terminal' "$built_2" "casebuild$hint" on_terminal watch "$build" duo - 2
+ends 0 'bin/loopsteps, from a terminal' "$duo_steps" "loopsteps$hint" on_terminal duo.answer "$steps" duo watch -
+ends 0 'bin/loopsteps, files and a terminal' "$duo_steps" '' on_terminal torn.0 "$steps" duo watch duo.answer
 
 # ---- the one door
 
@@ -166,6 +276,8 @@ ends 0 'bin/rezkundo' "\
   rezkundo draw   draws a mission, and a finding in it, as Graphviz text
   rezkundo claim  judges a claim in the Hanoi format, and prints its states
   rezkundo chart  checks a chart of modes for gaps and overlaps in its rules
+  rezkundo build  builds the case file of a chart and a claim
+  rezkundo steps  names the steps of an answer by modes and claim states
 " '' listed "$door"
 ends 0 'bin/rezkundo find' "$lasso_1" '' "$door" find k1
 ends 0 'bin/rezkundo check' $'pass lasso\n' '' "$door" check k1 a1
@@ -173,7 +285,14 @@ ends 0 'bin/rezkundo list' "$done_1" '' "$door" list k1 whole
 ends 0 'bin/rezkundo claim' "$shown_claim" '' "$door" claim claim
 ends 0 'bin/rezkundo chart' $'pass\n' '' "$door" chart chart
 ends 1 'bin/rezkundo chart, no rule' "$gap" "$gap_words" "$door" chart chart_gap
-ends 2 'bin/rezkundo, another word' '' $'usage: rezkundo [find | check | list | draw | claim | chart] [ARGUMENT]...\n' "$door" seek k1
+ends 0 'bin/rezkundo build' "$built_2" '' "$door" build duo watch 2
+ends 1 'bin/rezkundo build, no rule' "$duo_gap" "casebuild: chart: $(rule 18)"$'\n' "$door" build duo.gap watch 2
+ends 2 'bin/rezkundo build, no argument' '' $'usage: casebuild CHART CLAIM WORKERS\n' "$door" build
+ends 0 'bin/rezkundo steps' "$duo_steps" '' "$door" steps duo watch duo.answer
+ends 1 'bin/rezkundo steps, a false answer' $'refused 13\n' "loopsteps: answer: $(rule 13)"$'\n' "$door" steps duo watch answer.false
+ends 2 'bin/rezkundo steps, no argument' '' $'usage: loopsteps CHART CLAIM ANSWER\n' "$door" steps
+words='find | check | list | draw | claim | chart | build | steps'
+ends 2 'bin/rezkundo, another word' '' "usage: rezkundo [$words] [ARGUMENT]..."$'\n' "$door" seek k1
 
 # ---- help and version, from a tree in which nothing is built and on a machine without the kit
 
@@ -188,7 +307,7 @@ rm -f without_rt/rt
 kitless() { PATH=$work/without_rt "$@"; }
 kit=$(rt version)
 about=$(head -n 1 "$root/share/rezkundo/version")$'\n'$(tail -n +2 "$root/share/rezkundo/version")$'\n'kit:
-for name in loopfind loopcheck looplist loopdraw claimcheck chartcheck; do
+for name in loopfind loopcheck looplist loopdraw claimcheck chartcheck casebuild loopsteps; do
     trial "$name --help" "$(cat "$root/share/rezkundo/help/$name")"$'\n' '' kitless "bare tree/bin/$name" --help
     trial "$name --version" "$name (Rezkundo) $about none on this machine"$'\n' '' kitless "bare tree/bin/$name" --version
     trial "$name --version, the kit" "$name (Rezkundo) $about $kit"$'\n' '' "bare tree/bin/$name" --version
@@ -235,3 +354,21 @@ ends 1 'examples, a chart with a gap' $'refused 18\nmode 2\nflags 2\n' $'mode Su
     "$charts" "$survey-gap.chart"
 ends 1 'examples, a chart with an overlap' $'refused 19\nmode 2\nflags 5\n' $'mode Survey, flags 0101: more than one rule\n'"chartcheck: chart: $(rule 19)"$'\n' \
     "$charts" "$survey-overlap.chart"
+
+# README.md's commands for a dealer, just as they stand there, from a folder with a bin/ and an examples/; what it says that the
+# last one prints; and the files that they leave.
+in_readme() { # N: of the README's indented parts, the N-th from the one with casebuild on
+    awk -v n="$1" '
+        /^    bin\/casebuild / { found = 1 }
+        found && /^    / { if (!inside) part++; inside = 1; if (part == n) print substr($0, 5) }
+        !/^    / { inside = 0 }
+    ' "$root/README.md"
+}
+mkdir dealer
+ln -s "$scripts" dealer/bin
+ln -s "$root/examples" dealer/examples
+in_readme 1 >dealer/commands
+trial 'README.md, the steps' "$photo_steps" '' in_readme 2
+ends 0 'README.md, the commands' "$photo_steps" '' in_folder dealer sh -e commands
+trial 'README.md, the case' "$(cat "$root/examples/photo-gusts.case")"$'\n' '' cat dealer/case
+trial 'README.md, the answer' "$photo_answer" '' cat dealer/answer
