@@ -661,6 +661,14 @@ for claim in watch torn.0 claim.15 claim.16 three.flags; do
     neither "no rule in the chart, the claim $claim" "$duo_gap" duo.gap "$claim"
     neither "two rules in the chart, the claim $claim" "$duo_overlap" duo.overlap "$claim"
 done
+file edited "$duo$duo_rules"$'1 3 1 2\n'
+neither 'a fault, and no rule' "$faulty" edited watch
+file edited "$duo$duo_rules"$'1 1 1 1\n1 3 2 2\n'
+neither 'a fault, and two rules' "$faulty" edited watch
+file edited "$duo$duo_rules"$'0 3 3 0\n'
+neither 'two rules, and then none' $'refused 19\nmode 0\nflags 3\n' edited watch
+file edited "$duo$duo_rules"$'1 3 3 1\n1 3 2 1\n'
+neither 'none, and then two rules' $'refused 18\nmode 1\nflags 1\n' edited watch
 neither 'an empty chart and an empty claim' "$faulty" torn.0 torn.0
 neither 'the two files swapped' "$faulty" watch duo
 neither 'an empty claim' $'refused 14\n' duo torn.0
@@ -673,6 +681,8 @@ neither 'a comment, and then a fault' $'refused 16\n' duo claim.16.15
 neither 'a fault, and then a comment' $'refused 15\n' duo claim.15.16
 for claim in no.flag one.flag three.flags; do neither "2 flags, the claim $claim" $'refused 20\n' duo "$claim"; done
 neither '3 flags, and a claim for 2' $'refused 20\n' chart watch
+sed 's/^HOA:/HOA/' three.flags >edited
+neither '2 flags, and what is no claim for 3' $'refused 14\n' duo edited
 head -n -1 three.flags >edited
 neither '2 flags, and a torn claim for 3' $'refused 15\n' duo edited
 sed 's/^HOA: v1/& Alias: @a t/' three.flags >edited
