@@ -762,7 +762,10 @@ for workers in '' x 01 00 1x x1 +1 -1 ' 1' '1 ' 1.0 1000000000 4294967297 184467
     build_fails "the workers '${workers:0:20}'" "$usage" duo watch "$workers"
     build_fails "the workers '${workers:0:20}', and no files" "$usage" missing missing "$workers"
 done
-for workers in 0 17 100 257 65537 999999999; do build_of "$workers workers" $'refused 5\n' duo watch "$workers"; done
+for workers in 0 17 100 257 65537 999999999; do
+    build_of "$workers workers" $'refused 5\n' duo watch "$workers"
+    build_of "$workers workers, and no files" $'refused 5\n' missing missing "$workers"
+done
 usage=$'usage: loopsteps CHART CLAIM ANSWER\n'
 steps_fail 'no argument' "$usage"
 steps_fail 'two arguments' "$usage" duo watch

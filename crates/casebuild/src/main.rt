@@ -8,6 +8,7 @@ use casefile::Case;
 use desk::Filled;
 use model::Built;
 use product::build_case;
+use product::workers_right;
 use text::read::Number;
 
 // One byte more than a file may have, so that a longer one is seen to be too long.
@@ -49,7 +50,12 @@ fn build_from(chart: &[u8], workers: u32) {
     }
 }
 
+// "A worker count outside 01's range gets 5, before either file is read": with any files it is the same.
 fn build(workers: u32) {
+    if !workers_right(workers) {
+        print_built(&[], &[], workers);
+        return;
+    }
     let mut chart = [0u8; ENOUGH];
     if let Filled::Bytes(n) = desk::read_argument(CHART, &mut chart) {
         build_from(&chart[..n], workers);

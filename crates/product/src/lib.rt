@@ -48,7 +48,7 @@ fn written(n: usize) -> Built
 }
 
 // Whether a case file may have so many workers.
-fn workers_right(workers: u32) -> bool
+pub fn workers_right(workers: u32) -> bool
     ensures { λ r. ⌜ r ≡ workers-right workers ⌝ }
 {
     if workers < 1 {

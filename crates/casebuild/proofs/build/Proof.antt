@@ -5,6 +5,21 @@ use borrow.Author.Needs.{needs}
 use Rattle.casebuild.proofs.build.Statement.{statement}
 use Rattle.casebuild.proofs.build.Tie as tie
 
+workers-right-requires : tie.Need-workers-right-requires
+workers-right-requires c κs = search needs
+
+slice-aggregate-print-built : tie.Need-slice-aggregate-print-built
+slice-aggregate-print-built c = search needs
+
+slice-aggregate-print-built-2 : tie.Need-slice-aggregate-print-built-2
+slice-aggregate-print-built-2 c = search needs
+
+print-built-requires : tie.Need-print-built-requires
+print-built-requires c κs = search needs
+
+returns : tie.Need-returns
+returns c = search needs
+
 slice-aggregate-read-argument : tie.Need-slice-aggregate-read-argument
 slice-aggregate-read-argument c = search needs
 
@@ -26,16 +41,21 @@ build-from-requires c κs = search needs
 enum-told : tie.Need-enum-told
 enum-told c = search needs
 
-returns : tie.Need-returns
-returns c = search needs
-
 returns-2 : tie.Need-returns-2
 returns-2 c = search needs
+
+returns-3 : tie.Need-returns-3
+returns-3 c = search needs
 
 pub build-spec : {M : Type 1} → statement M
 build-spec =
     tie.close
     (tie.spec
+    workers-right-requires
+    slice-aggregate-print-built
+    slice-aggregate-print-built-2
+    print-built-requires
+    returns
     slice-aggregate-read-argument
     read-argument-requires
     enum-known-n
@@ -43,5 +63,5 @@ build-spec =
     slice-aggregate-build-from
     build-from-requires
     enum-told
-    returns
-    returns-2)
+    returns-2
+    returns-3)
