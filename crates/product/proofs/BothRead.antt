@@ -1,12 +1,12 @@
 -- A chart and a claim read into their tables, and what is returned where one of them is refused. Assumes nothing.
 use mathlib.Core.Path.{_≡_, refl, sym, ap, _∙_}
-use mathlib.Core.Bool.{cond}
+use mathlib.Core.Bool.{false, cond}
 use mathlib.Core.List.{List}
 use mathlib.Core.Logic.{_⊎_, inl, inr}
 use Prim.Native.Nat.{ℕ, _+_, _*_, _^_, _≤_, _<_}
 use native.Mathlib.Nat.{mul-le-mul, pow-le-pow-right}
 use native.Mathlib.Omega.{arith}
-use lib.Dec.{lit<}
+use lib.Dec.{eqb, lit<}
 use lib.ListN.{length, getD}
 use borrow.Author.Tests.{eq-eqb, ne-eqb}
 use Rattle.model.specs.CaseFile.{refuse, first-of}
@@ -59,16 +59,12 @@ module _ (bs cs : List ℕ) where
       by-none e = rw (eq-eqb (chart-says bs .refusal) 0 passes, eq-eqb (claim-refusal cs) 0 taken, eq-eqb (claim-in cs .propositions) (chart-in bs .flags) e) refl
 
 -- WHAT IS RETURNED: with 18 and 19 the pair, else none
-pub plain-says : (k : ℕ) → (k ≡ 0 → ⊥) → (k ≡ 18 → ⊥) → (k ≡ 19 → ⊥) → (c : Charted) (t o : List ℕ) → Built-says k c t (refused-by k) o o
+pub plain-says : (k : ℕ) → eqb k 0 ≡ false → names-pair k ≡ false → (c : Charted) (t o : List ℕ) → Built-says k c t (refused-by k) o o
+plain-says k n p c t o = record { refusal = refl; mode = rw p refl; combination = rw p refl; written = rw n refl; output = rw n refl }
+
+pub unpaired : (k : ℕ) → (k ≡ 18 → ⊥) → (k ≡ 19 → ⊥) → names-pair k ≡ false
 unfolding names-pair
-plain-says k n p q c t o =
-    record {
-      refusal = refl;
-      mode = rw (ne-eqb k 18 p, ne-eqb k 19 q) refl;
-      combination = rw (ne-eqb k 18 p, ne-eqb k 19 q) refl;
-      written = rw (ne-eqb k 0 n) refl;
-      output = rw (ne-eqb k 0 n) refl;
-    }
+unpaired k p q = rw (ne-eqb k 18 p, ne-eqb k 19 q) refl
 
 pair-says : (c : Charted) → Chart-definite c → (c .refusal ≡ 0 → ⊥) → (t o : List ℕ) → Built-says (c .refusal) c t (record { refusal = c .refusal; mode = c .mode; combination = c .combination; written = 0 }) o o
 unfolding names-pair
@@ -118,7 +114,7 @@ module _ (bs cs : List ℕ) {t follow : List ℕ} {r : Read} {x : D.Chart} (g : 
     in-claim : 14 ≤ claim-refusal cs → claim-refusal cs ≤ 16 → Both-refused bs cs (refused-by k)
     in-claim u v =
         let e : texts-refusal bs cs ≡ k = by-claim bs cs (read .passes) not-taken ∙ sym number in
-        record { fails = λ z. omega (arith, e, number); says = λ t o. rw e (plain-says k (λ z. omega (arith, number)) (λ z. omega (arith, number)) (λ z. omega (arith, number)) (chart-says bs) t o) }
+        record { fails = λ z. omega (arith, e, number); says = λ t o. rw e (plain-says k (ne-eqb k 0 (λ z. omega (arith, number))) (unpaired k (λ z. omega (arith, number)) (λ z. omega (arith, number))) (chart-says bs) t o) }
 
     pub claim-refused : Both-refused bs cs (refused-by k)
     unfolding Claims-definite
@@ -159,9 +155,10 @@ module _ (bs cs : List ℕ) {t follow : List ℕ} {r : Read} {x : D.Chart} (g : 
     first-is = ap (λ (y : Counts). y .start) (taken .counts)
 
     pub counts-refused : (c .propositions ≡ x .flags → ⊥) → Both-refused bs cs (refused-by 20)
+    unfolding names-pair
     counts-refused n =
         let k : texts-refusal bs cs ≡ 20 = by-counts bs cs (read .passes) (taken .number) (λ e. n (sym propositions-are ∙ e ∙ flags-are)) in
-        record { fails = λ z. omega (arith, k); says = λ t o. rw k (plain-says 20 (λ z. omega arith) (λ z. omega arith) (λ z. omega arith) (chart-says bs) t o) }
+        record { fails = λ z. omega (arith, k); says = λ t o. rw k (plain-says 20 refl refl (chart-says bs) t o) }
 
     sound : Chart-sound (chart-in bs)
     unfolding Charts-sound

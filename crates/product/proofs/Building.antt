@@ -87,13 +87,13 @@ workers-most p l = rw (le-leb 1 p l) refl
 
 module _ (bs cs : List ℕ) (p : ℕ) (o : List ℕ) where
   pub build-small : length o < least-case-output → Build-says bs cs p (refused-by 11) o o
-  unfolding Build-says build-refusal first-of refuse
-  build-small l = rw (lt-ltb (length o) least-case-output l) (plain-says 11 (λ z. omega arith) (λ z. omega arith) (λ z. omega arith) _ _ o)
+  unfolding Build-says build-refusal first-of refuse names-pair
+  build-small l = rw (lt-ltb (length o) least-case-output l) (plain-says 11 refl refl _ _ o)
 
   module _ (room : least-case-output ≤ length o) where
     pub build-workers : workers-right p ≡ false → Build-says bs cs p (refused-by 5) o o
-    unfolding Build-says build-refusal first-of refuse workers-right
-    build-workers e = rw (le-ltb (length o) least-case-output room, e) (plain-says 5 (λ z. omega arith) (λ z. omega arith) (λ z. omega arith) _ _ o)
+    unfolding Build-says build-refusal first-of refuse workers-right names-pair
+    build-workers e = rw (le-ltb (length o) least-case-output room, e) (plain-says 5 refl refl _ _ o)
 
     module _ (right : workers-right p ≡ true) where
       build-is : build-refusal bs cs p (length o) ≡ product-refusal bs cs
@@ -106,10 +106,10 @@ module _ (bs cs : List ℕ) (p : ℕ) (o : List ℕ) where
 
       module _ {z : Sizes} {follow cells froms tos : List ℕ} {r : Product} {o′ : List ℕ} (h : Both-held bs cs z follow cells) (s : Product-says z p follow cells r froms tos o o′) where
         pub build-many : r ≡ TooMany → Build-says bs cs p (refused-by 21) o o′
-        unfolding Build-says
+        unfolding Build-says names-pair
         build-many q =
             let x : Product-is (chart-in bs) (claim-in cs) p TooMany froms tos o o′ = rw q at (s .says (chart-in bs) (claim-in cs) (h .held)) in
-            rw (x .1, build-is, product-many bs cs (h .passes) (x .0)) (plain-says 21 (λ z. omega arith) (λ z. omega arith) (λ z. omega arith) _ _ o)
+            rw (x .1, build-is, product-many bs cs (h .passes) (x .0)) (plain-says 21 refl refl _ _ o)
 
         module _ {n : ℕ} (q : r ≡ Written n) where
           file : File-written (chart-in bs) (claim-in cs) p n froms tos o o′

@@ -7,7 +7,7 @@ use Prim.Native.Nat.{ℕ, zero, suc, _*_, _≤_, _<_}
 use native.Mathlib.Omega.{arith}
 use lib.ListN.{length, getD, take, drop}
 use lib.Seq.{take-append-seam, getD-take}
-use borrow.Author.Tests.{lt-ltb, le-ltb, eq-eqb}
+use borrow.Author.Tests.{ne-eqb, lt-ltb, le-ltb, eq-eqb}
 use Rattle.text.specs.Lines.{Line, lines, line-at, text}
 use Rattle.text.specs.Reading.{past-line, skip}
 use Rattle.text.specs.Writing.{Puts}
@@ -24,7 +24,7 @@ use Rattle.model.specs.Claim.{claim-in, Claim-sound}
 use Rattle.model.specs.Chart.{most-modes, chart-in, chart-right, Chart-sound}
 use Rattle.model.specs.Product.{product, chart-automaton, claim-automaton, graph-of, graph-in, built-case, product-refusal}
 use Rattle.model.specs.Steps.{listing, least-steps-output, steps-refusal}
-use Rattle.model.specs.BuiltEntry.{Steps-say}
+use Rattle.model.specs.BuiltEntry.{names-pair, Steps-say}
 use Rattle.model.specs.ProductPromise.{Steps-check, Steps-fit}
 use Rattle.model.specs.declared.Built.{Built}
 use Rattle.model.specs.declared.Checked.{Checked}
@@ -45,14 +45,14 @@ use Rattle.product.specs.Written.{File-written, Product-is, Product-says
 use Rattle.product.specs.declared.build.Sizes.{Sizes}
 use Rattle.product.specs.declared.build.Product.{Product}
 use Rattle.product.specs.declared.build.Product.the-variants.{Written, TooMany}
-use Rattle.product.proofs.BothRead.{plain-says}
+use Rattle.product.proofs.BothRead.{plain-says, unpaired}
 use Rattle.product.proofs.Listing.{edges-single, rows-listed}
 use Rattle.product.proofs.Building.{puts-says, done-says, product-refused, product-many, product-passes, case-short}
 
 module _ (bs cs ts o : List ℕ) where
   pub steps-small : length o < least-steps-output → Steps-say bs cs ts (refused-by 11) o o
-  unfolding Steps-say steps-refusal first-of refuse
-  steps-small l = rw (lt-ltb (length o) least-steps-output l) (plain-says 11 (λ z. omega arith) (λ z. omega arith) (λ z. omega arith) _ _ o)
+  unfolding Steps-say steps-refusal first-of refuse names-pair
+  steps-small l = rw (lt-ltb (length o) least-steps-output l) (plain-says 11 refl refl _ _ o)
 
   module _ (room : least-steps-output ≤ length o) where
     steps-is : steps-refusal bs cs ts (length o) ≡ first-of (product-refusal bs cs ∷ answer-refusal (graph-in bs cs) ts ∷ [])
@@ -66,8 +66,8 @@ module _ (bs cs ts o : List ℕ) where
         rw (steps-is ∙ first-decides (product-refusal bs cs) _ (λ z. r .fails (sym e ∙ z)) ∙ e) (r .says _ o)
 
     pub steps-many : texts-refusal bs cs ≡ 0 → most-edges < length (graph-in bs cs .edges) → Steps-say bs cs ts (refused-by 21) o o
-    unfolding Steps-say
-    steps-many e l = rw (steps-is ∙ first-decides (product-refusal bs cs) _ (λ z. omega (arith, product-many bs cs e l)) ∙ product-many bs cs e l) (plain-says 21 (λ z. omega arith) (λ z. omega arith) (λ z. omega arith) _ _ o)
+    unfolding Steps-say names-pair
+    steps-many e l = rw (steps-is ∙ first-decides (product-refusal bs cs) _ (λ z. omega (arith, product-many bs cs e l)) ∙ product-many bs cs e l) (plain-says 21 refl refl _ _ o)
 
     module _ (passes : product-refusal bs cs ≡ 0) where
       by-answer : steps-refusal bs cs ts (length o) ≡ answer-refusal (graph-in bs cs) ts
@@ -75,7 +75,7 @@ module _ (bs cs ts o : List ℕ) where
 
       pub answer-refused : {k : ℕ} → k ≡ answer-refusal (graph-in bs cs) ts → (k ≡ 0 → ⊥) → Steps-say bs cs ts (refused-by k) o o
       unfolding Steps-say
-      answer-refused {k} e n = rw (by-answer, ← e) (plain-says k n (λ z. no-pair .0 (sym e ∙ z)) (λ z. no-pair .1 (sym e ∙ z)) _ _ o)
+      answer-refused {k} e n = rw (by-answer, ← e) (plain-says k (ne-eqb k 0 n) (unpaired k (λ z. no-pair .0 (sym e ∙ z)) (λ z. no-pair .1 (sym e ∙ z))) _ _ o)
         where
           no-pair : (answer-refusal (graph-in bs cs) ts ≡ 18 → ⊥) × (answer-refusal (graph-in bs cs) ts ≡ 19 → ⊥)
           no-pair = answer-numbers (λ x. (x ≡ 18 → ⊥) × (x ≡ 19 → ⊥)) (none 0 (omega arith)) (none 1 (omega arith)) (none 3 (omega arith)) (none 12 (omega arith)) (none 13 (omega arith)) (graph-in bs cs) ts
