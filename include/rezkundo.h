@@ -11,7 +11,7 @@
  * REZKUNDO_STACK_STEPS.
  *
  * Linking. The archive has one object, for x86-64 Linux by the System V calling convention. It is position independent,
- * and of all other code it needs only memset.
+ * and of all other code it needs only memset and memcpy.
  */
 #ifndef REZKUNDO_H
 #define REZKUNDO_H
