@@ -40,10 +40,10 @@ bit-one (suc t) (suc d) = bit-half (1 * 2 ^ suc t) d ∙ (ap (λ (y : ℕ). bit 
 bit-shifted : (t d : ℕ) → t < 32 → bit (1 * 2 ^ t % 2 ^ 32) d ≡ eqb d t
 bit-shifted t d h = rw (shl-exact 1 t 32 (le-refl 2) (omega (arith, h))) (bit-one t d)
 
--- `x % 2 << t`
-pub bit-digit : (x t d : ℕ) → t < 32 → bit (x % 2 * 2 ^ t % 2 ^ 32) d ≡ (bit x 0 && eqb d t)
+-- `(x >> i) % 2 << t`
+pub bit-digit : (x i t d : ℕ) → t < 32 → bit (x / 2 ^ i % 2 * 2 ^ t % 2 ^ 32) d ≡ (bit x i && eqb d t)
 unfolding bit
-bit-digit x t d h = go (x % 2) (mod-lt x (zero-lt-suc 1)) ∙ ap (λ (y : ℕ). eqb (y % 2) 1 && eqb d t) (sym (div-one x))
+bit-digit x i t d h = go (x / 2 ^ i % 2) (mod-lt (x / 2 ^ i) (zero-lt-suc 1))
   where
     go : (y : ℕ) → y < 2 → bit (y * 2 ^ t % 2 ^ 32) d ≡ (eqb y 1 && eqb d t)
     go zero k = rw (zero-mul (2 ^ t)) (bit-zero d)

@@ -20,7 +20,7 @@ use Rattle.claim.specs.LabelSays.{most-values, holds, union-of}
 use Rattle.claim.specs.Cells.{name-cell, length-cell, lead-cell, move-cell, moves-from, claim-cells, set-words, set-of, word-moves, set-moves, Added, Gathered, Led, Line-held, Adds}
 use Rattle.claim.specs.BodySays.{with-edges}
 use Rattle.claim.specs.declared.labels.Values.{Values}
-use Rattle.model.proofs.Bits.{bit-or, bit-half, bit-zero}
+use Rattle.model.proofs.Bits.{bit-or, bit-zero}
 use Rattle.claim.proofs.Bits.{bit-digit, bit-set, holds-union, never-nothing}
 use Rattle.claim.proofs.Held.{Same-row, adds}
 
@@ -118,26 +118,24 @@ added-as r {p} {f} {m} {u} a same-all =
       behind = a .behind;
     }
 
--- A WORD: so many bits are done, and what is left of it begins with the next
-pub record Adding (first d word : ℕ) (u v : List ℕ) (left i : ℕ) : Type 0 where
+-- A WORD: so many bits are done
+pub record Adding (first d word : ℕ) (u v : List ℕ) (i : ℕ) : Type 0 where
   pub few : i ≤ 64
   pub long : length v ≡ length u
-  pub rest : (j : ℕ) → bit left j ≡ bit word (i + j)
   pub done : Added first i (word-moves d word) u v
 
-pub adding-none : (first d word : ℕ) (u : List ℕ) → Adding first d word u u word 0
-adding-none first d word u = record { few = omega arith; long = refl; rest = λ j. ap (bit word) (omega arith); done = added-none first (word-moves d word) u }
+pub adding-none : (first d word : ℕ) (u : List ℕ) → Adding first d word u u 0
+adding-none first d word u = record { few = omega arith; long = refl; done = added-none first (word-moves d word) u }
 
-pub adding-more : {first d word : ℕ} {u v : List ℕ} {left i : ℕ} → Adding first d word u v left i → d < 32 → first + 64 ≤ length v → i < 64 → Adding first d word u (set v (first + i) (bitOr (getD v (first + i) 0) (left % 2 * 2 ^ d % 2 ^ 32))) (left / 2) (i + 1)
-adding-more {first} {d} {word} {u} {v} {left} {i} a hd room h =
+pub adding-more : {first d word : ℕ} {u v : List ℕ} {i : ℕ} → Adding first d word u v i → d < 32 → first + 64 ≤ length v → i < 64 → Adding first d word u (set v (first + i) (bitOr (getD v (first + i) 0) (word / 2 ^ i % 2 * 2 ^ d % 2 ^ 32))) (i + 1)
+adding-more {first} {d} {word} {u} {v} {i} a hd room h =
     record {
       few = omega (arith, h);
       long = length-set v (first + i) _ ∙ a .long;
-      rest = λ j. sym (bit-half left j) ∙ (a .rest (suc j) ∙ ap (bit word) (omega arith));
-      done = added-one (a .done) (omega (arith, room, h)) (left % 2 * 2 ^ d % 2 ^ 32) (λ e. bit-digit left d e hd ∙ ap (λ (b : Bool). b && eqb e d) (a .rest 0 ∙ ap (bit word) (omega arith)));
+      done = added-one (a .done) (omega (arith, room, h)) (word / 2 ^ i % 2 * 2 ^ d % 2 ^ 32) (λ e. bit-digit word i d e hd);
     }
 
-pub adding-all : {first d word : ℕ} {u v : List ℕ} {left i : ℕ} → Adding first d word u v left i → 64 ≤ i → Added first 64 (word-moves d word) u v
+pub adding-all : {first d word : ℕ} {u v : List ℕ} {i : ℕ} → Adding first d word u v i → 64 ≤ i → Added first 64 (word-moves d word) u v
 adding-all {first} {d} {word} {u} {v} a h = subst (λ (i : ℕ). Added first i (word-moves d word) u v) (omega (arith, h, a .few)) (a .done)
 
 -- A SET: its four words

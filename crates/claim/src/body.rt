@@ -139,11 +139,9 @@ fn add_word(cells: &mut [u32], first: usize, d: u32, word: u64)
     requires { ⌜ first + 64 ≤ length (now cells) ⌝ }
     ensures { λ r. ⌜ Added first 64 (word-moves d word) (now (cells .entry)) (now (cells .exit)) ⌝ }
 {
-    let mut left = word;
     let mut i: usize = 0;
     while i < 64 {
-        cells[first + i] = cells[first + i] | (((left % 2) as u32) << d);
-        left = left / 2;
+        cells[first + i] = cells[first + i] | (((word >> i) % 2) as u32) << d;
         i += 1;
     }
 }

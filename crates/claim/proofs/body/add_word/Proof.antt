@@ -7,10 +7,10 @@ use Rattle.claim.proofs.body.add_word.Statement.{statement}
 use Rattle.claim.proofs.body.add_word.Tie as tie
 
 abbrev Inv-loop : tie.InvT-loop
-Inv-loop cells₀ first d word left₀ i₀ cells left i = Adding first d word cells₀ cells left i
+Inv-loop cells₀ first d word i₀ cells i = Adding first d word cells₀ cells i
 
 abbrev μ-loop : tie.MeasureT-loop
-μ-loop cells₀ first d word left₀ i₀ cells left i = 64 - i
+μ-loop cells₀ first d word i₀ cells i = 64 - i
 
 loop-holds : tie.Need-loop-holds Inv-loop μ-loop
 loop-holds c = adding-none _ _ _ _
@@ -23,6 +23,9 @@ mul-cells c = search needs
 
 slice-read-cells : tie.Need-slice-read-cells Inv-loop μ-loop
 slice-read-cells c = search needs
+
+shr-cells : tie.Need-shr-cells Inv-loop μ-loop
+shr-cells c = search needs
 
 cast-cells : tie.Need-cast-cells Inv-loop μ-loop
 cast-cells c = search needs
@@ -64,6 +67,7 @@ add-word-spec =
     add-cells
     mul-cells
     slice-read-cells
+    shr-cells
     cast-cells
     shl-cells
     add-cells-2
