@@ -12,7 +12,7 @@ use lib.Pow.{shl-exact}
 use Rattle.text.proofs.Tests.{clash, and-both, Same, same, other, same?}
 use Rattle.model.specs.ClaimLabels.{Level, Label, always, never, proposition, bit, truth}
 use Rattle.model.proofs.Bits.{bit-and, bit-or, flip-if, bit-xor, bit-half, bit-zero}
-use Rattle.claim.specs.LabelSays.{most-values, holds, Truth-of, everything, nothing, word-by-word, complement-of, intersection-of, union-of}
+use Rattle.claim.specs.LabelSays.{most-values, holds, Truth-of, all-bits, everything, nothing, word-by-word, complement-of, intersection-of, union-of}
 use Rattle.claim.specs.declared.labels.Values.{Values}
 
 -- A TABLE, entry by entry
@@ -37,7 +37,7 @@ bit-one zero (suc d) = bit-half 1 d ∙ rw (zero-div (2 ^ d), eqb·suc-zero d) r
 bit-one (suc t) zero = rw (div-one (1 * 2 ^ suc t), shifted-even 1 t, eqb·zero-suc t) refl
 bit-one (suc t) (suc d) = bit-half (1 * 2 ^ suc t) d ∙ (ap (λ (y : ℕ). bit y d) (shifted-half 1 t) ∙ (bit-one t d ∙ sym (eqb·suc-suc d t)))
 
-bit-shifted : (t d : ℕ) → t < 32 → bit (1 * 2 ^ t % 2 ^ 32) d ≡ eqb d t
+pub bit-shifted : (t d : ℕ) → t < 32 → bit (1 * 2 ^ t % 2 ^ 32) d ≡ eqb d t
 bit-shifted t d h = rw (shl-exact 1 t 32 (le-refl 2) (omega (arith, h))) (bit-one t d)
 
 -- `(x >> i) % 2 << t`
@@ -53,6 +53,11 @@ bit-digit x i t d h = go (x / 2 ^ i % 2) (mod-lt (x / 2 ^ i) (zero-lt-suc 1))
 -- `m | 1 << t`
 pub bit-set : (m t d : ℕ) → t < 32 → bit (bitOr m (1 * 2 ^ t % 2 ^ 32)) d ≡ (bit m d || eqb d t)
 bit-set m t d h = bit-or m (1 * 2 ^ t % 2 ^ 32) d ∙ ap (λ (b : Bool). bit m d || b) (bit-shifted t d h)
+
+-- a word with every bit
+pub bit-all : (i : ℕ) → i < 64 → bit all-bits i ≡ true
+unfolding all-below bit
+bit-all i h = below 64 (bit all-bits) refl i h
 
 -- SETS OF FLAG VALUES
 abbrev in-word : (first second third : Bool) → Values → (x : ℕ) → Bool

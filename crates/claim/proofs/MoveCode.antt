@@ -16,12 +16,12 @@ use Rattle.model.specs.ClaimLabels.{bit, truth}
 use Rattle.model.specs.ClaimGrammar.{Edge, State, most-states}
 use Rattle.model.specs.ClaimTable.{snoc}
 use Rattle.model.specs.Claim.{some-edge, some-target, edges-of}
-use Rattle.claim.specs.LabelSays.{most-values, holds, union-of}
+use Rattle.claim.specs.LabelSays.{most-values, all-bits, holds, union-of}
 use Rattle.claim.specs.Cells.{name-cell, length-cell, lead-cell, move-cell, moves-from, claim-cells, set-words, set-of, word-moves, set-moves, Added, Gathered, Led, Line-held, Adds}
 use Rattle.claim.specs.BodySays.{with-edges}
 use Rattle.claim.specs.declared.labels.Values.{Values}
 use Rattle.model.proofs.Bits.{bit-or, bit-zero}
-use Rattle.claim.proofs.Bits.{bit-digit, bit-set, holds-union, never-nothing}
+use Rattle.claim.proofs.Bits.{bit-shifted, bit-set, bit-all, holds-union, never-nothing}
 use Rattle.claim.proofs.Held.{Same-row, adds}
 
 eqb-turn : (a b : ℕ) → eqb a b ≡ eqb b a
@@ -127,16 +127,23 @@ pub record Adding (first d word : ℕ) (u v : List ℕ) (i : ℕ) : Type 0 where
 pub adding-none : (first d word : ℕ) (u : List ℕ) → Adding first d word u u 0
 adding-none first d word u = record { few = omega arith; long = refl; done = added-none first (word-moves d word) u }
 
-pub adding-more : {first d word : ℕ} {u v : List ℕ} {i : ℕ} → Adding first d word u v i → d < 32 → first + 64 ≤ length v → i < 64 → Adding first d word u (set v (first + i) (bitOr (getD v (first + i) 0) (word / 2 ^ i % 2 * 2 ^ d % 2 ^ 32))) (i + 1)
-adding-more {first} {d} {word} {u} {v} {i} a hd room h =
-    record {
-      few = omega (arith, h);
-      long = length-set v (first + i) _ ∙ a .long;
-      done = added-one (a .done) (omega (arith, room, h)) (word / 2 ^ i % 2 * 2 ^ d % 2 ^ 32) (λ e. bit-digit word i d e hd);
-    }
+pub adding-more : {first d word : ℕ} {u v : List ℕ} {i : ℕ} → Adding first d word u v i → (x : ℕ) → ((e : ℕ) → bit x e ≡ word-moves d word i e) → first + 64 ≤ length v → i < 64 → Adding first d word u (set v (first + i) (bitOr (getD v (first + i) 0) x)) (i + 1)
+adding-more {first} {v = v} {i = i} a x q room h = record { few = omega (arith, h); long = length-set v (first + i) _ ∙ a .long; done = added-one (a .done) (omega (arith, room, h)) x q }
 
 pub adding-all : {first d word : ℕ} {u v : List ℕ} {i : ℕ} → Adding first d word u v i → 64 ≤ i → Added first 64 (word-moves d word) u v
 adding-all {first} {d} {word} {u} {v} a h = subst (λ (i : ℕ). Added first i (word-moves d word) u v) (omega (arith, h, a .few)) (a .done)
+
+-- a word without a bit, and a bit of one with all
+pub no-bit-added : (first d : ℕ) (u : List ℕ) → Added first 64 (word-moves d 0) u u
+no-bit-added first d u =
+    record {
+      added = λ i e h. sym (or-false (bit (getD u (first + i) 0) e)) ∙ ap (λ (b : Bool). bit (getD u (first + i) 0) e || (b && eqb e d)) (sym (bit-zero i));
+      before = λ i h. refl;
+      behind = λ i h. refl;
+    }
+
+pub bit-of-all : (d i e : ℕ) → d < 32 → i < 64 → bit (1 * 2 ^ d % 2 ^ 32) e ≡ word-moves d all-bits i e
+bit-of-all d i e hd h = bit-shifted d e hd ∙ sym (ap (λ (b : Bool). b && eqb e d) (bit-all i h))
 
 -- A SET: its four words
 first-word : (w : Values) (i : ℕ) → i < 64 → bit (w .a) i ≡ holds w i

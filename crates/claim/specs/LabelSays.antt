@@ -25,8 +25,11 @@ pub record Truth-of {l : Level} (x : Label l) (w : Values) : Type 0 where
 abbrev pub repeated-of : (bits : ℕ) → Values
 repeated-of x = record { a = x; b = x; c = x; d = x }
 
+abbrev pub all-bits : ℕ
+all-bits = 2 ^ 64 - 1
+
 abbrev pub everything : Values
-everything = repeated-of (2 ^ 64 - 1)
+everything = repeated-of all-bits
 
 abbrev pub nothing : Values
 nothing = repeated-of 0

@@ -10,7 +10,7 @@ ghost use Rattle.text.specs.Ascii.{line-feed};
 ghost use Rattle.model.specs.Run.{member};
 ghost use Rattle.model.specs.ClaimLabels.{bit};
 ghost use Rattle.model.specs.ClaimGrammar.{title-fits, most-states, most-propositions};
-ghost use Rattle.claim.specs.LabelSays.{most-values};
+ghost use Rattle.claim.specs.LabelSays.{most-values, all-bits};
 ghost use Rattle.claim.specs.Reads.{part};
 ghost use Rattle.claim.specs.Cells.{claim-cells, moves-from, set-words, set-of, word-moves, set-moves, Added, Gathered, Led};
 ghost use Rattle.claim.specs.BodySays.{Title-says, Marks-say, Mark-says, Edge-says, Edges-say, Number-read, Rest-says, Line-says, End-says, Due-says, Body-says};
@@ -18,6 +18,7 @@ use crate::Counts;
 use crate::header::Found;
 use crate::header::Past;
 use crate::header::number_at;
+use crate::labels::ALL;
 use crate::labels::Truth;
 use crate::labels::Values;
 use crate::labels::label;
@@ -133,12 +134,32 @@ fn mark(text: &[u8], at: usize, c: usize, cells: &mut [u32]) -> Past
     }
 }
 
+// One more target, d, for 64 cells from `first` on.
+fn add_all(cells: &mut [u32], first: usize, d: u32)
+    requires { ⌜ d < 32 ⌝ }
+    requires { ⌜ first + 64 ≤ length (now cells) ⌝ }
+    ensures { λ r. ⌜ Added first 64 (word-moves d all-bits) (now (cells .entry)) (now (cells .exit)) ⌝ }
+{
+    let mut i: usize = 0;
+    while i < 64 {
+        cells[first + i] = cells[first + i] | 1 << d;
+        i += 1;
+    }
+}
+
 // One more target, d, for the cells from `first` on where the word has a bit.
 fn add_word(cells: &mut [u32], first: usize, d: u32, word: u64)
     requires { ⌜ d < 32 ⌝ }
     requires { ⌜ first + 64 ≤ length (now cells) ⌝ }
     ensures { λ r. ⌜ Added first 64 (word-moves d word) (now (cells .entry)) (now (cells .exit)) ⌝ }
 {
+    if word == 0 {
+        return;
+    }
+    if word == ALL {
+        add_all(cells, first, d);
+        return;
+    }
     let mut i: usize = 0;
     while i < 64 {
         cells[first + i] = cells[first + i] | (((word >> i) % 2) as u32) << d;

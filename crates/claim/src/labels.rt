@@ -24,7 +24,8 @@ pub struct Values {
     pub d: u64,
 }
 
-const ALL: u64 = 0xFFFF_FFFF_FFFF_FFFF;
+// A word with every bit.
+pub(crate) const ALL: u64 = 0xFFFF_FFFF_FFFF_FFFF;
 
 // The flag values on which a piece of a label holds and the place past it; or the refusal.
 pub enum Truth {

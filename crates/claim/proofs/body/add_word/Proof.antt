@@ -1,8 +1,9 @@
--- `body::add_word` meets its contract: a cell at a time. Assumes nothing.
+-- `body::add_word` meets its contract: a cell at a time, where the word has some bits and not all. Assumes nothing.
 use Prim.Native.Nat.{_-_}
 use native.Mathlib.Omega.{arith}
 use borrow.Author.Needs.{needs}
-use Rattle.claim.proofs.MoveCode.{Adding, adding-none, adding-more, adding-all}
+use Rattle.claim.proofs.Bits.{bit-digit}
+use Rattle.claim.proofs.MoveCode.{Adding, adding-none, adding-more, adding-all, no-bit-added}
 use Rattle.claim.proofs.body.add_word.Statement.{statement}
 use Rattle.claim.proofs.body.add_word.Tie as tie
 
@@ -11,6 +12,18 @@ Inv-loop cells₀ first d word i₀ cells i = Adding first d word cells₀ cells
 
 abbrev μ-loop : tie.MeasureT-loop
 μ-loop cells₀ first d word i₀ cells i = 64 - i
+
+returns : tie.Need-returns Inv-loop μ-loop
+returns c = rw (c .if1 .taken) (no-bit-added _ _ _)
+
+add-all-requires : tie.Need-add-all-requires Inv-loop μ-loop
+add-all-requires c κs = search needs
+
+same-length : tie.Need-same-length Inv-loop μ-loop
+same-length c = search needs
+
+returns-2 : tie.Need-returns-2 Inv-loop μ-loop
+returns-2 c = rw (c .before .before .before .before .if2 .taken) (c .before .before .add-all .ensures)
 
 loop-holds : tie.Need-loop-holds Inv-loop μ-loop
 loop-holds c = adding-none _ _ _ _
@@ -49,13 +62,16 @@ loop-less : tie.Need-loop-less Inv-loop μ-loop
 loop-less c = search needs
 
 loop-again : tie.Need-loop-again Inv-loop μ-loop
-loop-again c = let p = c .before .before .before .pre in adding-more (c .before .before .loop .inv) (p .0) (omega (arith, p .1, c .before .before .loop .inv .long)) (c .before .loop-test .taken)
+loop-again c =
+    let p = c .before .before .before .before .before .before .pre in
+    let a = c .before .before .loop .inv in
+    adding-more a _ (λ e. bit-digit _ _ _ e (p .0)) (omega (arith, p .1, a .long)) (c .before .loop-test .taken)
 
-same-length : tie.Need-same-length Inv-loop μ-loop
-same-length c = c .before .loop .inv .long
+same-length-2 : tie.Need-same-length-2 Inv-loop μ-loop
+same-length-2 c = c .before .loop .inv .long
 
-returns : tie.Need-returns Inv-loop μ-loop
-returns c = adding-all (c .before .loop .inv) (c .loop-test .left)
+returns-3 : tie.Need-returns-3 Inv-loop μ-loop
+returns-3 c = adding-all (c .before .loop .inv) (c .loop-test .left)
 
 pub add-word-spec : {M : Type 1} → statement M
 add-word-spec =
@@ -63,6 +79,10 @@ add-word-spec =
     (tie.spec
     Inv-loop
     μ-loop
+    returns
+    add-all-requires
+    same-length
+    returns-2
     loop-holds
     add-cells
     mul-cells
@@ -76,5 +96,5 @@ add-word-spec =
     add-i
     loop-less
     loop-again
-    same-length
-    returns)
+    same-length-2
+    returns-3)
