@@ -18,6 +18,8 @@ const RING_MODES: usize = 25;
 const RING_STATES: usize = 4;
 /// As many rules as a mode can have if all have as many.
 const RULES: usize = 16;
+/// Whether it is true depends on six flags, not on the last two.
+const LABEL: &str = "0&!1 | 2&!(3 | 4&5)";
 
 /// A chart and a claim with a name for the table.
 pub struct Pair {
@@ -58,7 +60,16 @@ pub fn pairs() -> Vec<Pair> {
             chart(RULES, third_in_the_last),
             claim(few_edges, true),
         ),
-        pair("115,200 edges", chart(RULES, any), claim(all_edges, true)),
+        pair(
+            "115,200 edges",
+            chart(RULES, any),
+            claim(|_| all_edges("t"), true),
+        ),
+        pair(
+            "115,200 edges, long labels",
+            chart(RULES, any),
+            claim(|_| all_edges(LABEL), true),
+        ),
     ]
 }
 
@@ -141,7 +152,7 @@ fn one_of_two(mode: usize, rule: usize) -> usize {
 }
 
 /// A claim with these edges, every other state accepting or none.
-fn claim(edges: fn(usize) -> String, marked: bool) -> String {
+fn claim(edges: impl Fn(usize) -> String, marked: bool) -> String {
     let mut text = "HOA: v1\nStates: 15\nStart: 0\n\
         AP: 8 \"a\" \"b\" \"c\" \"d\" \"e\" \"f\" \"g\" \"h\"\n\
         acc-name: Buchi\nAcceptance: 1 Inf(0)\n--BODY--\n"
@@ -167,12 +178,13 @@ fn one_edge(state: usize) -> String {
 /// last flag.
 fn few_edges(state: usize) -> String {
     let third = if state == 0 { "[!6] 14\n" } else { "" };
-    let stay = format!("[0&!1 | 2&!(3 | 4&5)] {state}\n");
+    let stay = format!("[{LABEL}] {state}\n");
     [&one_edge(state), &stay, third].concat()
 }
 
-fn all_edges(_state: usize) -> String {
-    let edge = |target| format!("[t] {target}\n");
+/// One to each state, all with this label.
+fn all_edges(label: &str) -> String {
+    let edge = |target| format!("[{label}] {target}\n");
     (0..MOST_STATES).map(edge).collect()
 }
 
