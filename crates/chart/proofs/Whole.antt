@@ -23,10 +23,11 @@ use Rattle.model.specs.Case.{known-version, longest-file}
 use Rattle.model.specs.Chart.{most-modes, most-flags, longest-name, mode-name, name-line, Rule, combinations, next-mode, chart-names, mode-names, rule-names, chart-counts-good, chart-head-good, names-right, rules-in, first-bad, charted, rules-fit, chart-head-right, chart-rest-right, chart-right, chart-in, chart-says}
 use Rattle.model.specs.declared.Charted.{Charted}
 use Rattle.model.specs.ChartPromise.{First-bad-pair}
+use Rattle.model.proofs.Tools.{table-length}
 use Rattle.model.proofs.Pairs.{next-base}
 use Rattle.model.proofs.Charts.{chart-passed, right-bad, first-bad-pair}
 use Rattle.text.proofs.Places.{skip-one, skip-add, skip-last, skip-lines, skip-line}
-use Rattle.chart.specs.Pairs.{most-combinations, most-pairs, one-rule, Fresh, Marked, Rules-read, table-says, chart-entries, table-after}
+use Rattle.chart.specs.Pairs.{most-combinations, most-pairs, one-rule, Fresh, Marked, Rules-read, table-says, next-entry, chart-entries, table-after}
 use Rattle.chart.specs.Reading.{names-here, name-place, counts-in, head-says, rules-place, rest-right, Chart-laid, returned, read-says, Chart-read}
 use Rattle.chart.specs.declared.Chart.{Chart}
 use Rattle.chart.specs.declared.Head.{Head}
@@ -35,7 +36,7 @@ use Rattle.chart.specs.declared.Read.{Read}
 use Rattle.chart.specs.declared.Read.the-variants.{Faulty, Bad, Accepted}
 use Rattle.chart.proofs.NameLines.{named-line, names-each, text-at}
 use Rattle.chart.proofs.Entries.{pairs-fit}
-use Rattle.chart.proofs.BadPairs.{table-first, table-entries, entries-long, entry-at}
+use Rattle.chart.proofs.BadPairs.{table-first, table-entries, entry-at}
 
 -- LINES 1 TO 3, fault by fault
 module _ (s : List ℕ) where
@@ -367,7 +368,7 @@ pub handed-at : (s t : List ℕ) → chart-says s .refusal ≡ 0 → let h = cha
 handed-at s t z room q f a l =
     let es = chart-entries (chart-in s) in
     let j = q * combinations (chart-in s) + f in
-    let n : length es ≡ chart-in s .modes * combinations (chart-in s) = unfold chart-entries in entries-long (chart-in s .modes * combinations (chart-in s)) 0 (chart-in s) in
+    let n : length es ≡ chart-in s .modes * combinations (chart-in s) = unfold chart-entries in table-length (next-entry (chart-in s)) (chart-in s .modes * combinations (chart-in s)) 0 in
     ap (λ (x : List ℕ). getD x j 0) (front (omega (arith, n))) ∙ List·getD-append es (drop (length es) t) 0 j (omega (arith, n, next-base (combinations (chart-in s)) a)) ∙ entry-at (chart-in s) q f a l
   where
     front : length (chart-entries (chart-in s)) ≤ length t → table-after s t ≡ chart-entries (chart-in s) ++ drop (length (chart-entries (chart-in s))) t

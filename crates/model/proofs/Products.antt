@@ -11,7 +11,7 @@ use lib.ListN.{length, getD}
 use lib.Seq.{ext-getD}
 use borrow.Author.Tests.{ltb-false, leb-true, eqb-true, eq-eqb}
 use Rattle.text.proofs.Tests.{and-both, both-true}
-use Rattle.model.specs.Graph.{Edge, Graph, edge, mark}
+use Rattle.model.specs.Graph.{Edge, Graph, edge, mark, table-of}
 use Rattle.model.specs.Case.{Case, owner, most-edges, most-workers, Sound, Within}
 use Rattle.model.specs.CaseFile.{accepted, case-in}
 use Rattle.model.specs.CaseText.{case-file, all-rise}
@@ -20,7 +20,7 @@ use Rattle.model.specs.ChartPromise.{Charts-sound}
 use Rattle.model.specs.Claim.{Claim, state, claim-moves, claim-in, Claim-sound}
 use Rattle.model.specs.ClaimEntry.{mark-of}
 use Rattle.model.specs.ClaimPromise.{Claims-right}
-use Rattle.model.specs.Product.{Automaton, product, chart-automaton, claim-automaton, has-edge, marks-from, graph-of, product-graph, remainders, product-case, graph-in, product-refusal, build-refusal}
+use Rattle.model.specs.Product.{Automaton, product, chart-automaton, claim-automaton, has-edge, state-mark, graph-of, product-graph, remainder-by, product-case, graph-in, product-refusal, build-refusal}
 use Rattle.model.specs.ProductPromise.{Only-file, Reads-back, Joint, Edge-in, Is-product, Only-product}
 use Rattle.model.specs.Promise.{Files-sound}
 use Rattle.model.proofs.OnlyFile.{only-file, accepted-rise}
@@ -30,19 +30,8 @@ use Rattle.model.proofs.Rising.{In, in-at, at-in, rising-same}
 use Rattle.model.proofs.Pairs.{pair-first, pair-second, pair-below, Pair, pair}
 use Rattle.model.proofs.ClaimWhole.{claims-right}
 use Rattle.model.proofs.ChartSound.{charts-sound}
-use Rattle.model.proofs.Automata.{edge-by, by-edge, Move, edge-listed, listed-edge, edges-rise, marks-many, mark-at}
-
--- OWNERS
-remainders-many : (k v p : ℕ) → length (remainders k v p) ≡ k
-unfolding remainders
-remainders-many zero v p = refl
-remainders-many (suc k) v p = ap suc (remainders-many k (suc v) p)
-
-remainder-at : (k v p i : ℕ) → i < k → getD (remainders k v p) i 0 ≡ (v + i) % p
-unfolding remainders
-remainder-at zero v p i h = absurd (omega arith)
-remainder-at (suc k) v p zero h = let e : v + 0 ≡ v = omega arith in rw e refl
-remainder-at (suc k) v p (suc i) h = let e : v + suc i ≡ suc v + i = omega arith in rw e (remainder-at k (suc v) p i (omega arith))
+use Rattle.model.proofs.Automata.{edge-by, by-edge, Move, edge-listed, listed-edge, edges-rise}
+use Rattle.model.proofs.Tools.{table-length, table-at}
 
 -- a case is what it has
 abbrev case-of : (vertices source workers : ℕ) → (marks owners : List ℕ) → (edges : List Edge) → Case
@@ -94,7 +83,7 @@ module _ (h : Chart) (k : Claim) where
 
   marks-right : (q s : ℕ) → q < h .modes → s < size → mark (product-graph h k) (vertex q s) ≡ mark-of (state k s .accepting)
   unfolding graph-of product chart-automaton claim-automaton
-  marks-right q s hq hs = mark-at (h .modes * size) 0 both (vertex q s) (pair-below size q s (h .modes) hs hq) ∙ rw (zero-add (vertex q s)) (ap mark-of (accepts-right q s hs))
+  marks-right q s hq hs = table-at (state-mark both) (h .modes * size) 0 (vertex q s) (pair-below size q s (h .modes) hs hq) ∙ rw (zero-add (vertex q s)) (ap mark-of (accepts-right q s hs))
 
   edge-move : (q s r t : ℕ) → q < h .modes → s < size → r < h .modes → t < size → Joint h k q s r t → In (record { from = vertex q s; to = vertex r t }) (product-graph h k .edges)
   unfolding graph-of product chart-automaton claim-automaton
@@ -114,7 +103,7 @@ module _ (h : Chart) (k : Claim) where
         source = refl;
         workers = refl;
         marks = marks-right;
-        owners = λ v l. remainder-at (h .modes * size) 0 p v l ∙ rw (zero-add v) refl;
+        owners = λ v l. table-at (remainder-by p) (h .modes * size) 0 v l ∙ rw (zero-add v) refl;
         edges = λ q s r t hq hs hr ht. (
           (λ l. moves-joint q s r t hs ht (move-edge (record { from = vertex q s; to = vertex r t }) (in-edges _ _ l) .moves)),
           (λ j. edge-there _ _ (edge-move q s r t hq hs hr ht j)),
@@ -128,22 +117,22 @@ module _ (h : Chart) (k : Claim) where
 
     same-marks : c .graph .accepting ≡ product-graph h k .accepting
     unfolding graph-of product chart-automaton claim-automaton
-    same-marks = ext-getD 0 (c .graph .accepting) (marks-from (h .modes * size) 0 both) (ok .marks ∙ is .vertices ∙ sym (marks-many (h .modes * size) 0 both)) each
+    same-marks = ext-getD 0 (c .graph .accepting) (table-of (state-mark both) (h .modes * size) 0) (ok .marks ∙ is .vertices ∙ sym (table-length (state-mark both) (h .modes * size) 0)) each
       where
-        each : (v : ℕ) → v < length (c .graph .accepting) → getD (c .graph .accepting) v 0 ≡ getD (marks-from (h .modes * size) 0 both) v 0
+        each : (v : ℕ) → v < length (c .graph .accepting) → getD (c .graph .accepting) v 0 ≡ getD (table-of (state-mark both) (h .modes * size) 0) v 0
         each v l =
             let d = apart v (rw (ok .marks) at l) in
             ap (λ (x : ℕ). mark (c .graph) x) (sym (d .whole)) ∙ is .marks (v / size) (v % size) (d .first) (d .second)
             ∙ sym (marks-right (v / size) (v % size) (d .first) (d .second)) ∙ ap (λ (x : ℕ). mark (product-graph h k) x) (d .whole)
 
-    same-owners : c .owners ≡ remainders (h .modes * size) 0 p
+    same-owners : c .owners ≡ table-of (remainder-by p) (h .modes * size) 0
     unfolding owner
-    same-owners = ext-getD 0 (c .owners) (remainders (h .modes * size) 0 p) (ok .owned ∙ is .vertices ∙ sym (remainders-many (h .modes * size) 0 p)) each
+    same-owners = ext-getD 0 (c .owners) (table-of (remainder-by p) (h .modes * size) 0) (ok .owned ∙ is .vertices ∙ sym (table-length (remainder-by p) (h .modes * size) 0)) each
       where
-        each : (v : ℕ) → v < length (c .owners) → getD (c .owners) v 0 ≡ getD (remainders (h .modes * size) 0 p) v 0
+        each : (v : ℕ) → v < length (c .owners) → getD (c .owners) v 0 ≡ getD (table-of (remainder-by p) (h .modes * size) 0) v 0
         each v l =
             let l′ : v < c .graph .vertices = rw (ok .owned) at l in
-            is .owners v l′ ∙ sym (remainder-at (h .modes * size) 0 p v (rw (is .vertices) at l′) ∙ rw (zero-add v) refl)
+            is .owners v l′ ∙ sym (table-at (remainder-by p) (h .modes * size) 0 v (rw (is .vertices) at l′) ∙ rw (zero-add v) refl)
 
     same-edges : c .graph .edges ≡ product-graph h k .edges
     same-edges = rising-same none (c .graph .edges) (product-graph h k .edges) r (unfold graph-of in (edges-rise both)) there here
@@ -197,10 +186,10 @@ module _ (h : Chart) (k : Claim) (p : ℕ) (hs : Chart-sound h) (ks : Claim-soun
       let n = h .modes * length (k .states) in
       record {
         source = pair-below (length (k .states)) (h .start) (k .start) (h .modes) (ks .start) (hs .start);
-        marks = marks-many n 0 (both h k);
-        owned = remainders-many n 0 p;
-        mark = λ v l. rw (mark-at n 0 (both h k) v l) (one-bit (both h k .accepts (0 + v)));
-        owner = λ v l. rw (remainder-at n 0 p v l) (mod-lt (0 + v) some);
+        marks = table-length (state-mark (both h k)) n 0;
+        owned = table-length (remainder-by p) n 0;
+        mark = λ v l. rw (table-at (state-mark (both h k)) n 0 v l) (one-bit (both h k .accepts (0 + v)));
+        owner = λ v l. rw (table-at (remainder-by p) n 0 v l) (mod-lt (0 + v) some);
         from = λ i l. move-edge h k _ (in-at (product-graph h k .edges) i l) .from;
         to = λ i l. move-edge h k _ (in-at (product-graph h k .edges) i l) .to;
       }

@@ -5,7 +5,7 @@ use mathlib.Core.List.{List, [], _∷_, _++_}
 use Prim.Native.Nat.{ℕ, zero, suc, _+_, _*_, _/_, _%_, _^_}
 use lib.Dec.{ltb, leb, eqb}
 use lib.ListN.{length}
-use Rattle.model.specs.Graph.{Edge, Graph}
+use Rattle.model.specs.Graph.{Edge, Graph, table-of}
 use Rattle.model.specs.Case.{Case, most-edges, most-workers}
 use Rattle.model.specs.CaseFile.{refuse, first-of}
 use Rattle.model.specs.ClaimTable.{claim-refusal}
@@ -61,23 +61,21 @@ unfoldable pub edges-from : (left s : ℕ) → Automaton → List Edge
 edges-from zero s a = []
 edges-from (suc k) s a = edges-to (a .states) 0 a s ++ edges-from k (suc s) a
 
-unfoldable pub marks-from : (left s : ℕ) → Automaton → List ℕ
-marks-from zero s a = []
-marks-from (suc k) s a = mark-of (a .accepts s) ∷ marks-from k (suc s) a
+abbrev pub state-mark : Automaton → (s : ℕ) → ℕ
+state-mark a s = mark-of (a .accepts s)
 
 unfoldable pub graph-of : Automaton → Graph
-graph-of a = record { vertices = a .states; source = a .start; accepting = marks-from (a .states) 0 a; edges = edges-from (a .states) 0 a }
+graph-of a = record { vertices = a .states; source = a .start; accepting = table-of (state-mark a) (a .states) 0; edges = edges-from (a .states) 0 a }
 
 abbrev pub product-graph : Chart → Claim → Graph
 product-graph h k = graph-of (product (chart-automaton h) (claim-automaton k))
 
 -- "The owner is the vertex number's remainder by workers"
-unfoldable pub remainders : (left v workers : ℕ) → List ℕ
-remainders zero v p = []
-remainders (suc k) v p = v % p ∷ remainders k (suc v) p
+abbrev pub remainder-by : (workers v : ℕ) → ℕ
+remainder-by p v = v % p
 
 unfoldable pub product-case : Chart → Claim → (workers : ℕ) → Case
-product-case h k p = let g = product-graph h k in record { graph = g; workers = p; owners = remainders (g .vertices) 0 p }
+product-case h k p = let g = product-graph h k in record { graph = g; workers = p; owners = table-of (remainder-by p) (g .vertices) 0 }
 
 -- THE PRODUCT IN TWO TEXTS, a chart's and a claim's
 abbrev pub graph-in : (chart claim : List ℕ) → Graph

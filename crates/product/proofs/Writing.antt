@@ -10,15 +10,16 @@ use lib.Seq.{take-suc-set, length-take-le}
 use Rattle.text.specs.Writing.{Puts}
 use Rattle.text.proofs.Chains.{puts-as}
 use Rattle.model.specs.Case.{Case, most-edges}
-use Rattle.model.specs.Graph.{Edge}
+use Rattle.model.specs.Graph.{Edge, table-of}
 use Rattle.model.specs.CaseText.{case-file}
 use Rattle.model.specs.Chart.{Chart}
 use Rattle.model.specs.Claim.{Claim}
 use Rattle.model.specs.ClaimEntry.{mark-of}
-use Rattle.model.specs.Product.{Automaton, product, chart-automaton, claim-automaton, marks-from, remainders, graph-of, product-graph, product-case}
+use Rattle.model.specs.Product.{Automaton, product, chart-automaton, claim-automaton, state-mark, remainder-by, graph-of, product-graph, product-case}
+use Rattle.model.proofs.Tools.{table-length, table-same}
 use Rattle.product.specs.Tables.{ends-of, tabled, Tables}
 use Rattle.product.specs.Edges.{both-of, Edges-found}
-use Rattle.product.specs.Written.{table-of, mark-by, Vertices-filled, case-by, Case-asks, Held, Product-asks, Product-says}
+use Rattle.product.specs.Written.{mark-by, Vertices-filled, case-by, Case-asks, Held, Product-asks, Product-says}
 use Rattle.product.specs.declared.build.Sizes.{Sizes}
 use Rattle.product.specs.declared.build.Product.the-variants.{Written, TooMany}
 use Rattle.product.proofs.EdgeTables.{few-vertices}
@@ -28,16 +29,6 @@ table-snoc : (f : ℕ → ℕ) (k v : ℕ) → table-of f (suc k) v ≡ table-of
 unfolding table-of
 table-snoc f zero v = let e : v + 0 ≡ v = omega arith in rw e refl
 table-snoc f (suc k) v = let e : v + suc k ≡ suc v + k = omega arith in rw e (ap (λ (l : List ℕ). f v ∷ l) (table-snoc f k (suc v)))
-
-pub table-length : (f : ℕ → ℕ) (k v : ℕ) → length (table-of f k v) ≡ k
-unfolding table-of
-table-length f zero v = refl
-table-length f (suc k) v = ap suc (table-length f k (suc v))
-
-remainders-table : (p k v : ℕ) → remainders k v p ≡ table-of (λ x. x % p) k v
-unfolding table-of remainders
-remainders-table p zero v = refl
-remainders-table p (suc k) v = ap (λ (l : List ℕ). v % p ∷ l) (remainders-table p k (suc v))
 
 table-next : (f : ℕ → ℕ) (v x : ℕ) (t : List ℕ) → take v t ≡ table-of f v 0 → v < length t → x ≡ f v → take (v + 1) (set t v x) ≡ table-of f (v + 1) 0
 table-next f v x t e l q =
@@ -49,7 +40,7 @@ pub record Filling-vertices (vertices states workers v : ℕ) (cells ms marks os
   pub kept-marks : length marks ≡ length ms
   pub kept-owners : length owners ≡ length os
   pub marked : take v marks ≡ table-of (mark-by cells states) v 0
-  pub owned : take v owners ≡ table-of (λ x. x % workers) v 0
+  pub owned : take v owners ≡ table-of (remainder-by workers) v 0
 
 pub fill-start : (vertices states workers : ℕ) (cells ms os : List ℕ) → Filling-vertices vertices states workers 0 cells ms ms os os
 unfolding table-of
@@ -64,17 +55,14 @@ fill-next {vertices} {states} {workers} {v} {cells} {ms} {marks} {os} {owners} d
   kept-marks = length-set marks v (getD cells (v % states) 0) ∙ d .kept-marks;
   kept-owners = length-set owners v (v % workers) ∙ d .kept-owners;
   marked = table-next (mark-by cells states) v (getD cells (v % states) 0) marks (d .marked) (omega (arith, d .kept-marks)) refl;
-  owned = table-next (λ x. x % workers) v (v % workers) owners (d .owned) (omega (arith, d .kept-owners)) refl;
+  owned = table-next (remainder-by workers) v (v % workers) owners (d .owned) (omega (arith, d .kept-owners)) refl;
 }
 
 pub fill-last : {vertices states workers v : ℕ} {cells ms marks os owners : List ℕ} → Filling-vertices vertices states workers v cells ms marks os owners → vertices ≤ v
     → Vertices-filled vertices states workers cells marks owners
 fill-last {vertices} {states} {workers} {v} {cells} {ms} {marks} {os} {owners} d h =
     let e : v ≡ vertices = omega (arith, d .within) in
-    record { marked = rw e at (d .marked); owned = (rw e at (d .owned)) ∙ sym (remainders-table workers vertices 0) }
-
-pub remainders-length : (k v p : ℕ) → length (remainders k v p) ≡ k
-remainders-length k v p = ap length (remainders-table p k v) ∙ table-length (λ x. x % p) k v
+    record { marked = rw e at (d .marked); owned = rw e at (d .owned) }
 
 -- the writer gets their fronts
 module _ {n k p : ℕ} {cells marks owners : List ℕ} (f : Vertices-filled n k p cells marks owners) where
@@ -82,7 +70,7 @@ module _ {n k p : ℕ} {cells marks owners : List ℕ} (f : Vertices-filled n k 
   marks-long = sym (ap length (f .marked) ∙ table-length (mark-by cells k) n 0)
 
   pub owners-long : n ≡ length (take n owners)
-  owners-long = sym (ap length (f .owned) ∙ remainders-length n 0 p)
+  owners-long = sym (ap length (f .owned) ∙ table-length (remainder-by p) n 0)
 
 pub case-tables : {n k s p : ℕ} {cells marks owners fs ts : List ℕ} → Case-asks n k s p cells fs ts → Vertices-filled n k p cells marks owners → Tables (take n marks) (take n owners) fs ts
 case-tables c f = record { owned = sym (owners-long f) ∙ marks-long f; ended = c .ended; few-vertices = rw (← marks-long f) (c .few-vertices); few-edges = c .few-edges }
@@ -93,11 +81,6 @@ unfolding case-by
 case-puts n k s p cells marks owners fs ts f w = rw (← f .marked, ← f .owned) w
 
 -- THE PRODUCT: its case out of the tables
-marks-table : (f : ℕ → ℕ) (a : Automaton) (k v : ℕ) → ((x : ℕ) → f x ≡ mark-of (a .accepts x)) → marks-from k v a ≡ table-of f k v
-unfolding marks-from table-of
-marks-table f a zero v e = refl
-marks-table f a (suc k) v e = rw (e v, marks-table f a k (suc v) e) refl
-
 same-tables : {n m s t p : ℕ} {ms ns os ps : List ℕ} {es fs : List Edge} → n ≡ m → s ≡ t → ms ≡ ns → os ≡ ps → es ≡ fs
     → let c : (n s : ℕ) → (ms os : List ℕ) → List Edge → Case = λ n s ms os es. record { graph = record { vertices = n; source = s; accepting = ms; edges = es }; workers = p; owners = os } in
     c n s ms os es ≡ c m t ns ps fs
@@ -110,7 +93,7 @@ product-is h k z p {cells = cells} froms tos g some edges =
     let states = z .states in
     let n : z .modes * states ≡ h .modes * length (k .states) = rw (g .given .of-modes, g .given .of-states) refl in
     let mark : (x : ℕ) → mark-by cells states x ≡ mark-of (both-of h k .accepts x) = λ x. unfold mark-by product chart-automaton claim-automaton in (rw (g .given .of-states) (g .marks (x % length (k .states)) (mod-lt x (rw (g .given .of-states) at some)))) in
-    same-tables (table-length (mark-by cells states) (z .modes * states) 0 ∙ n) (g .source) (sym (marks-table (mark-by cells states) (both-of h k) (z .modes * states) 0 mark) ∙ rw n refl) (rw n refl) edges
+    same-tables (table-length (mark-by cells states) (z .modes * states) 0 ∙ n) (g .source) (table-same (mark-by cells states) (state-mark (both-of h k)) mark (z .modes * states) 0 ∙ rw n refl) (rw n refl) edges
 
 -- THE WHOLE: tables of edges that were made for the most there can be
 pub front-long : (m : ℕ) (t : List ℕ) → m ≤ length t → m ≡ length (take m t)

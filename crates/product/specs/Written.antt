@@ -5,22 +5,18 @@ use mathlib.Core.List.{List, [], _∷_}
 use Prim.Native.Nat.{ℕ, zero, suc, _+_, _*_, _%_, _^_, _≤_, _<_}
 use lib.ListN.{length, getD, take}
 use Rattle.text.specs.Writing.{Puts}
+use Rattle.model.specs.Graph.{table-of}
 use Rattle.model.specs.Case.{Case, most-vertices, most-edges, most-workers}
 use Rattle.model.specs.CaseText.{case-file}
 use Rattle.model.specs.Claim.{Claim, state}
 use Rattle.model.specs.ClaimEntry.{mark-of}
 use Rattle.model.specs.Chart.{Chart}
-use Rattle.model.specs.Product.{product-graph, remainders, product-case}
+use Rattle.model.specs.Product.{product-graph, remainder-by, product-case}
 use Rattle.product.specs.Tables.{ends-of, tabled}
 use Rattle.product.specs.Edges.{Given, Asks}
 use Rattle.product.specs.declared.build.Sizes.{Sizes}
 use Rattle.product.specs.declared.build.Product.{Product}
 use Rattle.product.specs.declared.build.Product.the-variants.{Written, TooMany}
-
--- a number for each of so many vertices from v on
-unfoldable pub table-of : (ℕ → ℕ) → (left v : ℕ) → List ℕ
-table-of f zero v = []
-table-of f (suc k) v = f v ∷ table-of f k (suc v)
 
 -- a vertex's mark is that of its claim state, in the claim's first cells
 unfoldable pub mark-by : (cells : List ℕ) → (states v : ℕ) → ℕ
@@ -36,11 +32,11 @@ pub record Fill-asks (vertices states workers : ℕ) (cells marks owners : List 
 
 pub record Vertices-filled (vertices states workers : ℕ) (cells marks owners : List ℕ) : Type 0 where
   pub marked : take vertices marks ≡ table-of (mark-by cells states) vertices 0
-  pub owned : take vertices owners ≡ remainders vertices 0 workers
+  pub owned : take vertices owners ≡ table-of (remainder-by workers) vertices 0
 
 -- THE CASE with these edges
 unfoldable pub case-by : (vertices states source workers : ℕ) → (cells froms tos : List ℕ) → Case
-case-by n k s p cs fs ts = tabled s p (table-of (mark-by cs k) n 0) (remainders n 0 p) fs ts
+case-by n k s p cs fs ts = tabled s p (table-of (mark-by cs k) n 0) (table-of (remainder-by p) n 0) fs ts
 
 pub record Case-asks (vertices states source workers : ℕ) (cells froms tos : List ℕ) : Type 0 where
   pub some-states : 1 ≤ states
