@@ -9,7 +9,7 @@ use native.Mathlib.Numerals.{add-one}
 use lib.Dec.{leb, eqb}
 use lib.ListN.{length, getD, take, drop, drop-of-length-le}
 use lib.Seq.{drop-cons}
-use borrow.Author.Tests.{eq-eqb, ne-eqb, leb-true, le-leb, lt-leb}
+use borrow.Author.Tests.{eq-eqb, ne-eqb, le-leb, lt-leb}
 use Rattle.text.specs.Ascii.{line-feed, space}
 use Rattle.text.specs.Lines.{Line, lines, line-at, put-first, fields, field, open-line, closed-line}
 use Rattle.text.specs.Numbers.{is-digit}
@@ -20,6 +20,7 @@ use Rattle.text.proofs.Tests.{and-both, clash}
 use Rattle.text.proofs.Lines.{with-byte, first-nil, first-feed, first-byte}
 use Rattle.text.proofs.ReadingSteps.{past-feed, past-byte, past-end}
 use Rattle.text.proofs.Reading.{past-lines, named-go, other-go}
+use Rattle.model.proofs.ChartSound.{name-short}
 use Rattle.model.specs.ClaimTokens.{is-capital, is-small}
 use Rattle.model.specs.Chart.{longest-name, is-alphanumeric, all-alphanumeric, is-name, name-line, names-right, texts-of}
 use Rattle.text.proofs.Places.{skip-none, skip-first}
@@ -182,8 +183,7 @@ unfolding name-line is-name field
 named-line l h =
     let a = and-both (l .closed) ((leb 1 (length (l .text)) && leb (length (l .text)) longest-name) && all-alphanumeric (l .text)) h in
     let n = and-both (leb 1 (length (l .text)) && leb (length (l .text)) longest-name) (all-alphanumeric (l .text)) (a .1) in
-    let m = and-both (leb 1 (length (l .text))) (leb (length (l .text)) longest-name) (n .0) in
-    record { field = rw (one-field (l .text) (n .1)) refl; short = leb-true (length (l .text)) longest-name (m .1) }
+    record { field = rw (one-field (l .text) (n .1)) refl; short = name-short l h }
 
 line-later : (ls : List Line) (q : ℕ) → line-at ls (suc q) ≡ line-at (drop 1 ls) q
 unfolding line-at

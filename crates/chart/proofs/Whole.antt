@@ -7,7 +7,7 @@ use mathlib.Core.Logic.{_⊎_}
 use Prim.Native.Nat.{ℕ, _+_, _*_, _^_, _≤_, _<_}
 use native.Mathlib.Omega.{arith}
 use native.Mathlib.Nat.{pow-le-pow-right, one-le-pow}
-use lib.Dec.{ltb, leb, eqb, lit<}
+use lib.Dec.{leb, eqb, lit<}
 use lib.ListN.{length, getD, take, drop, replicate, length-replicate, getD-replicate, List·getD-append}
 use borrow.Author.Tests.{le-leb, lt-leb, leb-true, leb-false, eq-eqb, ne-eqb, eqb-true, eqb-false}
 use Rattle.text.specs.Lines.{Line, lines, line-at, line-is, field}
@@ -19,12 +19,13 @@ use Rattle.text.specs.declared.read.Named.the-variants.{Past, Other}
 use Rattle.text.proofs.Tests.{and-both}
 use Rattle.text.proofs.Writing.{put-front}
 use Rattle.text.proofs.Reading.{Row, No-row, Line-named, named-go, other-go}
-use Rattle.model.specs.Case.{known-version, longest-file}
+use Rattle.model.specs.Case.{longest-file}
 use Rattle.model.specs.Chart.{most-modes, most-flags, longest-name, mode-name, name-line, Rule, combinations, next-mode, chart-names, mode-names, rule-names, chart-counts-good, chart-head-good, names-right, rules-in, first-bad, charted, rules-fit, chart-head-right, chart-rest-right, chart-right, chart-in, chart-says}
 use Rattle.model.specs.declared.Charted.{Charted}
 use Rattle.model.specs.ChartPromise.{First-bad-pair}
 use Rattle.model.proofs.Tools.{table-length}
 use Rattle.model.proofs.Pairs.{next-base}
+use Rattle.model.proofs.ChartSound.{counts-fit}
 use Rattle.model.proofs.Charts.{chart-passed, right-bad, first-bad-pair}
 use Rattle.text.proofs.Places.{skip-one, skip-add, skip-last, skip-lines, skip-line}
 use Rattle.chart.specs.Pairs.{most-combinations, most-pairs, one-rule, Fresh, Marked, Rules-read, table-says, next-entry, chart-entries, table-after}
@@ -132,18 +133,9 @@ pub record In-range (m k : ℕ) : Type 0 where
   pub few : 2 ^ k ≤ most-combinations
 
 in-range-go : (v m u k : ℕ) → chart-counts-good v m u k ≡ true → In-range m k
-unfolding chart-counts-good
 in-range-go v m u k h =
-    let a = and-both (eqb v known-version && (leb 1 m && leb m most-modes)) (ltb u m && (leb 1 k && leb k most-flags)) h in
-    let b = and-both (eqb v known-version) (leb 1 m && leb m most-modes) (a .0) in
-    let d = and-both (ltb u m) (leb 1 k && leb k most-flags) (a .1) in
-    let f : k ≤ most-flags = leb-true k most-flags (and-both (leb 1 k) (leb k most-flags) (d .1) .1) in
-    record {
-      modes = leb-true m most-modes (and-both (leb 1 m) (leb m most-modes) (b .1) .1);
-      flags = f;
-      some = one-le-pow k 2 (lit< tt);
-      few = pow-le-pow-right {n = 2} (lit< tt) f;
-    }
+    let n = counts-fit v m u k h in
+    record { modes = n .modes; flags = n .flags; some = one-le-pow k 2 (lit< tt); few = pow-le-pow-right {n = 2} (lit< tt) (n .flags) }
 
 module _ {s : List ℕ} {x : Chart} {names : ℕ} (h : Headed s x names) where
   modes-are : number-at (line-at (lines s) 1) 1 ≡ x .modes

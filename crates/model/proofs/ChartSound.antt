@@ -16,7 +16,7 @@ use Rattle.model.specs.Chart.{most-modes, most-flags, most-rules, longes
 use Rattle.model.specs.ChartPromise.{Charts-sound}
 use Rattle.model.proofs.Charts.{passed-right}
 
-name-short : (l : Line) → name-line l ≡ true → length (l .text) ≤ longest-name
+pub name-short : (l : Line) → name-line l ≡ true → length (l .text) ≤ longest-name
 unfolding name-line is-name
 name-short l e =
     let w = l .text in
@@ -51,14 +51,15 @@ next-below m c (l ∷ ls) q f s e =
     go true a r = a
     go false a r = r
 
-record Counts (m s k : ℕ) : Type 0 where
-  modes : m ≤ most-modes
-  start : s < m
-  flags : k ≤ most-flags
+-- line 2 is in range
+pub record Counts-fit (m s k : ℕ) : Type 0 where
+  pub modes : m ≤ most-modes
+  pub start : s < m
+  pub flags : k ≤ most-flags
 
-counts : (v m s k : ℕ) → chart-counts-good v m s k ≡ true → Counts m s k
+pub counts-fit : (v m s k : ℕ) → chart-counts-good v m s k ≡ true → Counts-fit m s k
 unfolding chart-counts-good
-counts v m s k e =
+counts-fit v m s k e =
     let a = and-both (eqb v known-version && (leb 1 m && leb m most-modes)) (ltb s m && (leb 1 k && leb k most-flags)) e in
     let b = and-both (ltb s m) (leb 1 k && leb k most-flags) (a .1) in
     let d = and-both (eqb v known-version) (leb 1 m && leb m most-modes) (a .0) .1 in
@@ -81,7 +82,7 @@ charts-sound bs e =
     let whole = and-both (first && line-is mode-names (line-at ls 2)) (names-right m (drop 3 ls) && (line-is rule-names (line-at ls (3 + m)) && rules)) (passed-right bs e) in
     let opened = and-both first (line-is mode-names (line-at ls 2)) (whole .0) .0 in
     let head = and-both (line-is chart-names (line-at ls 0)) (numbers-line 4 h && chart-head-good h) (and-both (leb (length bs) longest-file) (line-is chart-names (line-at ls 0) && (numbers-line 4 h && chart-head-good h)) opened .1) .1 in
-    let k = counts (number-at h 0) m (number-at h 2) (number-at h 3) (and-both (numbers-line 4 h) (chart-head-good h) head .1) in
+    let k = counts-fit (number-at h 0) m (number-at h 2) (number-at h 3) (and-both (numbers-line 4 h) (chart-head-good h) head .1) in
     let rest = and-both (names-right m (drop 3 ls)) (line-is rule-names (line-at ls (3 + m)) && rules) (whole .1) in
     let right = and-both (leb (length rs) most-rules) (rules-right m c rs) (and-both (line-is rule-names (line-at ls (3 + m))) rules (rest .1) .1) .1 in
     record {

@@ -35,7 +35,7 @@ use Rattle.chart.specs.declared.Chart as D
 use Rattle.chart.specs.declared.Read.{Read}
 use Rattle.chart.specs.declared.Read.the-variants.{Faulty, Bad, Accepted}
 use Rattle.chart.proofs.Whole.{Passed-read, passed-read, bad-read, read-returns, handed-at}
-use Rattle.product.specs.Edges.{most-both, Leads, Asks}
+use Rattle.product.specs.Edges.{most-product, Leads, Asks}
 use Rattle.product.specs.Both.{refused-by, texts-refusal, Both-asks, Both-held, Both-refused}
 
 -- WHICH REFUSAL of both texts comes first
@@ -179,13 +179,13 @@ module _ (bs cs : List ℕ) {t follow : List ℕ} {r : Read} {x : D.Chart} (g : 
     combinations-are = ap (λ (n : ℕ). 2 ^ n) flags-are
 
     -- the product's counts fit
-    few-vertices : x .modes * c .states ≤ most-both
+    few-vertices : x .modes * c .states ≤ most-product
     few-vertices =
         let a : x .modes ≤ most-modes = omega (arith, sound .modes, modes-are) in
         let b : c .states ≤ most-states = omega (arith, claim-sound .states, states-are) in
         mul-le-mul a b
 
-    pub source-fits : x .start * c .states + c .start < most-both
+    pub source-fits : x .start * c .states + c .start < most-product
     source-fits =
         omega (
           arith,

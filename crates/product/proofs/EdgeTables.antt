@@ -23,7 +23,7 @@ use Rattle.claim.specs.Cells.{moves-from}
 use Rattle.chart.specs.Pairs.{one-rule}
 use Rattle.model.proofs.Masks.{Row, row-start, row-step, row-end, edge-if, to-snoc, from-snoc, from-grows, to-append}
 use Rattle.product.specs.Tables.{ends-of}
-use Rattle.product.specs.Edges.{both-of, most-both, Goes, Leads, Given, Asks, Listed, Adds, Mask-adds, Holds, Row-adds, Row-asks, Row-filled, Vertex-adds, Edges-found}
+use Rattle.product.specs.Edges.{both-of, most-product, Goes, Leads, Given, Asks, Listed, Adds, Mask-adds, Holds, Row-adds, Row-asks, Row-filled, Vertex-adds, Edges-found}
 
 -- SOME EDGES MORE
 pub adds-none : (n : ℕ) (fs ts : List ℕ) → Adds [] n n fs fs ts ts
@@ -203,9 +203,9 @@ pub record Place (v modes states count : ℕ) (follow cells : List ℕ) : Type 0
   pub pair : Pair modes states v
   pub pairs : v / states * count + count ≤ length follow
   pub masks : moves-from (v % states) + count ≤ length cells
-  pub few : v < most-both
+  pub few : v < most-product
 
-pub few-vertices : {modes states count : ℕ} {follow cells : List ℕ} → Asks modes states count follow cells → modes * states ≤ most-both
+pub few-vertices : {modes states count : ℕ} {follow cells : List ℕ} → Asks modes states count follow cells → modes * states ≤ most-product
 few-vertices p = mul-le-mul (p .few-modes) (p .few-states)
 
 pub place : {v modes states count : ℕ} {follow cells : List ℕ} → Asks modes states count follow cells → v < modes * states → Place v modes states count follow cells

@@ -6,7 +6,7 @@ use Prim.Native.Nat.{ℕ, _+_, _-_, _/_, _%_, _≤_, _<_, min}
 use native.Mathlib.Omega.{arith}
 use lib.Dec.{leb}
 use lib.ListN.{length, getD, set, take, drop, length-set, length-drop, drop-of-length-le}
-use lib.Seq.{take-all, getD-set-same, getD-set-other}
+use lib.Seq.{take-all, take-length, drop-length, getD-set-same, getD-set-other}
 use borrow.Author.Tests.{leb-true, leb-false, eq-eqb, ne-eqb}
 use Rattle.text.specs.Ascii.{space, line-feed}
 use Rattle.text.specs.Lines.{lines, joined, text}
@@ -24,19 +24,18 @@ use Rattle.chart.specs.Reading.{name-place}
 use Rattle.product.specs.Names.{state-text, Places-filled, named-row, rows-by, all-single, Steps-written}
 
 -- A PART cut at the text's end
-take-min : (n : ℕ) (l : List ℕ) → take (min n (length l)) l ≡ take n l
-take-min n l = go (leb n (length l)) refl
+by-min : (f : ℕ → List ℕ) (n k : ℕ) → (k ≤ n → f k ≡ f n) → f (min n k) ≡ f n
+by-min f n k past = go (leb n k) refl
   where
-    go : (b : Bool) → leb n (length l) ≡ b → take (min n (length l)) l ≡ take n l
-    go true e = let m : min n (length l) ≡ n = omega (arith, leb-true n (length l) e) in rw m refl
-    go false e = take-all (min n (length l)) l (omega (arith, leb-false n (length l) e)) ∙ sym (take-all n l (omega (arith, leb-false n (length l) e)))
+    go : (b : Bool) → leb n k ≡ b → f (min n k) ≡ f n
+    go true e = let m : min n k ≡ n = omega (arith, leb-true n k e) in rw m refl
+    go false e = let m : min n k ≡ k = omega (arith, leb-false n k e) in rw m (past (omega (arith, leb-false n k e)))
+
+take-min : (n : ℕ) (l : List ℕ) → take (min n (length l)) l ≡ take n l
+take-min n l = by-min (λ i. take i l) n (length l) (λ h. take-length l ∙ sym (take-all n l h))
 
 drop-min : (n : ℕ) (l : List ℕ) → drop (min n (length l)) l ≡ drop n l
-drop-min n l = go (leb n (length l)) refl
-  where
-    go : (b : Bool) → leb n (length l) ≡ b → drop (min n (length l)) l ≡ drop n l
-    go true e = let m : min n (length l) ≡ n = omega (arith, leb-true n (length l) e) in rw m refl
-    go false e = drop-of-length-le l {i = min n (length l)} (omega (arith, leb-false n (length l) e)) ∙ sym (drop-of-length-le l {i = n} (omega (arith, leb-false n (length l) e)))
+drop-min n l = by-min (λ i. drop i l) n (length l) (λ h. drop-length l ∙ sym (drop-of-length-le l {i = n} h))
 
 pub cut : (l : List ℕ) (at many s n : ℕ) → s ≡ min at (length l) → n ≡ min many (length l - s) → take (s + n - s) (drop s l) ≡ take many (drop at l)
 cut l at many s n p q =

@@ -15,7 +15,7 @@ use Rattle.model.specs.CaseText.{case-file}
 use Rattle.model.specs.Chart.{Chart}
 use Rattle.model.specs.Claim.{Claim}
 use Rattle.model.specs.ClaimEntry.{mark-of}
-use Rattle.model.specs.Product.{Automaton, product, chart-automaton, claim-automaton, state-mark, remainder-by, graph-of, product-graph, product-case}
+use Rattle.model.specs.Product.{product, chart-automaton, claim-automaton, state-mark, remainder-by, graph-of, product-graph, product-case}
 use Rattle.model.proofs.Tools.{table-length, table-same}
 use Rattle.product.specs.Tables.{ends-of, tabled, Tables}
 use Rattle.product.specs.Edges.{both-of, Edges-found}

@@ -20,8 +20,8 @@ abbrev pub both-of : Chart → Claim → Automaton
 both-of h k = product (chart-automaton h) (claim-automaton k)
 
 -- a product has at most so many vertices
-abbrev pub most-both : ℕ
-most-both = most-modes * most-states
+abbrev pub most-product : ℕ
+most-product = most-modes * most-states
 
 -- where a state can go on these flags, as a mask
 abbrev pub Goes : Claim → (flags from mask : ℕ) → Type 0
