@@ -7,7 +7,7 @@ ghost use lib.ListN.{length};
 ghost use Rattle.text.specs.Reading.{Part};
 ghost use Rattle.model.specs.Chart.{chart-counts-good, chart-says, most-flags};
 ghost use Rattle.chart.specs.Reading.{head-says, Chart-laid, Chart-read, name-place};
-ghost use Rattle.chart.specs.Pairs.{most-pairs, Fresh, entry-refusal, table-says, All-one};
+ghost use Rattle.chart.specs.Pairs.{most-pairs, Fresh, entry-refusal, table-says, All-one, Good-front};
 use casefile::Case;
 use model::Charted;
 use names::name_block;
@@ -177,15 +177,16 @@ fn most_of(a: u8, b: u8) -> u8
     a
 }
 
-// Whether so many pairs all have exactly one rule. The loop looks at every entry, so that the compiler can do many at once.
-fn all_one(pairs: &[u8], many: usize) -> bool
-    requires { ⌜ many ≤ length (now pairs) ⌝ }
-    ensures { λ r. ⌜ (r ≡ true → All-one (now (pairs .entry)) many) ⌝ }
+// Whether the pairs from one to another all have exactly one rule. The loop looks at every entry, so that the compiler can do
+// many at once.
+fn all_one(pairs: &[u8], from: usize, to: usize) -> bool
+    requires { ⌜ to ≤ length (now pairs) ⌝ }
+    ensures { λ r. ⌜ (r ≡ true → All-one (now (pairs .entry)) from to) ⌝ }
 {
     let mut least = Chart::ONE_RULE;
     let mut most = Chart::ONE_RULE;
-    let mut i: usize = 0;
-    while i < many {
+    let mut i = from;
+    while i < to {
         least = least_of(least, pairs[i]);
         most = most_of(most, pairs[i]);
         i += 1;
@@ -196,15 +197,27 @@ fn all_one(pairs: &[u8], many: usize) -> bool
     most < rules::TWO_RULES
 }
 
+// How many of so many pairs are those of the first modes, a mode at a time, that all have exactly one rule.
+fn good_modes(pairs: &[u8], many: usize, count: usize) -> usize
+    requires { ⌜ (many ≤ length (now pairs)) × (1 ≤ count) ⌝ }
+    ensures { λ r. ⌜ Good-front (now (pairs .entry)) many r ⌝ }
+{
+    let mut i: usize = 0;
+    while count <= many - i {
+        if !all_one(pairs, i, i + count) {
+            return i;
+        }
+        i += count;
+    }
+    i
+}
+
 // The first of so many pairs that has no rule or two.
 fn bad_pair(pairs: &[u8], many: usize, count: usize) -> Charted
     requires { ⌜ (many ≤ length (now pairs)) × (many ≤ most-pairs) × (1 ≤ count) ⌝ }
     ensures { λ r. ⌜ r ≡ table-says many 0 count (now (pairs .entry)) ⌝ }
 {
-    if all_one(pairs, many) {
-        return without_pair(0);
-    }
-    let mut i: usize = 0;
+    let mut i = good_modes(pairs, many, count);
     while i < many {
         let refusal = entry_refusal(pairs[i]);
         if refusal != 0 {

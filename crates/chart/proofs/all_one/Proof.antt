@@ -11,13 +11,13 @@ use Rattle.chart.proofs.all_one.Statement.{statement}
 use Rattle.chart.proofs.all_one.Tie as tie
 
 abbrev Inv-loop : tie.InvT-loop
-Inv-loop pairs many least₀ most₀ i₀ least most i = Extremes pairs i least most
+Inv-loop pairs from to least₀ most₀ i₀ least most i = Extremes pairs from i least most
 
 abbrev μ-loop : tie.MeasureT-loop
-μ-loop pairs many least₀ most₀ i₀ least most i = many - i
+μ-loop pairs from to least₀ most₀ i₀ least most i = to - i
 
 loop-holds : tie.Need-loop-holds Inv-loop μ-loop
-loop-holds c = extremes-start _ _ _
+loop-holds c = extremes-start _ _ _ _
 
 shared-slice-read-least-of : tie.Need-shared-slice-read-least-of Inv-loop μ-loop
 shared-slice-read-least-of c = omega arith
