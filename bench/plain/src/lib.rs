@@ -6,7 +6,6 @@ pub mod charts;
 pub mod claims;
 mod cursor;
 pub mod nested;
-mod next_modes;
 pub mod product;
 pub mod reader;
 pub mod rounds;

@@ -2,8 +2,8 @@
 //! answer to it by names, with every check of the library's.
 
 use crate::answers::{self, Graph, Shown};
+use crate::charts::{self, Chart, MOST_MODES, NO_PAIRS, Pairs};
 use crate::claims::{self, Counts, Tables};
-use crate::next_modes::{self, Chart, MOST_MODES, NO_PAIRS, Pairs};
 use crate::reader::{COUNT, COUNT_NAMES, EDGE_NAMES, MOST_EDGES, MOST_WORKERS, VERTEX_NAMES};
 use crate::writer::Writer;
 
@@ -100,7 +100,7 @@ impl Parts {
             combination,
             written: 0,
         };
-        let chart = next_modes::read(chart, &mut next).map_err(of_chart)?;
+        let chart = charts::read(chart, &mut next).map_err(of_chart)?;
         let mut tables = Tables::empty();
         let claim = claims::read(claim, &mut tables).map_err(refused)?;
         if claim.propositions as usize != chart.flags {
