@@ -108,11 +108,6 @@ pub record Lines-left (s : List ℕ) (at n here q : ℕ) : Type 0 where
 pub lines-start : (s : List ℕ) (at n : ℕ) {here : ℕ} → here ≡ at → Lines-left s at n here 0
 lines-start s at n e = let z : n - 0 ≡ n = omega arith in record { within = omega arith; place = rw (z, e) refl }
 
--- the place past three lines, one by one
-pub third-line : (s : List ℕ) {a b c : ℕ} → a ≡ past-line s 0 → b ≡ past-line s a → c ≡ past-line s b → c ≡ skip 3 s 0
-unfolding skip
-third-line s p q r = r ∙ ap (past-line s) (q ∙ ap (past-line s) p)
-
 skip-end : (k : ℕ) (s : List ℕ) (at : ℕ) → length s ≤ at → skip k s at ≡ at
 skip-end zero s at h = skip-none s at
 skip-end (suc k) s at h = skip-first k s at ∙ rw (past-end s at h) (skip-end k s at h)

@@ -19,6 +19,7 @@ use text::read::field;
 use text::read::leading_number;
 use text::read::name_line;
 use text::read::next_line;
+use text::read::past_head;
 use text::read::row_of_3;
 use text::write::write_bytes;
 
@@ -272,9 +273,7 @@ pub fn check_chart(text: &[u8]) -> Charted
 pub fn mode_name(text: &[u8], mode: usize) -> &[u8]
     ensures { λ r. ⌜ Part (text .entry) (name-place (now (text .entry)) mode) r ⌝ }
 {
-    let second = next_line(text, 0);
-    let third = next_line(text, second);
-    let mut at = next_line(text, third);
+    let mut at = past_head(text);
     let mut q: usize = 0;
     while q < mode {
         if text.len() <= at {

@@ -9,7 +9,7 @@ use lib.ListN.{length, getD, take, drop}
 use lib.Seq.{take-append-seam, getD-take}
 use borrow.Author.Tests.{ne-eqb, lt-ltb, le-ltb, eq-eqb}
 use Rattle.text.specs.Lines.{Line, lines, line-at, text}
-use Rattle.text.specs.Reading.{past-line, skip}
+use Rattle.text.specs.Reading.{skip}
 use Rattle.text.specs.Writing.{Puts}
 use Rattle.text.proofs.Places.{skip-lines}
 use Rattle.text.proofs.Chains.{puts-as, puts-none}
@@ -141,7 +141,7 @@ module _ {bs cs case tos cells : List ℕ} {states source : ℕ} {o : List ℕ} 
     chart-is-right = passed-right bs (first-zero _ _ (a .passes) .0)
 
     -- the edges stand from line 4 on
-    module _ (n : r .verdict ≡ empty-verdict → ⊥) {x y at : ℕ} (p : x ≡ past-line ts 0) (q : y ≡ past-line ts x) (u : at ≡ past-line ts y) {places : List ℕ} (filled : Places-filled bs places) (long : length places ≡ most-modes) {m : ℕ} {o′ : List ℕ}
+    module _ (n : r .verdict ≡ empty-verdict → ⊥) {at : ℕ} (past : at ≡ skip 3 ts 0) {places : List ℕ} (filled : Places-filled bs places) (long : length places ≡ most-modes) {m : ℕ} {o′ : List ℕ}
         (w : Steps-written (named-row bs cs places cells states) ts at source tos m o o′) where
       modes-fit : chart-in bs .modes ≤ length places
       modes-fit = omega (arith, sound .chart .modes)
@@ -150,7 +150,7 @@ module _ {bs cs case tos cells : List ℕ} {states source : ℕ} {o : List ℕ} 
       lasso = is-lasso (λ z. n (verdict-is ∙ z))
 
       place : lines (drop at ts) ≡ drop 3 (lines ts)
-      place = let e : at ≡ skip 3 ts 0 = unfold skip in (u ∙ ap (past-line ts) (q ∙ ap (past-line ts) p)) in rw e (skip-lines 3 ts 0)
+      place = rw past (skip-lines 3 ts 0)
 
       rows : text (rows-by (named-row bs cs places cells states) tos source (column 0 (lines (drop at ts)))) ≡ listing bs cs ts
       rows =

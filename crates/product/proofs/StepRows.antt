@@ -14,7 +14,7 @@ use Rattle.text.specs.Numbers.{decimal, numbers-line}
 use Rattle.text.specs.Reading.{line-here, field-here, past-line, skip}
 use Rattle.text.specs.Writing.{Writes, Puts}
 use Rattle.text.proofs.Tests.{Same, same?, same, other, and-both, clash}
-use Rattle.text.proofs.Places.{skip-last}
+use Rattle.text.proofs.Places.{skip-none, skip-last}
 use Rattle.text.proofs.Reading.{Row, No-row, row-rest, no-lines, some-lines, lines-here}
 use Rattle.text.proofs.Chains.{puts, puts-as, puts-then, Still, still-start, still-step, still-end}
 use Rattle.text.proofs.Rows.{text-append}
@@ -70,9 +70,8 @@ pub record Placing (s ps now : List ℕ) (at q : ℕ) : Type 0 where
   pub here : at ≡ name-place s q
   pub done : (i : ℕ) → i < q → getD now i 0 ≡ name-place s i
 
-pub placing-start : (s ps : List ℕ) {x y at : ℕ} → x ≡ past-line s 0 → y ≡ past-line s x → at ≡ past-line s y → Placing s ps ps at 0
-unfolding skip
-placing-start s ps p q u = record { kept = refl; here = u ∙ ap (past-line s) (q ∙ ap (past-line s) p); done = λ i l. absurd (omega arith) }
+pub placing-start : (s ps : List ℕ) {at : ℕ} → at ≡ skip 3 s 0 → Placing s ps ps at 0
+placing-start s ps e = record { kept = refl; here = e ∙ sym (skip-none s (skip 3 s 0)); done = λ i l. absurd (omega arith) }
 
 pub placing-next : {s ps now : List ℕ} {at next q : ℕ} → Placing s ps now at q → q < length now → next ≡ past-line s at → Placing s ps (set now q at) next (q + 1)
 placing-next {s} {ps} {now} {at} {next} {q} d l e =

@@ -19,7 +19,7 @@ use model::Built;
 use model::Outcome;
 use names::fill_places;
 use steps::write_steps;
-use text::read::next_line;
+use text::read::past_head;
 
 mod both;
 mod build;
@@ -113,9 +113,7 @@ fn list_checked<'a>(
     if checked.verdict == Outcome::EMPTY {
         return written(0);
     }
-    let second = next_line(answer, 0);
-    let third = next_line(answer, second);
-    let edges = next_line(answer, third);
+    let edges = past_head(answer);
     let mut places = [0usize; Chart::MOST_MODES];
     fill_places(chart, &mut places);
     let n = write_steps(

@@ -5,6 +5,7 @@ ghost use lib.ListN.{getD};
 ghost use Rattle.product.specs.Names.{Piece, Name-is, Places-filled};
 use text::read::field;
 use text::read::next_line;
+use text::read::past_head;
 
 // Where a name stands: a mode's in the chart, up to its line's end; a state's in the claim, from a place on, so many bytes.
 pub(crate) enum Place {
@@ -44,9 +45,7 @@ pub(crate) fn name_at<'a>(chart: &'a [u8], claim: &'a [u8], place: Place) -> &'a
 pub(crate) fn fill_places(chart: &[u8], places: &mut [usize])
     ensures { λ r. ⌜ Places-filled (now (chart .entry)) (now (places .exit)) ⌝ }
 {
-    let second = next_line(chart, 0);
-    let third = next_line(chart, second);
-    let mut at = next_line(chart, third);
+    let mut at = past_head(chart);
     let mut q: usize = 0;
     while q < places.len() {
         places[q] = at;

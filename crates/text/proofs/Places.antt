@@ -18,6 +18,11 @@ pub skip-one : (s : List ℕ) (at : ℕ) → skip 1 s at ≡ past-line s at
 unfolding skip
 skip-one s at = refl
 
+-- past three lines, one by one
+pub skip-three : (s : List ℕ) (at : ℕ) {a b c : ℕ} → a ≡ past-line s at → b ≡ past-line s a → c ≡ past-line s b → c ≡ skip 3 s at
+unfolding skip
+skip-three s at p q r = r ∙ ap (past-line s) (q ∙ ap (past-line s) p)
+
 pub skip-first : (k : ℕ) (s : List ℕ) (at : ℕ) → skip (suc k) s at ≡ skip k s (past-line s at)
 unfolding skip
 skip-first k s at = refl

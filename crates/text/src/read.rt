@@ -6,7 +6,7 @@ ghost use Prim.Native.Nat.{_+_, min};
 ghost use lib.ListN.{length, drop};
 ghost use Rattle.text.specs.Lines.{equal, begins};
 ghost use Rattle.text.specs.Numbers.{is-digit, most-digits, has-minus};
-ghost use Rattle.text.specs.Reading.{past-line, field-here, Part, is-separator, Digits-read, number-in, named-here, digits-here, number-before, leading-here, row1-here, row2-here, row3-here, row5-here, signed-last, signed-row-here};
+ghost use Rattle.text.specs.Reading.{past-line, skip, field-here, Part, is-separator, Digits-read, number-in, named-here, digits-here, number-before, leading-here, row1-here, row2-here, row3-here, row5-here, signed-last, signed-row-here};
 
 const LINE_FEED: u8 = 10;
 
@@ -32,6 +32,15 @@ pub fn next_line(text: &[u8], at: usize) -> usize
         e += 1;
     }
     e
+}
+
+// The place past the three lines that a file begins with: names, numbers, names.
+pub fn past_head(text: &[u8]) -> usize
+    ensures { λ r. ⌜ r ≡ skip 3 (now (text .entry)) 0 ⌝ }
+{
+    let second = next_line(text, 0);
+    let third = next_line(text, second);
+    next_line(text, third)
 }
 
 // Whether a byte ends a field.

@@ -3,27 +3,21 @@ use native.Mathlib.Omega.{arith}
 use Prim.Native.Nat.{_-_}
 use borrow.Author.Needs.{needs}
 use Rattle.text.specs.Reading.{skip}
-use Rattle.chart.proofs.NameLines.{Lines-left, lines-start, lines-more, lines-end, lines-out, third-line}
+use Rattle.chart.proofs.NameLines.{Lines-left, lines-start, lines-more, lines-end, lines-out}
 use Rattle.chart.proofs.mode_name.Statement.{statement}
 use Rattle.chart.proofs.mode_name.Tie as tie
 
 abbrev Inv-loop : tie.InvT-loop
-Inv-loop text mode second third at₀ q₀ at q = Lines-left text (skip 3 text 0) mode at q
+Inv-loop text mode at₀ q₀ at q = Lines-left text (skip 3 text 0) mode at q
 
 abbrev μ-loop : tie.MeasureT-loop
-μ-loop text mode second third at₀ q₀ at q = mode - q
+μ-loop text mode at₀ q₀ at q = mode - q
 
-next-line-requires : tie.Need-next-line-requires Inv-loop μ-loop
-next-line-requires c κs = search needs
-
-next-line-requires-2 : tie.Need-next-line-requires-2 Inv-loop μ-loop
-next-line-requires-2 c κs = search needs
-
-next-line-requires-3 : tie.Need-next-line-requires-3 Inv-loop μ-loop
-next-line-requires-3 c κs = search needs
+past-head-requires : tie.Need-past-head-requires Inv-loop μ-loop
+past-head-requires c κs = search needs
 
 loop-holds : tie.Need-loop-holds Inv-loop μ-loop
-loop-holds c = lines-start _ _ _ (third-line _ (c .before .before .next-line .ensures) (c .before .next-line2 .ensures) (c .next-line3 .ensures))
+loop-holds c = lines-start _ _ _ (c .past-head .ensures)
 
 field-requires : tie.Need-field-requires Inv-loop μ-loop
 field-requires c κs = search needs
@@ -31,8 +25,8 @@ field-requires c κs = search needs
 returns : tie.Need-returns Inv-loop μ-loop
 returns c = rw (lines-out (c .before .before .before .loop .inv) (c .before .if1 .taken)) at (c .field .ensures)
 
-next-line-requires-4 : tie.Need-next-line-requires-4 Inv-loop μ-loop
-next-line-requires-4 c κs = search needs
+next-line-requires : tie.Need-next-line-requires Inv-loop μ-loop
+next-line-requires c κs = search needs
 
 add-q : tie.Need-add-q Inv-loop μ-loop
 add-q c = omega arith
@@ -41,7 +35,7 @@ loop-less : tie.Need-loop-less Inv-loop μ-loop
 loop-less c = omega arith
 
 loop-again : tie.Need-loop-again Inv-loop μ-loop
-loop-again c = lines-more (c .before .before .before .loop .inv) (omega arith) (c .next-line4 .ensures)
+loop-again c = lines-more (c .before .before .before .loop .inv) (omega arith) (c .next-line .ensures)
 
 field-requires-2 : tie.Need-field-requires-2 Inv-loop μ-loop
 field-requires-2 c κs = search needs
@@ -55,13 +49,11 @@ mode-name-spec =
     (tie.spec
     Inv-loop
     μ-loop
-    next-line-requires
-    next-line-requires-2
-    next-line-requires-3
+    past-head-requires
     loop-holds
     field-requires
     returns
-    next-line-requires-4
+    next-line-requires
     add-q
     loop-less
     loop-again

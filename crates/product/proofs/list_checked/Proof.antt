@@ -23,14 +23,8 @@ written-requires c κs = search needs
 returns-2 : tie.Need-returns-2
 returns-2 c = rw (c .written .ensures) (checked-empty (c .before .before .before .before .before .before .before .before .before .before .before .before .before .pre) (c .before .before .before .before .before .check-answer .ensures) (c .before .before .before .if1 .left) (c .before .if2 .taken))
 
-next-line-requires : tie.Need-next-line-requires
-next-line-requires c κs = search needs
-
-next-line-requires-2 : tie.Need-next-line-requires-2
-next-line-requires-2 c κs = search needs
-
-next-line-requires-3 : tie.Need-next-line-requires-3
-next-line-requires-3 c κs = search needs
+past-head-requires : tie.Need-past-head-requires
+past-head-requires c κs = search needs
 
 slice-aggregate-fill-places : tie.Need-slice-aggregate-fill-places
 slice-aggregate-fill-places c = search needs
@@ -42,16 +36,16 @@ slice-aggregate-write-steps : tie.Need-slice-aggregate-write-steps
 slice-aggregate-write-steps c = search needs
 
 write-steps-requires : tie.Need-write-steps-requires
-write-steps-requires c κs = steps-asked (c .before .before .before .before .before .before .before .before .before .before .before .before .before .before .before .before .before .before .before .before .pre)
+write-steps-requires c κs = steps-asked (c .before .before .before .before .before .before .before .before .before .before .before .before .before .before .before .before .before .before .pre)
 
 written-requires-2 : tie.Need-written-requires-2
-written-requires-2 c κs = checked-fits (c .before .before .before .before .before .before .before .before .before .before .before .before .before .before .before .before .before .before .before .before .before .before .before .pre) (c .before .before .before .before .before .before .before .before .before .before .before .before .before .before .before .check-answer .ensures) (c .before .before .before .before .before .before .before .before .before .before .before .before .before .if1 .left) (c .before .before .before .before .before .before .before .before .before .before .before .if2 .left) (c .before .before .before .before .before .before .before .before .before .before .next-line .ensures) (c .before .before .before .before .before .before .before .before .before .next-line2 .ensures) (c .before .before .before .before .before .before .before .before .next-line3 .ensures) (c .before .before .before .before .before .before .fill-places .ensures) (c .before .before .before .before .before .before .fill-places .kept .1 .0 ∙ length-replicate {A = ℕ} most-modes 0) (c .before .before .write-steps .ensures)
+written-requires-2 c κs = checked-fits (c .before .before .before .before .before .before .before .before .before .before .before .before .before .before .before .before .before .before .before .before .before .pre) (c .before .before .before .before .before .before .before .before .before .before .before .before .before .check-answer .ensures) (c .before .before .before .before .before .before .before .before .before .before .before .if1 .left) (c .before .before .before .before .before .before .before .before .before .if2 .left) (c .before .before .before .before .before .before .before .before .past-head .ensures) (c .before .before .before .before .before .before .fill-places .ensures) (c .before .before .before .before .before .before .fill-places .kept .1 .0 ∙ length-replicate {A = ℕ} most-modes 0) (c .before .before .write-steps .ensures)
 
 same-length : tie.Need-same-length
 same-length c = search needs
 
 returns-3 : tie.Need-returns-3
-returns-3 c = rw (c .written2 .ensures) (checked-lasso (c .before .before .before .before .before .before .before .before .before .before .before .before .before .before .before .before .before .before .before .before .before .before .before .before .pre) (c .before .before .before .before .before .before .before .before .before .before .before .before .before .before .before .before .check-answer .ensures) (c .before .before .before .before .before .before .before .before .before .before .before .before .before .before .if1 .left) (c .before .before .before .before .before .before .before .before .before .before .before .before .if2 .left) (c .before .before .before .before .before .before .before .before .before .before .before .next-line .ensures) (c .before .before .before .before .before .before .before .before .before .before .next-line2 .ensures) (c .before .before .before .before .before .before .before .before .before .next-line3 .ensures) (c .before .before .before .before .before .before .before .fill-places .ensures) (c .before .before .before .before .before .before .before .fill-places .kept .1 .0 ∙ length-replicate {A = ℕ} most-modes 0) (c .before .before .before .write-steps .ensures))
+returns-3 c = rw (c .written2 .ensures) (checked-lasso (c .before .before .before .before .before .before .before .before .before .before .before .before .before .before .before .before .before .before .before .before .before .before .pre) (c .before .before .before .before .before .before .before .before .before .before .before .before .before .before .check-answer .ensures) (c .before .before .before .before .before .before .before .before .before .before .before .before .if1 .left) (c .before .before .before .before .before .before .before .before .before .before .if2 .left) (c .before .before .before .before .before .before .before .before .before .past-head .ensures) (c .before .before .before .before .before .before .before .fill-places .ensures) (c .before .before .before .before .before .before .before .fill-places .kept .1 .0 ∙ length-replicate {A = ℕ} most-modes 0) (c .before .before .before .write-steps .ensures))
 
 pub list-checked-spec : {M : Type 1} → statement M
 list-checked-spec =
@@ -62,9 +56,7 @@ list-checked-spec =
     returns
     written-requires
     returns-2
-    next-line-requires
-    next-line-requires-2
-    next-line-requires-3
+    past-head-requires
     slice-aggregate-fill-places
     fill-places-requires
     slice-aggregate-write-steps

@@ -8,22 +8,16 @@ use Rattle.product.proofs.names.fill_places.Statement.{statement}
 use Rattle.product.proofs.names.fill_places.Tie as tie
 
 abbrev Inv-loop : tie.InvT-loop
-Inv-loop chart places₀ second third at₀ q₀ places at q = Placing chart places₀ places at q
+Inv-loop chart places₀ at₀ q₀ places at q = Placing chart places₀ places at q
 
 abbrev μ-loop : tie.MeasureT-loop
-μ-loop chart places₀ second third at₀ q₀ places at q = length places₀ - q
+μ-loop chart places₀ at₀ q₀ places at q = length places₀ - q
 
-next-line-requires : tie.Need-next-line-requires Inv-loop μ-loop
-next-line-requires c κs = search needs
-
-next-line-requires-2 : tie.Need-next-line-requires-2 Inv-loop μ-loop
-next-line-requires-2 c κs = search needs
-
-next-line-requires-3 : tie.Need-next-line-requires-3 Inv-loop μ-loop
-next-line-requires-3 c κs = search needs
+past-head-requires : tie.Need-past-head-requires Inv-loop μ-loop
+past-head-requires c κs = search needs
 
 loop-holds : tie.Need-loop-holds Inv-loop μ-loop
-loop-holds c = placing-start _ _ (c .before .before .next-line .ensures) (c .before .next-line2 .ensures) (c .next-line3 .ensures)
+loop-holds c = placing-start _ _ (c .past-head .ensures)
 
 mul-places : tie.Need-mul-places Inv-loop μ-loop
 mul-places c = search needs
@@ -31,8 +25,8 @@ mul-places c = search needs
 slice-write-places : tie.Need-slice-write-places Inv-loop μ-loop
 slice-write-places c = omega arith
 
-next-line-requires-4 : tie.Need-next-line-requires-4 Inv-loop μ-loop
-next-line-requires-4 c κs = search needs
+next-line-requires : tie.Need-next-line-requires Inv-loop μ-loop
+next-line-requires c κs = search needs
 
 add-q : tie.Need-add-q Inv-loop μ-loop
 add-q c = omega arith
@@ -41,7 +35,7 @@ loop-less : tie.Need-loop-less Inv-loop μ-loop
 loop-less c = omega (arith, c .before .before .loop .inv .kept)
 
 loop-again : tie.Need-loop-again Inv-loop μ-loop
-loop-again c = placing-next (c .before .before .loop .inv) (c .before .loop-test .taken) (c .next-line4 .ensures)
+loop-again c = placing-next (c .before .before .loop .inv) (c .before .loop-test .taken) (c .next-line .ensures)
 
 same-length : tie.Need-same-length Inv-loop μ-loop
 same-length c = c .before .loop .inv .kept
@@ -55,13 +49,11 @@ fill-places-spec =
     (tie.spec
     Inv-loop
     μ-loop
-    next-line-requires
-    next-line-requires-2
-    next-line-requires-3
+    past-head-requires
     loop-holds
     mul-places
     slice-write-places
-    next-line-requires-4
+    next-line-requires
     add-q
     loop-less
     loop-again
