@@ -147,7 +147,8 @@ fn add_all(cells: &mut [u32], first: usize, d: u32)
     }
 }
 
-// One more target, d, for the cells from `first` on where the word has a bit.
+// One more target, d, for the cells from `first` on where the word has a bit. The words of `[t]` have every bit, and need no
+// test.
 fn add_word(cells: &mut [u32], first: usize, d: u32, word: u64)
     requires { ⌜ d < 32 ⌝ }
     requires { ⌜ first + 64 ≤ length (now cells) ⌝ }

@@ -36,7 +36,7 @@ loop-less : tie.Need-loop-less Inv-loop μ-loop
 loop-less c = omega (arith, c .before .before .before .loop .inv .within, c .before .before .loop-test .taken, c .before .before .before .before .before .pre .1)
 
 loop-again : tie.Need-loop-again Inv-loop μ-loop
-loop-again c = front-more (c .before .before .before .loop .inv) (c .before .before .loop-test .taken) (c .before .before .before .before .before .pre .1) (c .before .all-one .ensures (upheld _ _ (c .if1 .left) refl))
+loop-again c = front-more (c .before .before .before .loop .inv) (c .before .before .loop-test .taken) (c .before .all-one .ensures (upheld _ _ (c .if1 .left) refl))
 
 returns-2 : tie.Need-returns-2 Inv-loop μ-loop
 returns-2 c = c .before .loop .inv
