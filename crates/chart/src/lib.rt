@@ -178,8 +178,8 @@ fn most_of(a: u8, b: u8) -> u8
     a
 }
 
-// Whether the pairs from one to another all have exactly one rule. The loop looks at every entry, so that the compiler can do
-// many at once.
+// Whether the pairs with numbers from `from` to below `to` all have exactly one rule. The loop looks at every entry, so that the
+// compiler can do many at once.
 fn all_one(pairs: &[u8], from: usize, to: usize) -> bool
     requires { ⌜ to ≤ length (now pairs) ⌝ }
     ensures { λ r. ⌜ (r ≡ true → All-one (now (pairs .entry)) from to) ⌝ }
@@ -198,7 +198,7 @@ fn all_one(pairs: &[u8], from: usize, to: usize) -> bool
     most < rules::TWO_RULES
 }
 
-// How many of so many pairs are those of the first modes, a mode at a time, that all have exactly one rule.
+// How many of so many pairs need no look of their own: those of the modes before the first one with a bad pair.
 fn good_modes(pairs: &[u8], many: usize, count: usize) -> usize
     requires { ⌜ (many ≤ length (now pairs)) × (1 ≤ count) ⌝ }
     ensures { λ r. ⌜ Good-front (now (pairs .entry)) many r ⌝ }

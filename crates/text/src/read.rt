@@ -34,7 +34,7 @@ pub fn next_line(text: &[u8], at: usize) -> usize
     e
 }
 
-// The place past the three lines that a file begins with: names, numbers, names.
+// The place past the three lines that case file, answer and chart begin with: names, values, names.
 pub fn past_head(text: &[u8]) -> usize
     ensures { λ r. ⌜ r ≡ skip 3 (now (text .entry)) 0 ⌝ }
 {
