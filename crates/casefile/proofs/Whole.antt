@@ -8,14 +8,14 @@ use Prim.Native.Nat.{ℕ, suc, _+_, _-_, _≤_, _<_}
 use native.Mathlib.Omega.{arith}
 use lib.Dec.{ltb, leb, eqb}
 use lib.ListN.{length, drop, length-drop}
-use borrow.Author.Tests.{eqb-true, eqb-false, lt-ltb, le-ltb, le-leb, lt-leb, ne-eqb}
+use borrow.Author.Tests.{eqb-true, eqb-false, ltb-true, ltb-false, lt-ltb, le-ltb, le-leb, lt-leb, ne-eqb}
 use Rattle.text.specs.Lines.{Line, lines, line-at, line-is, field}
 use Rattle.text.specs.Numbers.{numbers-line, number-at}
 use Rattle.text.specs.Reading.{line-here, past-line, field-here, number-in, skip}
 use Rattle.text.specs.declared.read.Number.{Number}
 use Rattle.text.specs.declared.read.Number.the-variants.{Is, Not}
 use Rattle.text.proofs.Reading.{Row, No-row, no-lines, some-lines, Line-named, number-is, number-not}
-use Rattle.text.proofs.Tests.{both-true}
+use Rattle.text.proofs.Tests.{Test, test, holds, fails, both-true}
 use Rattle.model.specs.Case.{most-vertices, most-edges, most-workers, longest-file, known-version}
 use Rattle.model.specs.CaseFile.{refuse, first-of, head-names, vertex-names, edge-names, begins-version, other-version, counts-good, vertices-refusal, edges-refusal, case-refusal, accepted, case-in}
 use Rattle.model.proofs.Accepting.{first-zero, edge-ends}
@@ -45,10 +45,10 @@ module _ (s : List ℕ) where
     head-2 b = head-refused s 1 (unfold head-refusal in (rw (le-ltb longest-file (length s) short, b) (unfold refuse first-of in refl)))
 
     module _ (begun : begins-version s ≡ true) where
-      pub head-3 : other-version (lines s) ≡ true → Bad-head 3 ≡ head-says s
+      pub head-3 : other-version known-version (lines s) ≡ true → Bad-head 3 ≡ head-says s
       head-3 v = head-refused s 2 (unfold head-refusal in (rw (le-ltb longest-file (length s) short, begun, v) (unfold refuse first-of in refl)))
 
-      module _ (version : other-version (lines s) ≡ false) where
+      module _ (version : other-version known-version (lines s) ≡ false) where
         pub head-4 : (line-is head-names (line-at (lines s) 0) && numbers-line 5 (line-at (lines s) 1)) ≡ false → Bad-head 4 ≡ head-says s
         head-4 l = head-refused s 3 (unfold head-refusal in (rw (le-ltb longest-file (length s) short, begun, version, l) (unfold refuse first-of in refl)))
 
@@ -89,13 +89,13 @@ pub head-counts : {s : List ℕ} {n m u p : ℕ} → Counted s n m u p → head-
 unfolding head-says counts-in
 head-counts k e = rw (e, k .vertices, k .edges, k .source, k .workers) refl
 
--- lines 1 to 3, fault by fault: what is known before line 1's names are read
-pub record Opened (s : List ℕ) : Type 0 where
+-- lines 1 to 3, fault by fault: what is known before line 1's names are read, where the versions 1 to the newest are known
+pub record Opened (newest : ℕ) (s : List ℕ) : Type 0 where
   pub short : length s ≤ longest-file
   pub begun : begins-version s ≡ true
-  pub version : other-version (lines s) ≡ false
+  pub version : other-version newest (lines s) ≡ false
 
-module _ {s : List ℕ} (o : Opened s) where
+module _ {s : List ℕ} (o : Opened known-version s) where
   pub head-unnamed : line-is head-names (line-here s 0) ≡ false → Bad-head 4 ≡ head-says s
   head-unnamed h = head-4 s (o .short) (o .begun) (o .version) (rw h refl)
 
@@ -283,14 +283,27 @@ module _ {s : List ℕ} {n m u p rows : ℕ} (h : Headed s n m u p rows) where
 version-field : (s w : List ℕ) → w ≡ field-here s (past-line s 0) → w ≡ field (line-at (lines s) 1) 0
 version-field s w e = e ∙ ap (λ (l : Line). field l 0) (rw (← skip-one s 0) (skip-line 1 s 0))
 
-module _ (s w : List ℕ) (e : w ≡ field-here s (past-line s 0)) {r : Number} (f : r ≡ number-in w) where
-  pub version-none : r ≡ Not → false ≡ other-version (lines s)
+newer : (k v : ℕ) → not (leb v k) ≡ ltb k v
+newer k v = go (test (ltb k v))
+  where
+    go : Test (ltb k v) → not (leb v k) ≡ ltb k v
+    go (holds h) = rw (h, lt-leb v k (ltb-true k v h)) refl
+    go (fails h) = rw (h, le-leb v k (ltb-false k v h)) refl
+
+module _ (k : ℕ) (s w : List ℕ) (e : w ≡ field-here s (past-line s 0)) {r : Number} (f : r ≡ number-in w) where
+  pub version-none : r ≡ Not → false ≡ other-version k (lines s)
   unfolding other-version
   version-none g = rw (← version-field s w e, number-not w f g) refl
 
-  pub version-some : {v : ℕ} → r ≡ Is v → not (eqb v known-version) ≡ other-version (lines s)
+  version-some : {v : ℕ} → r ≡ Is v → not (leb 1 v && leb v k) ≡ other-version k (lines s)
   unfolding other-version
   version-some g = let n = number-is w f g in rw (← version-field s w e, n .0, n .1) refl
+
+  pub version-zero : {v : ℕ} → r ≡ Is v → v < 1 → ltb v 1 ≡ other-version k (lines s)
+  version-zero {v} g h = lt-ltb v 1 h ∙ (rw (lt-leb 1 v h) at (version-some g))
+
+  pub version-newer : {v : ℕ} → r ≡ Is v → 1 ≤ v → ltb k v ≡ other-version k (lines s)
+  version-newer {v} g h = rw (le-leb 1 v h, newer k v) at (version-some g)
 
 -- COUNTS in range, test by test
 module _ (n m u p : ℕ) where

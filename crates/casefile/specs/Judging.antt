@@ -10,7 +10,7 @@ use Rattle.text.specs.Lines.{lines, line-at, line-is}
 use Rattle.text.specs.Numbers.{numbers-line, number-at}
 use Rattle.text.specs.Reading.{skip}
 use Rattle.model.specs.Graph.{Edge}
-use Rattle.model.specs.Case.{most-vertices, most-edges, most-workers, longest-file}
+use Rattle.model.specs.Case.{most-vertices, most-edges, most-workers, longest-file, known-version}
 use Rattle.model.specs.CaseFile.{refuse, first-of, head-names, vertex-names, edge-names, begins-version, other-version, counts-good, vertices-refusal, case-refusal, accepted, case-in}
 use Rattle.casefile.specs.declared.Case.{Case}
 use Rattle.casefile.specs.declared.Judged.{Judged}
@@ -39,7 +39,7 @@ head-refusal bs =
     let h = line-at ls 1 in
     first-of (refuse (ltb longest-file (length bs)) 1
     ∷ refuse (not (begins-version bs)) 2
-    ∷ refuse (other-version ls) 3
+    ∷ refuse (other-version known-version ls) 3
     ∷ refuse (not (line-is head-names (line-at ls 0) && numbers-line 5 h)) 4
     ∷ refuse (not (counts-good h)) 5
     ∷ refuse (not (line-is vertex-names (line-at ls 2))) 4

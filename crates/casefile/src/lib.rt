@@ -35,6 +35,8 @@ impl Case {
     pub const MOST_VERTICES: usize = 500;
 
     pub const MOST_EDGES: usize = 2000;
+    // With rest loops: one more for each vertex at most.
+    pub const MOST_RUN_EDGES: usize = Case::MOST_EDGES + Case::MOST_VERTICES;
 
     pub const MOST_WORKERS: usize = 16;
     // "over 65,536 bytes"
@@ -47,8 +49,10 @@ impl Case {
     pub const MOST_LISTED: usize = 500;
 
     pub const FARTHEST: u32 = 500;
-    // The one version that is read and written.
+    // The version of case files.
     pub const VERSION: u32 = 1;
+    // The version of the answers that are written, and the newest that is read.
+    pub const ANSWER_VERSION: u32 = 2;
 }
 
 // What a text is as a case file: its refusal, or the case.
@@ -57,13 +61,14 @@ pub enum Judged {
     Accepted(Case),
 }
 
-// Whether line 2's first field is a number other than the known version: refusal 3, also of an answer file.
-pub fn other_version(text: &[u8]) -> bool
-    ensures { λ r. ⌜ r ≡ other-version (lines (now (text .entry))) ⌝ }
+// Whether line 2's first field is a number other than the known versions, 1 to the newest: refusal 3, also of an answer
+// file.
+pub fn other_version(text: &[u8], newest: u32) -> bool
+    ensures { λ r. ⌜ r ≡ other-version newest (lines (now (text .entry))) ⌝ }
 {
     match number_in(second_line_field(text)) {
         Number::Not => false,
-        Number::Is(v) => v != Case::VERSION,
+        Number::Is(v) => v < 1 || newest < v,
     }
 }
 
@@ -104,7 +109,7 @@ fn read_head(text: &[u8]) -> Head
     if !begins_at(text, 0, b"version ") {
         return Head::Refused(2);
     }
-    if other_version(text) {
+    if other_version(text, Case::VERSION) {
         return Head::Refused(3);
     }
     let Named::Past(second) = name_line(text, 0, b"version vertices edges source workers") else {

@@ -1,4 +1,5 @@
-// Tries the checker on answers by other tools that must pass, and on each way of 12 and 13, and writes what it says.
+// Tries the checker on answers by other tools that must pass, on each way of 12 and 13, and on what the versions mean, and
+// writes what it says.
 use checker::check_answer;
 use model::Checked;
 use model::Outcome;
@@ -71,12 +72,16 @@ fn torn_front() {
     check_k1(b"another file", b"answer 1");
     check_k1(
         b"another version",
-        b"version verdict stem cycle reached\n2 lasso 1 2 0\nedge\n",
+        b"version verdict stem cycle reached\n3 lasso 1 2 0\nedge\n",
     );
     check_k1(b"version alone", b"version \n0");
     check_k1(
         b"leading zero",
         b"version verdict stem cycle reached\n01 lasso 1 2 0\nedge\n0\n1\n2\n",
+    );
+    check_k1(
+        b"leading zero before 2",
+        b"version verdict stem cycle reached\n02 lasso 1 2 0\nedge\n0\n1\n2\n",
     );
 }
 
@@ -225,6 +230,90 @@ fn other_cases() {
     );
 }
 
+// Version 2 on a graph without dead ends, where it means what version 1 does.
+fn version_2() {
+    check_k1(
+        b"version 2",
+        b"version verdict stem cycle reached\n2 lasso 1 2 0\nedge\n0\n1\n2\n",
+    );
+    check_k1(
+        b"version 2, no lines",
+        b"version verdict stem cycle reached\n2 lasso 1 2 0\nedge\n",
+    );
+    check_k1(
+        b"version 2, edge out of range",
+        b"version verdict stem cycle reached\n2 lasso 1 2 0\nedge\n0\n3\nx",
+    );
+    check_k1(
+        b"version 2, number too high",
+        b"version verdict stem cycle reached\n2 empty 0 0 3\nvertex distance\n0 0\n1 0\n2 -1\n",
+    );
+}
+
+// An answer to a case of one edge, from the source 1 to the accepting 2. In version 2 edges 1 to 3 are the rest loops of 0, 2
+// and 3.
+fn check_d(name: &[u8], answer: &[u8]) {
+    check(
+        name,
+        b"version vertices edges source workers\n1 4 1 1 1\nvertex accepting owner\n0 0 0\n1 0 0\n2 1 0\n3 0 0\nfrom to\n1 2\n",
+        answer,
+    );
+}
+
+fn rest_loops() {
+    check_d(
+        b"rest loop",
+        b"version verdict stem cycle reached\n2 lasso 1 1 0\nedge\n0\n2\n",
+    );
+    check_d(
+        b"rest loop again",
+        b"version verdict stem cycle reached\n2 lasso 2 3 0\nedge\n0\n2\n2\n2\n2\n",
+    );
+    check_d(
+        b"rest loop in version 1",
+        b"version verdict stem cycle reached\n1 lasso 1 1 0\nedge\n0\n2\n",
+    );
+    check_d(
+        b"rest loop of another vertex",
+        b"version verdict stem cycle reached\n2 lasso 1 1 0\nedge\n0\n3\n",
+    );
+    check_d(
+        b"rest loop past the last",
+        b"version verdict stem cycle reached\n2 lasso 1 1 0\nedge\n0\n4\n",
+    );
+    check_d(
+        b"rest loop, not from the source",
+        b"version verdict stem cycle reached\n2 lasso 0 1 0\nedge\n2\n",
+    );
+}
+
+// A listed dead end must lead right by its rest loop, which only an accepting one does not.
+fn resting_lists() {
+    check_d(
+        b"accepting dead end",
+        b"version verdict stem cycle reached\n2 empty 0 0 2\nvertex distance\n1 0\n2 0\n",
+    );
+    check_d(
+        b"accepting dead end in version 1",
+        b"version verdict stem cycle reached\n1 empty 0 0 2\nvertex distance\n1 0\n2 0\n",
+    );
+    check(
+        b"dead ends that do not accept",
+        b"version vertices edges source workers\n1 3 1 0 1\nvertex accepting owner\n0 1 0\n1 0 0\n2 0 0\nfrom to\n0 1\n",
+        b"version verdict stem cycle reached\n2 empty 0 0 3\nvertex distance\n0 500\n1 499\n2 -500\n",
+    );
+    check(
+        b"accepting dead end out of reach",
+        b"version vertices edges source workers\n1 2 1 0 1\nvertex accepting owner\n0 0 0\n1 1 0\nfrom to\n0 0\n",
+        b"version verdict stem cycle reached\n2 empty 0 0 1\nvertex distance\n0 0\n",
+    );
+    check(
+        b"accepting dead end listed without need",
+        b"version vertices edges source workers\n1 2 1 0 1\nvertex accepting owner\n0 0 0\n1 1 0\nfrom to\n0 0\n",
+        b"version verdict stem cycle reached\n2 empty 0 0 2\nvertex distance\n0 0\n1 -500\n",
+    );
+}
+
 fn main() {
     pass_lasso();
     torn_front();
@@ -234,4 +323,7 @@ fn main() {
     wrong_walks();
     wrong_lists();
     other_cases();
+    version_2();
+    rest_loops();
+    resting_lists();
 }

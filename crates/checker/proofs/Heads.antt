@@ -23,13 +23,13 @@ use Rattle.checker.specs.declared.opening.Head.{Head}
 use Rattle.checker.specs.declared.opening.Head.the-variants.{Says, Fault}
 
 -- COUNTS
-pub counts-none : {s : List ℕ} {at : ℕ} (b : Bool) → No-row 3 s at → Fault ≡ counts-here s at b
+pub counts-none : {s : List ℕ} {at : ℕ} (v : ℕ) (b : Bool) → No-row 3 s at → Fault ≡ counts-here s at v b
 unfolding counts-here
-counts-none b r = sym (rw (r .none) refl)
+counts-none v b r = sym (rw (r .none) refl)
 
-pub counts-some : {s : List ℕ} {at x y k z : ℕ} (b : Bool) → Row s at (x ∷ y ∷ k ∷ []) z → Says b (record { stem = x; cycle = y; reached = k }) z ≡ counts-here s at b
+pub counts-some : {s : List ℕ} {at x y k z : ℕ} (v : ℕ) (b : Bool) → Row s at (x ∷ y ∷ k ∷ []) z → Says b (record { version = v; stem = x; cycle = y; reached = k }) z ≡ counts-here s at v b
 unfolding counts-here
-counts-some b r = sym (rw (r .line, r .are 0 (omega arith), r .are 1 (omega arith), r .are 2 (omega arith), r .past) refl)
+counts-some v b r = sym (rw (r .line, r .are 0 (omega arith), r .are 1 (omega arith), r .are 2 (omega arith), r .past) refl)
 
 -- THE LINE by its end, its fields and the place past it
 abbrev layout-in : (closed : Bool) → List (List ℕ) → Bool
@@ -39,7 +39,7 @@ layout-in c fs =
     && (is-number (getD fs 2 []) && (is-number (getD fs 3 []) && is-number (getD fs 4 []))))
 
 abbrev head-in : (closed : Bool) → List (List ℕ) → (past : ℕ) → Head
-head-in c fs z = cond (layout-in c fs) (Says (equal (getD fs 1 []) lasso-word) (record { stem = value (getD fs 2 []); cycle = value (getD fs 3 []); reached = value (getD fs 4 []) }) z) Fault
+head-in c fs z = cond (layout-in c fs) (Says (equal (getD fs 1 []) lasso-word) (record { version = value (getD fs 0 []); stem = value (getD fs 2 []); cycle = value (getD fs 3 []); reached = value (getD fs 4 []) }) z) Fault
 
 head-is : (s : List ℕ) (at : ℕ) {c : Bool} {fs : List (List ℕ)} {z : ℕ} → line-here s at .closed ≡ c → fields (line-here s at .text) ≡ fs → past-line s at ≡ z → head-here s at ≡ head-in c fs z
 unfolding head-here counts-of head-layout says-lasso says-empty number-at field
@@ -95,18 +95,18 @@ module _ {s : List ℕ} {at v p : ℕ} (g : Parted s at v p) {w : List ℕ} (is-
         let e : p + suc (length (field-here s p)) ≡ p + length w + 1 = omega (arith, ap length is-w) in
         rw e at (spaced s p (eqb-true _ space (sym spaces ∙ h)))
 
-    head-word : (b : Bool) → equal w lasso-word ≡ b → (equal w lasso-word || equal w empty-word) ≡ true → counts-here s (p + length w + 1) b ≡ head-here s at
+    head-word : (b : Bool) → equal w lasso-word ≡ b → (equal w lasso-word || equal w empty-word) ≡ true → counts-here s (p + length w + 1) v b ≡ head-here s at
     unfolding counts-here numbers-line number-at field
     head-word b e f =
         let fs = fields (line-here s (p + length w + 1) .text) in
         sym
         (head-is s at (g .closed ∙ next .closed) (g .pieces ∙ ap (λ (gs : List (List ℕ)). field-here s at ∷ gs) (next .pieces ∙ ap (λ (u : List ℕ). u ∷ fs) (sym is-w))) (g .past ∙ next .past)
-        ∙ rw (g .number, f, e, three-go (line-here s (p + length w + 1) .closed) fs) refl)
+        ∙ rw (g .number, g .worth, f, e, three-go (line-here s (p + length w + 1) .closed) fs) refl)
 
-    pub head-lasso : equal w lasso-word ≡ true → counts-here s (p + length w + 1) true ≡ head-here s at
+    pub head-lasso : equal w lasso-word ≡ true → counts-here s (p + length w + 1) v true ≡ head-here s at
     head-lasso e = head-word true e (rw e refl)
 
-    pub head-empty : equal w lasso-word ≡ false → equal w empty-word ≡ true → counts-here s (p + length w + 1) false ≡ head-here s at
+    pub head-empty : equal w lasso-word ≡ false → equal w empty-word ≡ true → counts-here s (p + length w + 1) v false ≡ head-here s at
     head-empty e f = head-word false e (rw (e, f) refl)
 
 pub head-torn : (s : List ℕ) (at : ℕ) {r : Row1} → r ≡ leading-here s at → r ≡ Fault1 → Fault ≡ head-here s at

@@ -2,6 +2,7 @@
 pub mod Signs
 pub mod Ends
 pub mod Walks
+pub mod RestLoops
 pub mod Loads
 pub mod Distances
 pub mod Listings

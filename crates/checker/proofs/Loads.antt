@@ -6,7 +6,7 @@ use Prim.Native.Nat.{ℕ, _≤_}
 use native.Mathlib.Omega.{arith}
 use lib.ListN.{length}
 use Rattle.model.specs.Graph.{edge}
-use Rattle.model.specs.Case.{most-vertices, most-edges, Sound, Within}
+use Rattle.model.specs.Case.{most-vertices, most-edges, most-run-edges, Sound, Within}
 use Rattle.model.specs.CaseFile.{case-refusal, accepted, case-in}
 use Rattle.model.specs.Promise.{Files-sound}
 use Rattle.model.proofs.Accepting.{files-sound}
@@ -16,7 +16,7 @@ use Rattle.casefile.specs.declared.Case.{Case}
 use Rattle.casefile.specs.declared.Judged.{Judged}
 use Rattle.casefile.specs.declared.Judged.the-variants.{Refused, Accepted}
 use Rattle.casefile.proofs.Tables.{mark-held, from-held, to-held}
-use Rattle.checker.specs.Checking.{Tables}
+use Rattle.checker.specs.Checking.{Room, Stands}
 
 -- THE CASE that the judge gives
 judged-case : (s : List ℕ) (c : Case) → judged s ≡ Accepted c → (accepted s ≡ true) × (header s ≡ c)
@@ -56,20 +56,26 @@ sound : (s : List ℕ) → accepted s ≡ true → Sound (case-in s) × Within (
 unfolding Files-sound
 sound s a = files-sound s a
 
-pub few-vertices : {s : List ℕ} {c : Case} → Case-of s c → c .vertices ≤ most-vertices
-few-vertices {s} {c} o = rw (← o .vertices) (sound s (o .is-accepted) .1 .vertices)
+few : (s : List ℕ) → Within (case-in s) → length (case-in s .graph .edges) ≤ most-edges
+unfolding case-in
+few s w = w .file
 
--- its tables, as the passing rules ask of them
-pub tables : {s : List ℕ} {r : Judged} {marks marks′ owners owners′ froms froms′ tos tos′ : List ℕ} (g : Case-read s r marks marks′ owners owners′ froms froms′ tos tos′) {c : Case} → r ≡ Accepted c →
-    most-vertices ≤ length marks → most-edges ≤ length froms → most-edges ≤ length tos → Tables (case-in s .graph) (c .edges) marks′ froms′ tos′
-tables {s} g {c} e a b d =
+-- it has room in tables, and stands in them
+pub room : {s : List ℕ} {c : Case} {froms tos : List ℕ} → Case-of s c → most-run-edges ≤ length froms → most-run-edges ≤ length tos → Room (c .vertices) (c .edges) froms tos
+room {s} {c} o f t = let r = sound s (o .is-accepted) .1 in record { few-vertices = rw (← o .vertices) (r .vertices); few-edges = rw (← o .edges) (few s r); from-room = f; to-room = t }
+
+pub stands : {s : List ℕ} {r : Judged} {marks marks′ owners owners′ froms froms′ tos tos′ : List ℕ} (g : Case-read s r marks marks′ owners owners′ froms froms′ tos tos′) {c : Case} → r ≡ Accepted c →
+    most-vertices ≤ length marks → most-edges ≤ length froms → most-edges ≤ length tos → Stands (case-in s .graph) c marks′ froms′ tos′
+unfolding edge
+stands {s} g {c} e a b d =
     let o : Case-of s c = case-of (sym (g .answer) ∙ e) in
     let r = sound s (o .is-accepted) in
-    let room : length (case-in s .graph .edges) ≤ most-edges = r .1 .edges in
+    let m : length (case-in s .graph .edges) ≤ most-edges = few s (r .1) in
     record {
-      many = o .edges;
-      from-at = λ k h. from-held g e (omega arith) k (rw (o .edges) h);
-      to-at = λ k h. to-held g e (omega arith) k (rw (o .edges) h);
-      mark-at = λ k h. mark-held g e (omega (arith, r .1 .vertices)) (edge (case-in s .graph) k .from) (r .0 .from k (rw (o .edges) h));
-      small = λ k h. r .0 .mark (edge (case-in s .graph) k .from) (r .0 .from k (rw (o .edges) h));
+      vertices = o .vertices;
+      source = o .source;
+      ends = record { many = o .edges; from-at = λ k h. from-held g e (omega arith) k (rw (o .edges) h); to-at = λ k h. to-held g e (omega arith) k (rw (o .edges) h) };
+      below = r .0 .from;
+      mark-at = mark-held g e (omega (arith, r .1 .vertices));
+      small = r .0 .mark;
     }

@@ -11,12 +11,13 @@ use lib.IntN.{ℤ, pos, negsuc, negℤ, natAbs}
 use Rattle.text.specs.Lines.{Line, lines, line-at, line-is}
 use Rattle.text.specs.Numbers.{numbers-line, number-at}
 use Rattle.text.specs.Reading.{line-here, past-line, skip}
-use Rattle.model.specs.Graph.{Graph, edge, mark, is-walk, walk-end, leaves-accepting, is-lasso}
-use Rattle.model.specs.Case.{longest-file, most-listed, farthest}
+use Rattle.model.specs.Graph.{Edge, Graph, edge, mark, rested, is-walk, walk-end, leaves-accepting, is-lasso}
+use Rattle.model.specs.Case.{most-vertices, most-edges, most-run-edges, longest-file, most-listed, farthest, answer-version}
 use Rattle.model.specs.CaseFile.{refuse, first-of, begins-version, other-version, column}
 use Rattle.model.specs.Answer.{answer-names, no-verdict}
-use Rattle.model.specs.Passing.{says-lasso, head-layout, counts-suit, counts-fit, listed-edges-refusal, listed-vertices-refusal, Listed, number-of, listed-in, all-lead, passes-empty, lasso-refusal, empty-refusal}
+use Rattle.model.specs.Passing.{says-lasso, head-layout, counts-suit, counts-fit, listed-edges-refusal, listed-vertices-refusal, Listed, number-of, listed-in, all-lead, passes-empty, lasso-refusal, empty-refusal, answer-refusal, answer-verdict}
 use Rattle.model.specs.declared.Checked.{Checked}
+use Rattle.casefile.specs.declared.Case.{Case}
 use Rattle.checker.specs.declared.opening.Counts.{Counts}
 use Rattle.checker.specs.declared.opening.Head.{Head}
 use Rattle.checker.specs.declared.opening.Head.the-variants.{Says, Fault}
@@ -32,15 +33,15 @@ pub record Told (refusal verdict : ℕ) (r : Checked) : Type 0 where
   pub refused : r .refusal ≡ refusal
   pub passed : r .verdict ≡ cond (eqb refusal 0) verdict no-verdict
 
--- LINE 2: three counts at a place after a verdict; the whole line
-unfoldable pub counts-here : (text : List ℕ) → (at : ℕ) → (lasso : Bool) → Head
-counts-here s at b =
+-- LINE 2: three counts at a place after a version and a verdict; the whole line
+unfoldable pub counts-here : (text : List ℕ) → (at version : ℕ) → (lasso : Bool) → Head
+counts-here s at v b =
     let l = line-here s at in
-    cond (numbers-line 3 l) (Says b (record { stem = number-at l 0; cycle = number-at l 1; reached = number-at l 2 }) (past-line s at)) Fault
+    cond (numbers-line 3 l) (Says b (record { version = v; stem = number-at l 0; cycle = number-at l 1; reached = number-at l 2 }) (past-line s at)) Fault
 
--- the counts on the whole line
+-- the numbers on the whole line
 unfoldable pub counts-of : (head : Line) → Counts
-counts-of l = record { stem = number-at l 2; cycle = number-at l 3; reached = number-at l 4 }
+counts-of l = record { version = number-at l 0; stem = number-at l 2; cycle = number-at l 3; reached = number-at l 4 }
 
 unfoldable pub head-here : (text : List ℕ) → (at : ℕ) → Head
 head-here s at =
@@ -50,14 +51,14 @@ head-here s at =
 unfoldable pub counts-right : (lasso : Bool) → (stem cycle reached : ℕ) → Bool
 counts-right b s k r = (leb s most-listed && (leb k most-listed && leb r most-listed)) && counts-suit b s k r
 
--- LINES 1 AND 2: their refusal, or the counts that the verdict has and where line 3 starts
+-- LINES 1 AND 2: their refusal, or line 2's numbers by its verdict and where line 3 starts
 unfoldable pub opening-refusal : (file : List ℕ) → ℕ
 opening-refusal bs =
     let ls = lines bs in
     let h = line-at ls 1 in
     first-of (refuse (ltb longest-file (length bs)) 1
     ∷ refuse (not (begins-version bs)) 12
-    ∷ refuse (other-version ls) 3
+    ∷ refuse (other-version answer-version ls) 3
     ∷ refuse (not (line-is answer-names (line-at ls 0) && head-layout h)) 12
     ∷ refuse (not (counts-fit h)) 12
     ∷ [])
@@ -66,8 +67,54 @@ unfoldable pub opening : (file : List ℕ) → Opening
 opening bs =
     let h = line-at (lines bs) 1 in
     cond (eqb (opening-refusal bs) 0)
-    (cond (says-lasso h) (Lasso (counts-of h) (skip 2 bs 0)) (Empty (counts-of h .reached) (skip 2 bs 0)))
+    (cond (says-lasso h) (Lasso (counts-of h) (skip 2 bs 0)) (Empty (counts-of h) (skip 2 bs 0)))
     (Bad-opening (opening-refusal bs))
+
+-- REST LOOPS. Both ends of m edges in tables
+pub record Ends (es : List Edge) (m : ℕ) (froms tos : List ℕ) : Type 0 where
+  pub many : length es ≡ m
+  pub from-at : (e : ℕ) → e < m → getD froms e 0 ≡ getD es e (record { from = 0; to = 0 }) .from
+  pub to-at : (e : ℕ) → e < m → getD tos e 0 ≡ getD es e (record { from = 0; to = 0 }) .to
+
+-- few vertices and edges, and room in the tables for a loop of each vertex
+pub record Room (n m : ℕ) (froms tos : List ℕ) : Type 0 where
+  pub few-vertices : n ≤ most-vertices
+  pub few-edges : m ≤ most-edges
+  pub from-room : most-run-edges ≤ length froms
+  pub to-room : most-run-edges ≤ length tos
+
+-- marks of vertices: none; those that one of m edges leaves
+pub record Unmarked (starts : List ℕ) : Type 0 where
+  pub none : (v : ℕ) → getD starts v 0 ≡ 0
+
+pub record Starts (m : ℕ) (froms starts : List ℕ) : Type 0 where
+  pub none : (v : ℕ) → v < length starts → getD starts v 0 ≡ 0 → (e : ℕ) → e < m → getD froms e 0 ≡ v → ⊥
+  pub some : (v : ℕ) → (getD starts v 0 ≡ 0 → ⊥) → (e : ℕ) × (e < m) × (getD froms e 0 ≡ v)
+
+-- the loops of n vertices behind their m edges
+abbrev pub Rested-says : (n m : ℕ) → (froms froms′ tos tos′ : List ℕ) → ℕ → Type 0
+Rested-says n m froms froms′ tos tos′ k = (g : Graph) → g .vertices ≡ n → Ends (g .edges) m froms tos → Ends (rested g .edges) k froms′ tos′
+
+-- A GRAPH IN TABLES: its counts, the mark of each vertex, both ends of each edge
+pub record Stands (g : Graph) (c : Case) (marks froms tos : List ℕ) : Type 0 where
+  pub vertices : g .vertices ≡ c .vertices
+  pub source : g .source ≡ c .source
+  pub ends : Ends (g .edges) (c .edges) froms tos
+  pub below : (e : ℕ) → e < length (g .edges) → edge g e .from < g .vertices
+  pub mark-at : (v : ℕ) → v < g .vertices → getD marks v 0 ≡ mark g v
+  pub small : (v : ℕ) → v < g .vertices → mark g v < 2
+
+-- the graph that a version means, and its case
+unfoldable pub meant-by : (version : ℕ) → Graph → Graph
+meant-by v g = cond (eqb v answer-version) (rested g) g
+
+pub record Meant-says (version : ℕ) (c : Case) (froms froms′ tos tos′ : List ℕ) (r : Case) : Type 0 where
+  pub vertices : r .vertices ≡ c .vertices
+  pub stands : (g : Graph) (marks : List ℕ) → Stands g c marks froms tos → Stands (meant-by version g) r marks froms′ tos′
+
+-- the whole check, once the case stands in the tables
+abbrev pub Against-says : (answer : List ℕ) → Case → (marks froms tos : List ℕ) → Checked → Type 0
+Against-says ts c marks froms tos r = (g : Graph) → Stands g c marks froms tos → Told (answer-refusal g ts) (answer-verdict ts) r
 
 -- TABLES of a graph, what the passing rules ask of them: each edge's ends and the mark of its start, which is 0 or 1
 pub record Tables (g : Graph) (m : ℕ) (marks froms tos : List ℕ) : Type 0 where

@@ -11,6 +11,7 @@ ghost use Rattle.checker.specs.Checking.{opening, not-listed, held, sign
 ghost use Rattle.checker.specs.declared.opening.Opening.the-variants.{Empty};
 use crate::BROKEN;
 use crate::MALFORMED;
+use crate::opening::Counts;
 use crate::tables::cell;
 use casefile::Case;
 use text::read::Named;
@@ -186,18 +187,18 @@ fn listed(
 // The answer from line 3 on, against the case that stands in the tables.
 pub(crate) fn check_empty(
     answer: &[u8],
-    reached: usize,
+    counts: Counts,
     third: usize,
     case: Case,
     marks: &[u32],
     froms: &[u32],
     tos: &[u32],
 ) -> u32
-    requires { ⌜ (opening (now answer) ≡ Empty reached third) × (case .vertices ≤ most-vertices) ⌝ }
+    requires { ⌜ (opening (now answer) ≡ Empty counts third) × (case .vertices ≤ most-vertices) ⌝ }
     ensures { λ r. ⌜ Empty-checked (now (answer .entry)) (case .vertices) (case .edges) (case .source) (now (marks .entry)) (now (froms .entry)) (now (tos .entry)) r ⌝ }
 {
     let Named::Past(rows) = name_line(answer, third, b"vertex distance") else {
         return MALFORMED;
     };
-    listed(answer, rows, reached, case, marks, froms, tos)
+    listed(answer, rows, counts.reached, case, marks, froms, tos)
 }

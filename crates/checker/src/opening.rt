@@ -20,27 +20,29 @@ use text::read::name_line;
 use text::read::row_of_3;
 use text::read::same;
 
-// How many stem edges, cycle edges and vertices line 2 says that the answer lists.
+// Line 2's numbers: the version, and how many stem edges, cycle edges and vertices the answer lists.
 pub(crate) struct Counts {
+    pub version: u32,
     pub stem: usize,
     pub cycle: usize,
     pub reached: usize,
 }
 
-// Line 2: whether it says "lasso", its counts, and the place past it.
+// Line 2: whether it says "lasso", its numbers, and the place past it.
 enum Head {
     Says(bool, Counts, usize),
     Fault,
 }
 
-// The counts at `at`, after this verdict.
-fn read_counts(text: &[u8], at: usize, lasso: bool) -> Head
-    ensures { λ r. ⌜ r ≡ counts-here (now (text .entry)) at lasso ⌝ }
+// The counts at `at`, after this version and verdict.
+fn read_counts(text: &[u8], at: usize, version: u32, lasso: bool) -> Head
+    ensures { λ r. ⌜ r ≡ counts-here (now (text .entry)) at version lasso ⌝ }
 {
     let Row3::Read(stem, cycle, reached, next) = row_of_3(text, at) else {
         return Head::Fault;
     };
     let counts = Counts {
+        version,
         stem: stem as usize,
         cycle: cycle as usize,
         reached: reached as usize,
@@ -51,7 +53,7 @@ fn read_counts(text: &[u8], at: usize, lasso: bool) -> Head
 fn read_head(text: &[u8], at: usize) -> Head
     ensures { λ r. ⌜ r ≡ head-here (now (text .entry)) at ⌝ }
 {
-    let Row1::Read(_, p) = leading_number(text, at) else {
+    let Row1::Read(version, p) = leading_number(text, at) else {
         return Head::Fault;
     };
     let verdict = field(text, p);
@@ -60,10 +62,10 @@ fn read_head(text: &[u8], at: usize) -> Head
         return Head::Fault;
     }
     if same(verdict, b"lasso") {
-        return read_counts(text, end + 1, true);
+        return read_counts(text, end + 1, version, true);
     }
     if same(verdict, b"empty") {
-        return read_counts(text, end + 1, false);
+        return read_counts(text, end + 1, version, false);
     }
     Head::Fault
 }
@@ -109,11 +111,11 @@ fn right(lasso: bool, counts: Counts) -> bool
     false
 }
 
-// The refusal; or the counts, of "empty" how many vertices, and where line 3 starts.
+// The refusal; or line 2's numbers by its verdict, and where line 3 starts.
 pub(crate) enum Opening {
     Refused(u32),
     Lasso(Counts, usize),
-    Empty(usize, usize),
+    Empty(Counts, usize),
 }
 
 pub(crate) fn read_opening(text: &[u8]) -> Opening
@@ -125,7 +127,7 @@ pub(crate) fn read_opening(text: &[u8]) -> Opening
     if !begins_at(text, 0, b"version ") {
         return Opening::Refused(MALFORMED);
     }
-    if other_version(text) {
+    if other_version(text, Case::ANSWER_VERSION) {
         return Opening::Refused(OTHER_VERSION);
     }
     let Named::Past(second) = name_line(text, 0, b"version verdict stem cycle reached") else {
@@ -140,5 +142,5 @@ pub(crate) fn read_opening(text: &[u8]) -> Opening
     if lasso {
         return Opening::Lasso(counts, third);
     }
-    Opening::Empty(counts.reached, third)
+    Opening::Empty(counts, third)
 }

@@ -1,15 +1,15 @@
-// Answers put to the checker: files at the limit of length, empty ones, and other runs' answers to K1.
-use crate::line::by_checker;
+// Answers put to the checker: files at the limits of length and of edge numbers, and empty ones.
+use crate::line::check_of;
 use crate::sizes;
 use bench_kit::buffers::front;
 use model::Outcome;
 
-// The same of the checker, which judges the whole case before the answer.
+// The checker judges the whole case before the answer.
 pub(crate) fn checker_cases(wrong: u32) -> u32 {
     let mut case = [b'x'; 65537];
     let answer = [b'x'; 65537];
     sizes::write_full(&mut case, 1, 0, 1, 0);
-    let a = by_checker(
+    let a = check_of(
         wrong,
         b"check, case of 65,536 bytes",
         front(&case, 65536),
@@ -17,7 +17,7 @@ pub(crate) fn checker_cases(wrong: u32) -> u32 {
         4,
         Outcome::NONE,
     );
-    let b = by_checker(
+    let b = check_of(
         a,
         b"check, case of 65,537 bytes",
         &case,
@@ -25,12 +25,12 @@ pub(crate) fn checker_cases(wrong: u32) -> u32 {
         1,
         Outcome::NONE,
     );
-    by_checker(b, b"check, empty case", b"", &answer, 2, Outcome::NONE)
+    check_of(b, b"check, empty case", b"", &answer, 2, Outcome::NONE)
 }
 
 // K4's case with an answer at the limit of length.
 fn check_k4(wrong: u32, name: &[u8], answer: &[u8], refusal: u32) -> u32 {
-    by_checker(
+    check_of(
         wrong,
         name,
         b"version vertices edges source workers\n1 1 0 0 1\nvertex accepting owner\n0 1 0\nfrom to\n",
@@ -53,46 +53,24 @@ pub(crate) fn checker_lengths(wrong: u32) -> u32 {
     check_k4(b, b"check, empty answer", b"", 12)
 }
 
-// An answer to K1.
-fn check_k1(wrong: u32, name: &[u8], answer: &[u8], refusal: u32, verdict: u32) -> u32 {
-    by_checker(
-        wrong,
-        name,
-        b"version vertices edges source workers\n1 3 3 0 2\nvertex accepting owner\n0 0 0\n1 1 1\n2 0 0\nfrom to\n0 1\n1 2\n2 1\n",
-        answer,
-        refusal,
-        verdict,
-    )
+// An answer that names no edge, to a case of 2,000 edges and 496 rest loops: the last of them, 2,495, is that of the
+// accepting vertex.
+fn check_full(wrong: u32, name: &[u8], answer: &[u8]) -> u32 {
+    let mut buffer = [0u8; 65536];
+    let size = sizes::write_full(&mut buffer, 500, 2000, 1, 499);
+    check_of(wrong, name, front(&buffer, size), answer, 13, Outcome::NONE)
 }
 
-// The answers of other kept runs, put to K1's case.
-pub(crate) fn checker_answers(wrong: u32) -> u32 {
-    let a = check_k1(
+// Edge numbers are below 2,496 in version 2 and below 2,000 in version 1.
+pub(crate) fn checker_edges(wrong: u32) -> u32 {
+    let a = check_full(
         wrong,
-        b"check K1, its lasso",
-        b"version verdict stem cycle reached\n1 lasso 1 2 0\nedge\n0\n1\n2\n",
-        0,
-        Outcome::LASSO,
+        b"check, edge 2,496",
+        b"version verdict stem cycle reached\n2 lasso 1 1 0\nedge\n499\n2496\n",
     );
-    let b = check_k1(
+    check_full(
         a,
-        b"check K1, version 2",
-        b"version verdict stem cycle reached\n2 lasso 1 2 0\nedge\n0\n1\n2\n",
-        3,
-        Outcome::NONE,
-    );
-    let c = check_k1(
-        b,
-        b"check K1, K2's answer",
-        b"version verdict stem cycle reached\n1 empty 0 0 3\nvertex distance\n0 0\n1 -1\n2 -1\n",
-        13,
-        Outcome::NONE,
-    );
-    check_k1(
-        c,
-        b"check K1, K3's answer",
-        b"version verdict stem cycle reached\n1 lasso 0 1 0\nedge\n0\n",
-        13,
-        Outcome::NONE,
+        b"check, edge 2,495, version 1",
+        b"version verdict stem cycle reached\n1 lasso 1 1 0\nedge\n499\n2495\n",
     )
 }

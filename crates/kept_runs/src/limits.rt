@@ -38,8 +38,8 @@ fn least_buffers(wrong: u32) -> u32 {
     buffers_of_k4(
         wrong,
         b"8,192 bytes and 16,384 cells",
-        Wanted::empty(1),
-        b"version verdict stem cycle reached\n1 empty 0 0 1\nvertex distance\n0 0\n",
+        Wanted::lasso(2),
+        b"version verdict stem cycle reached\n2 lasso 0 1 0\nedge\n0\n",
         &mut output,
         &mut work,
     )
@@ -108,36 +108,21 @@ pub(crate) fn buffers(wrong: u32) -> u32 {
     short_before_acts(short_before_all(a))
 }
 
-// A ring of 500: twice round it to the end, a turn for each vertex.
-fn ring_500(wrong: u32) -> u32 {
+// A ring of 500 by rounds.
+fn ring(wrong: u32, name: &[u8], workers: u32, wanted: Wanted) -> u32 {
     let mut buffer = [0u8; 65536];
     let mut expected = [0u8; 8192];
     let n = sizes::write_ring_answer(&mut expected);
     let answer = front(&expected, n);
-    let size = sizes::write_ring(&mut buffer, 500, 1);
-    rounds_of(
-        wrong,
-        b"500 vertices",
-        front(&buffer, size),
-        Wanted::lasso(1000),
-        answer,
-    )
+    let size = sizes::write_ring(&mut buffer, 500, workers);
+    rounds_of(wrong, name, front(&buffer, size), wanted, answer)
 }
 
-// The same owned by 16, where each step takes a turn and a delivery.
-fn ring_16(wrong: u32) -> u32 {
-    let mut buffer = [0u8; 65536];
-    let mut expected = [0u8; 8192];
-    let n = sizes::write_ring_answer(&mut expected);
-    let answer = front(&expected, n);
-    let size = sizes::write_ring(&mut buffer, 500, 16);
-    rounds_of(
-        wrong,
-        b"16 workers, 500 vertices",
-        front(&buffer, size),
-        Wanted::lasso(2000).tallied(1000, 1000, 0),
-        answer,
-    )
+// Twice round it to the end, a turn for each vertex; owned by 16, each step takes a turn and a delivery.
+fn rings(wrong: u32) -> u32 {
+    let a = ring(wrong, b"500 vertices", 1, Wanted::lasso(1000));
+    let busy = Wanted::lasso(2000).tallied(1000, 1000, 0);
+    ring(a, b"16 workers, 500 vertices", 16, busy)
 }
 
 // By the first acts of a list that goes twice round it.
@@ -170,45 +155,129 @@ fn ring_lists(wrong: u32) -> u32 {
     ring_list(a, b"the same, 1,999 acts", one_waits, b"")
 }
 
-// The first 2,000 edges of the complete graph on 500, none accepting: every vertex takes a turn. With 16 workers the owner
-// of each of the vertices 0 to 3 owns 32, so that each sends to 468, and each message takes a delivery.
-fn full(wrong: u32, name: &[u8], workers: u32, wanted: Wanted) -> u32 {
+// n vertices and the first m edges of the complete graph on them, by rounds.
+fn sized(
+    wrong: u32,
+    name: &[u8],
+    n: u32,
+    m: u32,
+    workers: u32,
+    accepting: u32,
+    wanted: Wanted,
+    answer: &[u8],
+) -> u32 {
     let mut buffer = [0u8; 65536];
+    let size = sizes::write_full(&mut buffer, n, m, workers, accepting);
+    rounds_of(wrong, name, front(&buffer, size), wanted, answer)
+}
+
+// 2,000 edges on 500 vertices leave 0 to 3, and the other 496 rest. None is accepting: every vertex takes a turn. With 16
+// workers the owner of each of the vertices 0 to 3 owns 32, so that each sends to 468, and each message takes a delivery.
+fn full_empty(wrong: u32) -> u32 {
     let mut expected = [0u8; 8192];
     let n = sizes::write_full_answer(&mut expected);
     let answer = front(&expected, n);
-    let size = sizes::write_full(&mut buffer, 500, 2000, workers, 500);
-    rounds_of(wrong, name, front(&buffer, size), wanted, answer)
+    let a = sized(
+        wrong,
+        b"2,000 edges",
+        500,
+        2000,
+        1,
+        sizes::NONE,
+        Wanted::empty(500),
+        answer,
+    );
+    let busy = Wanted::empty(2372).tallied(1872, 1872, 0);
+    sized(
+        a,
+        b"16 workers, 2,000 edges",
+        500,
+        2000,
+        16,
+        sizes::NONE,
+        busy,
+        answer,
+    )
 }
 
 // The same with an accepting source, which the first edge leads back to: a turn, 468 deliveries, and the next turn.
 fn full_lasso(wrong: u32) -> u32 {
-    let mut buffer = [0u8; 65536];
-    let size = sizes::write_full(&mut buffer, 500, 2000, 16, 0);
-    rounds_of(
+    sized(
         wrong,
         b"2,000 edges, accepting source",
-        front(&buffer, size),
+        500,
+        2000,
+        16,
+        0,
         Wanted::lasso(470).tallied(468, 468, 0),
-        b"version verdict stem cycle reached\n1 lasso 0 1 0\nedge\n0\n",
+        b"version verdict stem cycle reached\n2 lasso 0 1 0\nedge\n0\n",
     )
 }
 
-// One past a limit.
-fn too_many(wrong: u32, name: &[u8], n: u32, m: u32, workers: u32) -> u32 {
-    let mut buffer = [0u8; 65536];
-    let size = sizes::write_full(&mut buffer, n, m, workers, 500);
-    rounds_of(wrong, name, front(&buffer, size), Wanted::refused(5), b"")
+// The same with only the last vertex accepting, whose rest loop has the highest number: once all have had their turn, it
+// takes one more.
+fn full_rest(wrong: u32) -> u32 {
+    let answer = b"version verdict stem cycle reached\n2 lasso 1 1 0\nedge\n499\n2495\n";
+    let a = sized(
+        wrong,
+        b"2,000 edges, lasso by edge 2,495",
+        500,
+        2000,
+        1,
+        499,
+        Wanted::lasso(501),
+        answer,
+    );
+    let busy = Wanted::lasso(2373).tallied(1872, 1872, 0);
+    sized(
+        a,
+        b"16 workers, lasso by edge 2,495",
+        500,
+        2000,
+        16,
+        499,
+        busy,
+        answer,
+    )
+}
+
+// 500 rest loops and no other edge. The source goes down by one at each turn: with 500 accepting vertices it breaks the
+// floor at its 501st.
+fn no_edges(wrong: u32) -> u32 {
+    let a = sized(
+        wrong,
+        b"500 vertices, no edge",
+        500,
+        0,
+        1,
+        sizes::NONE,
+        Wanted::empty(1),
+        b"version verdict stem cycle reached\n2 empty 0 0 1\nvertex distance\n0 0\n",
+    );
+    sized(
+        a,
+        b"the same, all accepting",
+        500,
+        0,
+        1,
+        sizes::ALL,
+        Wanted::lasso(501),
+        b"version verdict stem cycle reached\n2 lasso 0 1 0\nedge\n0\n",
+    )
 }
 
 pub(crate) fn counts(wrong: u32) -> u32 {
-    let a = ring_lists(ring_16(ring_500(wrong)));
-    let b = full(a, b"2,000 edges", 1, Wanted::empty(500));
-    let busy = Wanted::empty(2372).tallied(1872, 1872, 0);
-    let c = full(b, b"16 workers, 2,000 edges", 16, busy);
-    let d = too_many(full_lasso(c), b"501 vertices", 501, 0, 1);
-    let e = too_many(d, b"2,001 edges", 500, 2001, 1);
-    too_many(e, b"17 workers", 500, 2000, 17)
+    let a = full_empty(ring_lists(rings(wrong)));
+    no_edges(full_rest(full_lasso(a)))
+}
+
+// One past a limit.
+pub(crate) fn past_counts(wrong: u32) -> u32 {
+    let none = sizes::NONE;
+    let past = Wanted::refused(5);
+    let a = sized(wrong, b"501 vertices", 501, 0, 1, none, past, b"");
+    let b = sized(a, b"2,001 edges", 500, 2001, 1, none, past, b"");
+    sized(b, b"17 workers", 500, 2000, 17, none, past, b"")
 }
 
 // No right case is longer than some 21,000 bytes, so at 65,536 it is the bytes after K4's last line that are refused.

@@ -327,7 +327,7 @@ pub(crate) fn by_list(
 }
 
 // An answer put to the checker.
-pub(crate) fn by_checker(
+pub(crate) fn check_of(
     wrong: u32,
     name: &[u8],
     case: &[u8],
@@ -342,4 +342,27 @@ pub(crate) fn by_checker(
     print(b", ");
     print_verdict(c.verdict);
     counted(wrong, c.refusal == refusal && c.verdict == verdict)
+}
+
+// The same of a case and an answer that are given from line 2 on.
+pub(crate) fn by_checker(
+    wrong: u32,
+    name: &[u8],
+    case: &[u8],
+    answer: &[u8],
+    refusal: u32,
+    verdict: u32,
+) -> u32 {
+    let mut text = [0u8; 256];
+    let mut given = [0u8; 256];
+    let n = write_case(&mut text, case);
+    let k = write_answer(&mut given, answer);
+    check_of(
+        wrong,
+        name,
+        front(&text, n),
+        front(&given, k),
+        refusal,
+        verdict,
+    )
 }

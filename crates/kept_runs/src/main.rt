@@ -13,21 +13,28 @@
 //                                 K1, the one act 0; 11: 8,191 bytes ..; 16,383 cells; 13: check K1, K2's answer
 //   "Shortcuts that spoil a finding"   K2; K1, the one act 0; late higher offer; accepting on the stem only; source
 //                                 with a parent
+//   "each vertex with no outgoing edge gets a loop to itself, numbered after the file's edges in vertex order"
+//                                 K4; K6; D ..; a cycle and an accepting dead end; 2,000 edges ..; 500 vertices, no edge ..
+//   "Act numbers still cover file edges only"             D, the one act 2
+//   "the checker judges version 1 answers by the old meaning"   check K4, ..; check D, ..; check, dead end out of reach ..
 mod answers;
 mod kept;
 mod limits;
 mod line;
+mod rests;
 mod rules;
 mod sizes;
+mod versions;
 
 use desk::print;
 use line::print_number;
 
 fn main() {
     let a = rules::shortcuts(rules::refusals_and_lists(kept::table(0)));
-    let b = limits::lengths(limits::counts(limits::buffers(a)));
-    let c = answers::checker_lengths(answers::checker_cases(b));
-    let wrong = answers::checker_answers(c);
+    let b = limits::counts(limits::buffers(rests::dead_ends(a)));
+    let c = limits::lengths(limits::past_counts(b));
+    let d = answers::checker_lengths(answers::checker_cases(c));
+    let wrong = versions::by_version(answers::checker_edges(d));
     print(b"wrong runs: ");
     print_number(wrong);
     print(b"\n");

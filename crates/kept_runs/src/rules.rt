@@ -7,19 +7,16 @@ use crate::line::by_rounds;
 use crate::sizes::put_rounds;
 use bench_kit::buffers::front_acts;
 
-fn owner_too_large(wrong: u32) -> u32 {
-    by_rounds(
+fn refused_lines(wrong: u32) -> u32 {
+    let owner = by_rounds(
         wrong,
         b"K1, owner 2",
         b"1 3 3 0 2\nvertex accepting owner\n0 0 0\n1 1 2\n2 0 0\nfrom to\n0 1\n1 2\n2 1\n",
         Wanted::refused(6),
         b"",
-    )
-}
-
-fn edge_to_no_vertex(wrong: u32) -> u32 {
+    );
     by_rounds(
-        wrong,
+        owner,
         b"K1, edge to 3",
         b"1 3 3 0 2\nvertex accepting owner\n0 0 0\n1 1 1\n2 0 0\nfrom to\n0 1\n1 3\n2 1\n",
         Wanted::refused(7),
@@ -41,7 +38,7 @@ fn whole_rounds(wrong: u32, name: &[u8], size: usize) -> u32 {
         name,
         size,
         Wanted::lasso(8).tallied(4, 4, 0),
-        b"1 lasso 1 2 0\nedge\n0\n1\n2\n",
+        b"2 lasso 1 2 0\nedge\n0\n1\n2\n",
     )
 }
 
@@ -56,8 +53,7 @@ fn by_whole_rounds(wrong: u32) -> u32 {
 
 // K1 by one act.
 fn one_act(wrong: u32, name: &[u8], act: u32, wanted: Wanted) -> u32 {
-    let list = [act; 1];
-    list_of_k1(wrong, name, &list, wanted, b"")
+    list_of_k1(wrong, name, &[act], wanted, b"")
 }
 
 // 9 goes for the whole list, also after the run's end.
@@ -82,70 +78,56 @@ fn by_one_act(wrong: u32) -> u32 {
     one_act(late_act(b), b"K1, the one act 0", 0, one_waits)
 }
 
-// Delivered after a lower one has been taken.
-fn late_offer(wrong: u32) -> u32 {
-    let late = [0u32, 0, 4, 3, 1];
-    by_list(
+// Delivered after a lower one has been taken; and vertex 1 scanned again before its first message is delivered. By rounds
+// the two are delivered one by one.
+fn offers(wrong: u32) -> u32 {
+    let late = by_list(
         wrong,
         b"late higher offer",
         b"1 3 3 0 2\nvertex accepting owner\n0 0 0\n1 1 0\n2 0 1\nfrom to\n0 1\n0 2\n1 2\n",
-        &late,
+        &[0, 0, 4, 3, 1],
         Wanted::empty(5).tallied(2, 2, 0),
-        b"1 empty 0 0 3\nvertex distance\n0 0\n1 0\n2 -1\n",
-    )
-}
-
-// Vertex 1 is scanned again before its first message is delivered.
-fn meeting_offers(wrong: u32) -> u32 {
-    let met = [0u32, 0, 0, 0, 4, 1];
-    by_list(
-        wrong,
+        b"2 empty 0 0 3\nvertex distance\n0 0\n1 0\n2 -1\n",
+    );
+    let met = by_list(
+        late,
         b"offer that meets a waiting one",
         b"1 4 4 0 2\nvertex accepting owner\n0 0 0\n1 0 0\n2 1 0\n3 0 1\nfrom to\n0 1\n0 2\n1 3\n2 1\n",
-        &met,
+        &[0, 0, 0, 0, 4, 1],
         Wanted::empty(6).tallied(2, 1, 1),
-        b"1 empty 0 0 4\nvertex distance\n0 0\n1 -1\n2 0\n3 -1\n",
-    )
-}
-
-// By rounds the two are delivered one by one.
-fn parted_offers(wrong: u32) -> u32 {
+        b"2 empty 0 0 4\nvertex distance\n0 0\n1 -1\n2 0\n3 -1\n",
+    );
     by_rounds(
-        wrong,
+        met,
         b"the same by rounds",
         b"1 4 4 0 2\nvertex accepting owner\n0 0 0\n1 0 0\n2 1 0\n3 0 1\nfrom to\n0 1\n0 2\n1 3\n2 1\n",
         Wanted::empty(8).tallied(2, 2, 0),
-        b"1 empty 0 0 4\nvertex distance\n0 0\n1 -1\n2 0\n3 -1\n",
+        b"2 empty 0 0 4\nvertex distance\n0 0\n1 -1\n2 0\n3 -1\n",
     )
 }
 
-fn accepting_stem(wrong: u32) -> u32 {
-    by_rounds(
+// In the second the cycle starts past the source, which is on it.
+fn stems(wrong: u32) -> u32 {
+    let accepting = by_rounds(
         wrong,
         b"accepting on the stem only",
         b"1 2 2 0 1\nvertex accepting owner\n0 1 0\n1 0 0\nfrom to\n0 1\n1 1\n",
         Wanted::empty(2),
-        b"1 empty 0 0 2\nvertex distance\n0 0\n1 -1\n",
-    )
-}
-
-// The cycle starts past the source, which is on it.
-fn source_with_parent(wrong: u32) -> u32 {
+        b"2 empty 0 0 2\nvertex distance\n0 0\n1 -1\n",
+    );
     by_rounds(
-        wrong,
+        accepting,
         b"source with a parent",
         b"1 2 2 0 1\nvertex accepting owner\n0 1 0\n1 0 0\nfrom to\n0 1\n1 0\n",
         Wanted::lasso(3),
-        b"1 lasso 1 2 0\nedge\n0\n1\n0\n",
+        b"2 lasso 1 2 0\nedge\n0\n1\n0\n",
     )
 }
 
 pub(crate) fn refusals_and_lists(wrong: u32) -> u32 {
-    let a = edge_to_no_vertex(owner_too_large(wrong));
-    by_one_act(by_whole_rounds(a))
+    by_one_act(by_whole_rounds(refused_lines(wrong)))
 }
 
 pub(crate) fn shortcuts(wrong: u32) -> u32 {
-    let a = parted_offers(meeting_offers(late_offer(wrong)));
-    source_with_parent(accepting_stem(a))
+    stems(offers(wrong))
 }

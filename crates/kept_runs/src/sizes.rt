@@ -14,11 +14,20 @@ fn quotient(a: u32, b: u32) -> u32 {
     if b == 0 { 0 } else { a / b }
 }
 
+// Not vertices: none is accepting, or every one.
+pub(crate) const NONE: u32 = 1000;
+
+pub(crate) const ALL: u32 = 1001;
+
 fn mark(v: u32, accepting: u32) -> u32 {
-    if v == accepting { 1 } else { 0 }
+    if v == accepting || accepting == ALL {
+        1
+    } else {
+        0
+    }
 }
 
-// The vertex lines, one of them accepting where it is below n, owned in turn.
+// The vertex lines, one of them accepting where it is below n, or all, owned in turn.
 fn write_vertices(out: &mut [u8], at: usize, n: u32, workers: u32, accepting: u32) -> usize {
     let mut here = at;
     let mut v: u32 = 0;
@@ -95,7 +104,7 @@ pub(crate) fn write_ring_answer(out: &mut [u8]) -> usize {
     let a = write_bytes(
         out,
         0,
-        b"version verdict stem cycle reached\n1 lasso 0 500 0\nedge\n",
+        b"version verdict stem cycle reached\n2 lasso 0 500 0\nedge\n",
     );
     write_edge_lines(out, a, 500)
 }
@@ -105,7 +114,7 @@ pub(crate) fn write_full_answer(out: &mut [u8]) -> usize {
     let a = write_bytes(
         out,
         0,
-        b"version verdict stem cycle reached\n1 empty 0 0 500\nvertex distance\n",
+        b"version verdict stem cycle reached\n2 empty 0 0 500\nvertex distance\n",
     );
     write_zero_lines(out, a, 500)
 }

@@ -12,7 +12,7 @@ use borrow.Author.Tests.{eqb-true, eq-eqb, ne-eqb}
 use Rattle.text.specs.Writing.{Puts}
 use Rattle.text.proofs.Tests.{clash}
 use Rattle.model.specs.Case.{least-output, least-work}
-use Rattle.model.specs.CaseFile.{first-of, case-refusal, accepted, case-in}
+use Rattle.model.specs.CaseFile.{first-of, case-refusal, accepted, run-case}
 use Rattle.model.specs.Run.{has-ended, by-rounds}
 use Rattle.model.specs.Answer.{answer}
 use Rattle.model.specs.Entry.{rounds-refusal, in-front, Run-says, Rounds-say}
@@ -53,22 +53,22 @@ front-shows bs o {r} {z} e f = record { within = omega (arith, e, ap length f, l
 
 -- WHAT THE RUN SAYS: an answer at the front, or a refusal of the case with the output as it was
 module _ (bs : List ℕ) (r : Outcome) (o z : List ℕ) (w v : List ℤ) (long : least-output ≤ length o) (roomy : least-work ≤ length w) (s : Rounds-say bs r o z w v) where
-  says : (k : ℕ) → case-refusal bs ≡ k → (b : Bool) → has-ended (by-rounds (case-in bs)) ≡ b → Run-says k b (case-in bs) (by-rounds (case-in bs)) r o z w v
+  says : (k : ℕ) → case-refusal bs ≡ k → (b : Bool) → has-ended (by-rounds (run-case bs)) ≡ b → Run-says k b (run-case bs) (by-rounds (run-case bs)) r o z w v
   unfolding Rounds-say
   says k e b q = rw (← q, ← e, ← case-alone bs (length o) (length w) long roomy) s
 
   pub found : r .refusal ≡ 0 → Shows (printed bs) (r .written) z
-  found h = go (case-refusal bs) refl (has-ended (by-rounds (case-in bs))) refl (says (case-refusal bs) refl (has-ended (by-rounds (case-in bs))) refl)
+  found h = go (case-refusal bs) refl (has-ended (by-rounds (run-case bs))) refl (says (case-refusal bs) refl (has-ended (by-rounds (run-case bs))) refl)
     where
-      go : (k : ℕ) → case-refusal bs ≡ k → (b : Bool) → has-ended (by-rounds (case-in bs)) ≡ b → Run-says k b (case-in bs) (by-rounds (case-in bs)) r o z w v → Shows (printed bs) (r .written) z
+      go : (k : ℕ) → case-refusal bs ≡ k → (b : Bool) → has-ended (by-rounds (run-case bs)) ≡ b → Run-says k b (run-case bs) (by-rounds (run-case bs)) r o z w v → Shows (printed bs) (r .written) z
       go (suc k) e b q = unfold Run-says in (λ t. absurd (omega (arith, h, t .refusal)))
-      go zero e true q = unfold Run-says printed in (λ t. rw (accepted-is bs e) (front-shows (answer (case-in bs .graph) (by-rounds (case-in bs))) o (t .written) (t .output)))
+      go zero e true q = unfold Run-says printed in (λ t. rw (accepted-is bs e) (front-shows (answer (run-case bs .graph) (by-rounds (run-case bs))) o (t .written) (t .output)))
       go zero e false q = unfold Run-says in (λ t. absurd (omega (arith, h, t .refusal)))
 
   pub turned : (r .refusal ≡ 0 → ⊥) → {n : ℕ} {y : List ℕ} → Puts 0 (refused-line (r .refusal)) n z y → Shows (printed bs) n y
-  turned h {n} {y} p = go (case-refusal bs) refl (has-ended (by-rounds (case-in bs))) refl (says (case-refusal bs) refl (has-ended (by-rounds (case-in bs))) refl)
+  turned h {n} {y} p = go (case-refusal bs) refl (has-ended (by-rounds (run-case bs))) refl (says (case-refusal bs) refl (has-ended (by-rounds (run-case bs))) refl)
     where
-      go : (k : ℕ) → case-refusal bs ≡ k → (b : Bool) → has-ended (by-rounds (case-in bs)) ≡ b → Run-says k b (case-in bs) (by-rounds (case-in bs)) r o z w v → Shows (printed bs) n y
+      go : (k : ℕ) → case-refusal bs ≡ k → (b : Bool) → has-ended (by-rounds (run-case bs)) ≡ b → Run-says k b (run-case bs) (by-rounds (run-case bs)) r o z w v → Shows (printed bs) n y
       go (suc k) e b q = unfold Run-says printed in (λ t. rw (refused-is bs k e, e, ← t .refusal) (puts-shows p (omega (arith, refused-short (r .refusal), long, ap length (t .output)))))
       go zero e true q = unfold Run-says in (λ t. absurd (h (t .refusal)))
-      go zero e false q = λ t. clash (has-ended (by-rounds (case-in bs))) (runs-kept (case-in bs) (file-sound bs (accepted-is bs e) .0) .rounds-end) q
+      go zero e false q = λ t. clash (has-ended (by-rounds (run-case bs))) (runs-kept (run-case bs) (file-sound bs (accepted-is bs e) .0) .rounds-end) q

@@ -16,7 +16,7 @@ use Rattle.text.specs.Writing.{Writes, Puts}
 use Rattle.text.proofs.Chains.{puts, puts-then, puts-as}
 use Rattle.text.proofs.Decimals.{decimal-most}
 use Rattle.model.specs.Case.{Case, least-output, least-work}
-use Rattle.model.specs.CaseFile.{first-of, case-refusal, case-in}
+use Rattle.model.specs.CaseFile.{first-of, case-refusal, case-in, run-case}
 use Rattle.model.specs.Run.{Tallies, no-tallies, State, has-ended, by-list}
 use Rattle.model.specs.Answer.{lasso-word, empty-word, answer}
 use Rattle.model.specs.Entry.{acts-refusal, list-refusal, in-front, tallies-of, Run-says, List-says}
@@ -136,8 +136,8 @@ first-skip ks = refl
 pub list-leaves : (bs xs : List ℕ) {r : Outcome} (o : List ℕ) {z : List ℕ} (w v : List ℤ) → least-output ≤ length o → least-work ≤ length w → List-says bs xs r o z w v → Leaves (length xs) (printed bs xs) r z
 unfolding List-says list-refusal printed
 list-leaves bs xs {r} o {z} w v a b s =
-    let x = by-list (case-in bs) xs in
-    leaves (length xs) (first-of (case-refusal bs ∷ acts-refusal (case-in bs) xs ∷ [])) (has-ended x) (case-in bs) x r o z w v (count-few (case-in bs) xs)
+    let x = by-list (run-case bs) xs in
+    leaves (length xs) (first-of (case-refusal bs ∷ acts-refusal (case-in bs) xs ∷ [])) (has-ended x) (run-case bs) x r o z w v (count-few (run-case bs) xs)
     (rw (long-buffers (length o) (length w) a b, first-skip (case-refusal bs ∷ acts-refusal (case-in bs) xs ∷ [])) at s)
 
 -- THE PAGE: the head and then the answer

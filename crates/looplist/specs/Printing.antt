@@ -7,7 +7,7 @@ use Rattle.desk.specs.Lines.{count-line}
 use Rattle.text.specs.Ascii.{ascii}
 use Rattle.text.specs.Lines.{text}
 use Rattle.model.specs.Case.{Case}
-use Rattle.model.specs.CaseFile.{first-of, case-refusal, case-in}
+use Rattle.model.specs.CaseFile.{first-of, case-refusal, case-in, run-case}
 use Rattle.model.specs.Run.{Tallies, no-tallies, State, has-ended, by-list}
 use Rattle.model.specs.Answer.{lasso-word, empty-word, lasso-verdict, empty-verdict, no-verdict, answer}
 use Rattle.model.specs.Entry.{acts-refusal, verdict}
@@ -40,5 +40,5 @@ page zero false c x = head 10 no-verdict (x .count) (x .tallies)
 
 unfoldable pub printed : (case acts : List ℕ) → List ℕ
 printed bs xs =
-    let x = by-list (case-in bs) xs in
-    page (first-of (case-refusal bs ∷ acts-refusal (case-in bs) xs ∷ [])) (has-ended x) (case-in bs) x
+    let x = by-list (run-case bs) xs in
+    page (first-of (case-refusal bs ∷ acts-refusal (case-in bs) xs ∷ [])) (has-ended x) (run-case bs) x

@@ -116,7 +116,7 @@ module _ (c : Case) (e : ℕ) (own : owner c (edge (c .graph) e .to) ≡ owner c
       go f d x h p (other n) = getD-set-other (x .cells) f e none none n ∙ p
 
   silent : (x : State) → Moment c x → getD (x .cells) e none ≡ none
-  silent x m = rw (m .is) (unfold by-list in (acted-keeps c (λ y. getD (y .cells) e none ≡ none) silent-acts (m .acts) (fresh c) (unfold fresh in (getD-replicate-same (length (c .graph .edges)) e none))))
+  silent x m = rw (m .is) (unfold by-list in (acted-keeps c (λ y. getD (y .cells) e none ≡ none) silent-acts (m .acts) (fresh c) (unfold fresh in (getD-replicate-same (c .file-edges) e none))))
 
 -- THE END of a run is told as it is
 begun-acts : (c : Case) → Acts c (λ x. x .count ≡ 0 → x .ended-empty ≡ false)

@@ -1,20 +1,24 @@
 -- CheckerSound: along any walk of listed vertices the number falls at least as the length does, so a passed "empty"
 -- is true; a passed "lasso" shows one.
 use mathlib.Core.Path.{_≡_, refl, sym, ap, subst, _∙_}
-use mathlib.Core.Bool.{Bool, true, false, cond}
+use mathlib.Core.Bool.{Bool, true, false, _&&_, not, cond}
 use mathlib.Core.List.{List, [], _∷_}
 use mathlib.Core.Option.{Option, none, some}
 use Prim.Native.Nat.{ℕ, zero, suc, _+_, _≤_, _<_}
 use native.Mathlib.Omega.{arith}
+use lib.Dec.{leb, eqb}
+use borrow.Author.Tests.{le-leb, lt-leb, leb-true, leb-false, eqb-false}
 use lib.ListN.{length, take, drop}
 use lib.IntN.{ℤ, pos, negℤ, _+ℤ_}
 use lib.Signed.{leZ}
-use Rattle.text.specs.Lines.{Line, lines, line-at}
-use Rattle.text.specs.Numbers.{number-at}
+use Rattle.text.specs.Lines.{Line, lines, line-at, field}
+use Rattle.text.specs.Numbers.{is-number, value, number-at}
 use Rattle.model.specs.Graph.{Graph, edge, edge-depth, edge-length, is-walk, walk-end, walk-depth, walk-length, is-lasso, Has-lasso, No-lasso}
+use Rattle.model.specs.Case.{known-version, answer-version}
+use Rattle.model.specs.CaseFile.{other-version}
 use Rattle.model.specs.Answer.{cycle, stem}
-use Rattle.model.specs.Passing.{says-lasso, Listed, number-of, is-listed, leads, all-lead, passes-empty, stem-in, cycle-in, listed-in, lasso-refusal, empty-refusal, answer-refusal, answer-verdict}
-use Rattle.model.specs.Promise.{Checker-sound}
+use Rattle.model.specs.Passing.{says-lasso, Listed, number-of, is-listed, leads, all-lead, passes-empty, stem-in, cycle-in, listed-in, lasso-refusal, empty-refusal, refusal-against, meant, answer-refusal, older-refusal, answer-verdict}
+use Rattle.model.specs.Promise.{Checker-sound, As-before}
 use Rattle.text.proofs.Tests.{Test, test, Same, same?, and-both, clash, holds, fails, same, other}
 use Rattle.model.proofs.Walks.{steps, Lasso, lasso-parts}
 use Rattle.model.proofs.Signs.{high, low, le-parts, parts-le, add-parts, low-neg, high-neg}
@@ -109,9 +113,28 @@ empty-passed g h ls e = empty-true g (listed-in (take (number-at h 4) (drop 3 ls
     (refuse-not (passes-empty g (listed-in (take (number-at h 4) (drop 3 ls)))) 12 (first-zero _ _ (first-zero _ _ (first-zero _ _ (first-zero _ _ e .1) .1) .1) .0))
 
 pub checker-sound : Checker-sound
-unfolding Checker-sound answer-refusal answer-verdict
-checker-sound g ts e = go (says-lasso (line-at (lines ts) 1)) (first-zero _ _ (first-zero _ _ (first-zero _ _ (first-zero _ _ (first-zero _ _ (first-zero _ _ e .1) .1) .1) .1) .1) .0)
+unfolding Checker-sound answer-refusal refusal-against answer-verdict
+checker-sound f ts e = go (says-lasso (line-at (lines ts) 1)) (first-zero _ _ (first-zero _ _ (first-zero _ _ (first-zero _ _ (first-zero _ _ (first-zero _ _ e .1) .1) .1) .1) .1) .0)
   where
+    g : Graph
+    g = meant f ts
+
     go : (b : Bool) → cond b (lasso-refusal g (line-at (lines ts) 1) (lines ts)) (empty-refusal g (line-at (lines ts) 1) (lines ts)) ≡ 0 → (_≡_ {A = ℕ} (cond b 1 2) 1 → Has-lasso g) × (_≡_ {A = ℕ} (cond b 1 2) 2 → No-lasso g)
     go true z = (λ _. lasso-passed g (line-at (lines ts) 1) (lines ts) z, λ q. absurd (omega arith))
     go false z = (λ q. absurd (omega arith), λ _. empty-passed g (line-at (lines ts) 1) (lines ts) z)
+
+-- a text that does not say version 2 is judged as 01's checker judges it
+versions-agree : (ls : List Line) → eqb (number-at (line-at ls 1) 0) answer-version ≡ false → other-version answer-version ls ≡ other-version known-version ls
+unfolding other-version number-at
+versions-agree ls n = ap (λ (b : Bool). is-number w && not (leb 1 (value w) && b)) (go (test (leb (value w) known-version)))
+  where
+    w : List ℕ
+    w = field (line-at ls 1) 0
+
+    go : Test (leb (value w) known-version) → leb (value w) answer-version ≡ leb (value w) known-version
+    go (holds t) = le-leb (value w) answer-version (omega (arith, leb-true (value w) known-version t)) ∙ sym t
+    go (fails t) = lt-leb (value w) answer-version (omega (arith, leb-false (value w) known-version t, eqb-false (value w) answer-version n)) ∙ sym t
+
+pub as-before : As-before
+unfolding As-before answer-refusal older-refusal refusal-against meant
+as-before g ts n = rw (n, versions-agree (lines ts) n) refl

@@ -12,12 +12,12 @@ use lib.ListN.{length, take, drop}
 use lib.Seq.{take-append-seam, drop-append-seam}
 use lib.IntN.{ℤ}
 use Rattle.text.specs.Lines.{lines, line-at}
-use Rattle.model.specs.Graph.{Graph, Has-lasso, No-lasso}
-use Rattle.model.specs.Case.{Case, most-acts, most-sent, Sound, Within}
-use Rattle.model.specs.CaseFile.{refuse, first-of, case-refusal, accepted, case-in}
+use Rattle.model.specs.Graph.{Graph, rested, Has-lasso, No-lasso}
+use Rattle.model.specs.Case.{Case, resting, most-acts, most-sent, Sound, Within}
+use Rattle.model.specs.CaseFile.{refuse, first-of, case-refusal, accepted, case-in, run-case}
 use Rattle.model.specs.Run.{Tallies, State, is-some, range, ended-lasso, has-ended, full-cells, round-acts, by-list, by-rounds}
 use Rattle.model.specs.Answer.{lasso-verdict, empty-verdict, cycle-start, cycle, stem, answer-of, answer}
-use Rattle.model.specs.Passing.{says-lasso, answer-refusal, check-refusal, answer-verdict}
+use Rattle.model.specs.Passing.{says-lasso, meant, answer-refusal, check-refusal, answer-verdict}
 use Rattle.model.specs.Entry.{any-at-or-above, acts-refusal, list-refusal, rounds-refusal, verdict, in-front, tallies-of, Refused, Cut-short, Finished, Run-says, List-says, Rounds-say}
 use Rattle.model.specs.Promise.{Ended, Finding, whole-rounds, Balanced, Tallied, Agree, Checker-sound, Says, Definite, Runs-definite, Checks-definite, True-verdict, Shows-lasso, Shows-distances, Result-tallied, Runs-right, Check-right, Runs-agree, Rounds-as-list, Ten, Ten-exactly, Rounds-never-ten, Rounds-join-none}
 use Rattle.model.specs.declared.Outcome.{Outcome}
@@ -31,7 +31,7 @@ use Rattle.model.proofs.ActRules.{rules-kept, counts}
 use Rattle.model.proofs.Accepting.{first-zero, zero-first, first-none}
 use Rattle.model.proofs.Refusals.{list-numbers, rounds-numbers, check-numbers}
 use Rattle.model.proofs.CheckerSound.{checker-sound}
-use Rattle.model.proofs.Kept.{runs-kept, passes, agree, file-sound}
+use Rattle.model.proofs.Kept.{runs-kept, complete, passes-rested, agree, file-sound}
 
 true-verdict : (c : Case) → Sound c → (x : State) → Ended c x → True-verdict (c .graph) (verdict x)
 true-verdict c ok x e = go (x .broken) refl
@@ -50,7 +50,7 @@ true-verdict c ok x e = go (x .broken) refl
         let v : verdict x ≡ lasso-verdict = says (some b) h ∙ (unfold is-some in refl) in
         record { lasso = λ _. record { stem = _; cycle = _; lasso = F .shown b h }; empty = λ q. absurd (omega arith); either = inl v }
 
-accepted-by : (bs : List ℕ) → case-refusal bs ≡ 0 → Sound (case-in bs) × Within (case-in bs)
+accepted-by : (bs : List ℕ) → case-refusal bs ≡ 0 → Sound (run-case bs) × Within (run-case bs)
 accepted-by bs e = file-sound bs (unfold accepted in (eq-eqb (case-refusal bs) 0 e))
 
 list-accepted : (bs xs : List ℕ) (o w : ℕ) → list-refusal bs xs o w ≡ 0 → case-refusal bs ≡ 0
@@ -71,17 +71,17 @@ says-cases P zero false c x r o z w v s f g h = h refl refl s
 
 -- what an entry returned, as a run
 record Result (bs : List ℕ) (r : Outcome) (z : List ℕ) : Type 0 where
-  sound : Sound (case-in bs)
-  within : Within (case-in bs)
+  sound : Sound (run-case bs)
+  within : Within (run-case bs)
   taken : case-refusal bs ≡ 0
   state : State
-  ended : Ended (case-in bs) state
+  ended : Ended (run-case bs) state
   verdict : r .verdict ≡ verdict state
   acts : r .acts ≡ state .count
   tallies : tallies-of r ≡ state .tallies
-  shown : take (r .written) z ≡ answer (case-in bs .graph) state
+  shown : take (r .written) z ≡ answer (run-case bs .graph) state
 
-finished : (bs : List ℕ) (x : State) (r : Outcome) (o z : List ℕ) (w v : List ℤ) → case-refusal bs ≡ 0 → Ended (case-in bs) x → Finished (case-in bs) x r o z w v → Result bs r z
+finished : (bs : List ℕ) (x : State) (r : Outcome) (o z : List ℕ) (w v : List ℤ) → case-refusal bs ≡ 0 → Ended (run-case bs) x → Finished (run-case bs) x r o z w v → Result bs r z
 finished bs x r o z w v k e t = record {
   sound = accepted-by bs k .0;
   within = accepted-by bs k .1;
@@ -91,19 +91,19 @@ finished bs x r o z w v k e t = record {
   verdict = t .verdict;
   acts = t .acts;
   tallies = t .tallies;
-  shown = ap (λ (n : ℕ). take n z) (t .written) ∙ ap (λ (l : List ℕ). take (length (answer (case-in bs .graph) x)) l) (t .output) ∙ front;
+  shown = ap (λ (n : ℕ). take n z) (t .written) ∙ ap (λ (l : List ℕ). take (length (answer (run-case bs .graph) x)) l) (t .output) ∙ front;
 }
   where
-    front : take (length (answer (case-in bs .graph) x)) (in-front (answer (case-in bs .graph) x) o) ≡ answer (case-in bs .graph) x
-    front = unfold in-front in (take-append-seam (answer (case-in bs .graph) x) (drop (length (answer (case-in bs .graph) x)) o))
+    front : take (length (answer (run-case bs .graph) x)) (in-front (answer (run-case bs .graph) x) o) ≡ answer (run-case bs .graph) x
+    front = unfold in-front in (take-append-seam (answer (run-case bs .graph) x) (drop (length (answer (run-case bs .graph) x)) o))
 
 result : (bs : List ℕ) (r : Outcome) (o z : List ℕ) (w v : List ℤ) → Says bs r o z w v → r .refusal ≡ 0 → Result bs r z
 unfolding Says List-says Rounds-say
-result bs r o z w v (inl (xs, s)) e = let x = by-list (case-in bs) xs in says-cases (Result bs r z) (list-refusal bs xs (length o) (length w)) (has-ended x) (case-in bs) x r o z w v s
+result bs r o z w v (inl (xs, s)) e = let x = by-list (run-case bs) xs in says-cases (Result bs r z) (list-refusal bs xs (length o) (length w)) (has-ended x) (run-case bs) x r o z w v s
     (λ j _ t. absurd (omega (arith, t .refusal)))
     (λ k b t. finished bs x r o z w v (list-accepted bs xs (length o) (length w) k) (record { ended = b; run = inl (record { acts = xs; is = refl }) }) t)
     (λ k b t. absurd (omega (arith, t .refusal)))
-result bs r o z w v (inr s) e = let x = by-rounds (case-in bs) in says-cases (Result bs r z) (rounds-refusal bs (length o) (length w)) (has-ended x) (case-in bs) x r o z w v s
+result bs r o z w v (inr s) e = let x = by-rounds (run-case bs) in says-cases (Result bs r z) (rounds-refusal bs (length o) (length w)) (has-ended x) (run-case bs) x r o z w v s
     (λ j _ t. absurd (omega (arith, t .refusal)))
     (λ k b t. finished bs x r o z w v (rounds-accepted bs (length o) (length w) k) (record { ended = b; run = inr refl }) t)
     (λ k b t. absurd (omega (arith, t .refusal)))
@@ -129,7 +129,7 @@ unfolding Runs-agree
 runs-agree bs ds r s o z p y w v u t a b g e f =
     let m = result bs r o z w v a e in
     let n = result ds s p y u t b f in
-    let k = agreed (case-in bs) (case-in ds) (m .sound) (n .sound) g (m .state) (n .state) (m .ended) (n .ended) in
+    let k = agreed (run-case bs) (run-case ds) (m .sound) (n .sound) (unfold resting in (ap rested g)) (m .state) (n .state) (m .ended) (n .ended) in
     let q : verdict (m .state) ≡ verdict (n .state) = same-verdict (m .state) (n .state) (k .0) in
     (m .verdict ∙ q ∙ sym (n .verdict), λ h. m .shown ∙ k .1 (verdict-two (m .state) (sym (m .verdict) ∙ h)) ∙ sym (n .shown))
   where
@@ -178,18 +178,19 @@ result-tallied c ok x e r v t = let s = sent-by c x r t (moment-tallied c ok x (
 }
 
 pub runs-right : Runs-right
-unfolding Runs-right check-refusal
+unfolding Runs-right check-refusal resting
 runs-right bs r o z w v s e =
     let p = result bs r o z w v s e in
-    let k = passes (case-in bs) (p .sound) (p .within) (p .state) (p .ended) in
-    let a : answer-refusal (case-in bs .graph) (take (r .written) z) ≡ 0 = rw (p .shown) (k .0) in
+    let k = complete (run-case bs) (p .sound) (p .within) (p .state) (p .ended) in
+    let a : answer-refusal (case-in bs .graph) (take (r .written) z) ≡ 0 = rw (p .shown) (passes-rested (case-in bs .graph) refl k) in
     record {
-      verdict = subst (λ (n : ℕ). True-verdict (case-in bs .graph) n) (sym (p .verdict)) (true-verdict (case-in bs) (p .sound) (p .state) (p .ended));
-      lasso = λ q. rw (p .shown) (shows-lasso (case-in bs) (p .sound) (p .state) (p .ended) (verdict-one (p .state) (sym (p .verdict) ∙ q)));
-      empty = λ q. rw (p .shown) (shows-distances (case-in bs) (p .sound) (p .state) (p .ended) (verdict-two (p .state) (sym (p .verdict) ∙ q)));
-      acts = omega (arith, p .acts, few (case-in bs) (p .sound) (p .state) (known (case-in bs) (p .sound) (p .state) (p .ended) .paid) .0);
-      tallies = result-tallied (case-in bs) (p .sound) (p .state) (p .ended) r (p .verdict) (p .tallies);
-      passes = (zero-first _ _ (p .taken) (zero-first _ _ a first-none), rw (p .shown) (k .1 ∙ sym (p .verdict)));
+      verdict = subst (λ (n : ℕ). True-verdict (run-case bs .graph) n) (sym (p .verdict)) (true-verdict (run-case bs) (p .sound) (p .state) (p .ended));
+      lasso = λ q. rw (p .shown) (shows-lasso (run-case bs) (p .sound) (p .state) (p .ended) (verdict-one (p .state) (sym (p .verdict) ∙ q)));
+      empty = λ q. rw (p .shown) (shows-distances (run-case bs) (p .sound) (p .state) (p .ended) (verdict-two (p .state) (sym (p .verdict) ∙ q)));
+      acts = omega (arith, p .acts, few (run-case bs) (p .sound) (p .state) (known (run-case bs) (p .sound) (p .state) (p .ended) .paid) .0);
+      tallies = result-tallied (run-case bs) (p .sound) (p .state) (p .ended) r (p .verdict) (p .tallies);
+      passes = (zero-first _ _ (p .taken) (zero-first _ _ a first-none), rw (p .shown) (k .says ∙ sym (p .verdict)));
+      older = rw (p .shown) (k .older (case-in bs .graph));
     }
 
 pub check-right : Check-right
@@ -201,7 +202,7 @@ check-right bs ts r s e =
     let v : r .verdict ≡ answer-verdict ts = s .verdict ∙ (rw z refl) in
     record { lasso = λ q. k .0 (sym v ∙ q); empty = λ q. k .1 (sym v ∙ q); either = either ts (r .verdict) v }
   where
-    sound-of : (g : Graph) (ts : List ℕ) → answer-refusal g ts ≡ 0 → (answer-verdict ts ≡ lasso-verdict → Has-lasso g) × (answer-verdict ts ≡ empty-verdict → No-lasso g)
+    sound-of : (g : Graph) (ts : List ℕ) → answer-refusal g ts ≡ 0 → (answer-verdict ts ≡ lasso-verdict → Has-lasso (meant g ts)) × (answer-verdict ts ≡ empty-verdict → No-lasso (meant g ts))
     sound-of = unfold Checker-sound in checker-sound
 
     either : (ts : List ℕ) (n : ℕ) → n ≡ answer-verdict ts → (n ≡ lasso-verdict) ⊎ (n ≡ empty-verdict)
@@ -213,8 +214,8 @@ check-right bs ts r s e =
 
 pub ten-exactly : Ten-exactly
 unfolding Ten-exactly List-says
-ten-exactly bs xs r o z w v s = let x = by-list (case-in bs) xs in let k = list-refusal bs xs (length o) (length w) in
-    says-cases (Ten bs xs r (length o) (length w)) k (has-ended x) (case-in bs) x r o z w v s
+ten-exactly bs xs r o z w v s = let x = by-list (run-case bs) xs in let k = list-refusal bs xs (length o) (length w) in
+    says-cases (Ten bs xs r (length o) (length w)) k (has-ended x) (run-case bs) x r o z w v s
     (λ j q t. record {
       only = λ e. absurd (not-ten j q (sym (t .refusal) ∙ e));
       always = λ n _. absurd (omega (arith, q, n));
@@ -225,7 +226,7 @@ ten-exactly bs xs r o z w v s = let x = by-list (case-in bs) xs in let k = list-
     })
     (λ n b t. record {
       only = λ e. absurd (omega (arith, t .refusal));
-      always = λ _ f. clash (has-ended (by-list (case-in bs) xs)) b f;
+      always = λ _ f. clash (has-ended (by-list (run-case bs) xs)) b f;
       below = λ e. absurd (omega (arith, t .refusal));
       counted = λ e. absurd (omega (arith, t .refusal));
       balanced = λ e. absurd (omega (arith, t .refusal));
@@ -235,25 +236,25 @@ ten-exactly bs xs r o z w v s = let x = by-list (case-in bs) xs in let k = list-
       only = λ _. (n, b);
       always = λ _ _. t .refusal;
       below = λ _. below a b (t .acts);
-      counted = λ _. t .acts ∙ counts (case-in bs) xs;
+      counted = λ _. t .acts ∙ counts (run-case bs) xs;
       balanced = λ _. sums a (t .tallies) .0;
       few-sent = λ _. sums a (t .tallies) .1;
     })
   where
-    sums : case-refusal bs ≡ 0 → tallies-of r ≡ by-list (case-in bs) xs .tallies → Balanced (tallies-of r) (full-cells (by-list (case-in bs) xs .cells)) × (r .sent ≤ most-sent (case-in bs))
-    sums a t = sent-by (case-in bs) (by-list (case-in bs) xs) r t (tallied (case-in bs) (accepted-by bs a .0) xs)
+    sums : case-refusal bs ≡ 0 → tallies-of r ≡ by-list (run-case bs) xs .tallies → Balanced (tallies-of r) (full-cells (by-list (run-case bs) xs .cells)) × (r .sent ≤ most-sent (run-case bs))
+    sums a t = sent-by (run-case bs) (by-list (run-case bs) xs) r t (tallied (run-case bs) (accepted-by bs a .0) xs)
 
     not-ten : (j : ℕ) → list-refusal bs xs (length o) (length w) ≡ suc j → suc j ≡ 10 → ⊥
     not-ten j q e = list-numbers (λ n. n ≡ 10 → ⊥) (λ n l e. omega arith) (λ e. omega arith) (λ e. omega arith) bs xs (length o) (length w) (q ∙ e)
 
     -- with as many acts as the bound the run would have ended
-    below : case-refusal bs ≡ 0 → has-ended (by-list (case-in bs) xs) ≡ false → r .acts ≡ by-list (case-in bs) xs .count → r .acts < most-acts (case-in bs)
-    below a b t = let c = case-in bs in let ok = accepted-by bs a .0 in let f = few c ok (by-list c xs) (paid c ok xs) in
+    below : case-refusal bs ≡ 0 → has-ended (by-list (run-case bs) xs) ≡ false → r .acts ≡ by-list (run-case bs) xs .count → r .acts < most-acts (run-case bs)
+    below a b t = let c = run-case bs in let ok = accepted-by bs a .0 in let f = few c ok (by-list c xs) (paid c ok xs) in
         go (same? (by-list c xs .count) (most-acts c)) (f .0) (f .1)
       where
-        go : Same (by-list (case-in bs) xs .count) (most-acts (case-in bs)) → by-list (case-in bs) xs .count ≤ most-acts (case-in bs) →
-            (by-list (case-in bs) xs .count ≡ most-acts (case-in bs) → has-ended (by-list (case-in bs) xs) ≡ true) → r .acts < most-acts (case-in bs)
-        go (same e) l h = clash (has-ended (by-list (case-in bs) xs)) (h e) b
+        go : Same (by-list (run-case bs) xs .count) (most-acts (run-case bs)) → by-list (run-case bs) xs .count ≤ most-acts (run-case bs) →
+            (by-list (run-case bs) xs .count ≡ most-acts (run-case bs) → has-ended (by-list (run-case bs) xs) ≡ true) → r .acts < most-acts (run-case bs)
+        go (same e) l h = clash (has-ended (by-list (run-case bs) xs)) (h e) b
         go (other n) l h = omega (arith, n, t)
 
 -- A ROUND'S ACTS are all in range, so a list of whole rounds is never refused by 9
@@ -267,44 +268,46 @@ unfolding any-at-or-above
 any-append l [] ys p q = q
 any-append l (x ∷ xs) ys p q = let z = or-false (leb l x) (any-at-or-above l xs) p in rw (z .0) (any-append l xs ys (z .1) q)
 
-rounds-in-range : (k : ℕ) (c : Case) → any-at-or-above (c .workers + length (c .graph .edges)) (whole-rounds k c) ≡ false
+rounds-in-range : (k : ℕ) (c : Case) → any-at-or-above (c .workers + c .file-edges) (whole-rounds k c) ≡ false
 unfolding whole-rounds round-acts
 rounds-in-range zero c = unfold any-at-or-above in refl
-rounds-in-range (suc k) c = any-append _ (range (c .workers + length (c .graph .edges)) 0) (whole-rounds k c) (range-below _ 0 _ (omega arith)) (rounds-in-range k c)
+rounds-in-range (suc k) c = any-append _ (range (c .workers + c .file-edges) 0) (whole-rounds k c) (range-below _ 0 _ (omega arith)) (rounds-in-range k c)
 
-same-refusal : (bs : List ℕ) (k o w : ℕ) → rounds-refusal bs o w ≡ list-refusal bs (whole-rounds k (case-in bs)) o w
+same-refusal : (bs : List ℕ) (k o w : ℕ) → rounds-refusal bs o w ≡ list-refusal bs (whole-rounds k (run-case bs)) o w
 unfolding rounds-refusal list-refusal acts-refusal
-same-refusal bs k o w = rw (rounds-in-range k (case-in bs)) (unfold refuse first-of in refl)
+same-refusal bs k o w =
+    let r : any-at-or-above (case-in bs .workers + case-in bs .file-edges) (whole-rounds k (run-case bs)) ≡ false = unfold resting in (rounds-in-range k (run-case bs)) in
+    rw r (unfold refuse first-of in refl)
 
 pub rounds-as-list : Rounds-as-list
 unfolding Rounds-as-list Rounds-say List-says
 rounds-as-list bs k r o z w v l s = go (rounds-refusal bs (length o) (length w)) refl s
   where
     -- a refused case may have no end by rounds, but then no run is asked for
-    go : (n : ℕ) → rounds-refusal bs (length o) (length w) ≡ n → Run-says n (has-ended (by-rounds (case-in bs))) (case-in bs) (by-rounds (case-in bs)) r o z w v →
-        Run-says (list-refusal bs (whole-rounds k (case-in bs)) (length o) (length w)) (has-ended (by-list (case-in bs) (whole-rounds k (case-in bs)))) (case-in bs) (by-list (case-in bs) (whole-rounds k (case-in bs))) r o z w v
-    go zero e s = rw (sym (same-refusal bs k (length o) (length w)) ∙ e, ← runs-kept (case-in bs) (accepted-by bs (rounds-accepted bs (length o) (length w) e) .0) .rounds-listed k l) s
+    go : (n : ℕ) → rounds-refusal bs (length o) (length w) ≡ n → Run-says n (has-ended (by-rounds (run-case bs))) (run-case bs) (by-rounds (run-case bs)) r o z w v →
+        Run-says (list-refusal bs (whole-rounds k (run-case bs)) (length o) (length w)) (has-ended (by-list (run-case bs) (whole-rounds k (run-case bs)))) (run-case bs) (by-list (run-case bs) (whole-rounds k (run-case bs))) r o z w v
+    go zero e s = rw (sym (same-refusal bs k (length o) (length w)) ∙ e, ← runs-kept (run-case bs) (accepted-by bs (rounds-accepted bs (length o) (length w) e) .0) .rounds-listed k l) s
     go (suc n) e s = rw (sym (same-refusal bs k (length o) (length w)) ∙ e) (unfold Run-says in s)
 
 pub rounds-never-ten : Rounds-never-ten
 unfolding Rounds-never-ten Rounds-say
-rounds-never-ten bs r o z w v s e = let x = by-rounds (case-in bs) in says-cases ⊥ (rounds-refusal bs (length o) (length w)) (has-ended x) (case-in bs) x r o z w v s
+rounds-never-ten bs r o z w v s e = let x = by-rounds (run-case bs) in says-cases ⊥ (rounds-refusal bs (length o) (length w)) (has-ended x) (run-case bs) x r o z w v s
     (λ j q t. rounds-numbers (λ n. n ≡ 10 → ⊥) (λ n l e. omega arith) (λ e. omega arith) bs (length o) (length w) (q ∙ sym (t .refusal) ∙ e))
     (λ n b t. omega (arith, t .refusal))
-    (λ n b t. clash (has-ended (by-rounds (case-in bs))) (rounds-past-end-end bs (rounds-accepted bs (length o) (length w) n)) b)
+    (λ n b t. clash (has-ended (by-rounds (run-case bs))) (rounds-past-end-end bs (rounds-accepted bs (length o) (length w) n)) b)
   where
-    rounds-past-end-end : (bs : List ℕ) → case-refusal bs ≡ 0 → has-ended (by-rounds (case-in bs)) ≡ true
-    rounds-past-end-end bs n = unfold by-rounds in (rounds-end (case-in bs) (accepted-by bs n .0))
+    rounds-past-end-end : (bs : List ℕ) → case-refusal bs ≡ 0 → has-ended (by-rounds (run-case bs)) ≡ true
+    rounds-past-end-end bs n = unfold by-rounds in (rounds-end (run-case bs) (accepted-by bs n .0))
 
 pub rounds-join-none : Rounds-join-none
 unfolding Rounds-join-none Rounds-say
-rounds-join-none bs r o z w v s = let x = by-rounds (case-in bs) in says-cases (r .joined ≡ 0) (rounds-refusal bs (length o) (length w)) (has-ended x) (case-in bs) x r o z w v s
+rounds-join-none bs r o z w v s = let x = by-rounds (run-case bs) in says-cases (r .joined ≡ 0) (rounds-refusal bs (length o) (length w)) (has-ended x) (run-case bs) x r o z w v s
     (λ _ _ t. ap (λ (t : Tallies). t .joined) (t .tallies))
     (λ n _ t. ap (λ (t : Tallies). t .joined) (t .tallies) ∙ none n)
     (λ n _ t. ap (λ (t : Tallies). t .joined) (t .tallies) ∙ none n)
   where
-    none : rounds-refusal bs (length o) (length w) ≡ 0 → by-rounds (case-in bs) .tallies .joined ≡ 0
-    none n = runs-kept (case-in bs) (accepted-by bs (rounds-accepted bs (length o) (length w) n) .0) .rounds-join-none
+    none : rounds-refusal bs (length o) (length w) ≡ 0 → by-rounds (run-case bs) .tallies .joined ≡ 0
+    none n = runs-kept (run-case bs) (accepted-by bs (rounds-accepted bs (length o) (length w) n) .0) .rounds-join-none
 
 -- THE FIRST DEMAND
 rest-kept : (written : ℕ) (new o z : List ℕ) → written ≡ length new → z ≡ in-front new o → drop written z ≡ drop written o
@@ -320,11 +323,11 @@ definite-says k b c x r o z w v l n s = says-cases (Definite r o z w v) k b c x 
 pub runs-definite : Runs-definite
 unfolding Runs-definite Says List-says Rounds-say
 runs-definite bs r o z w v (inl (xs, s)) =
-    definite-says (list-refusal bs xs (length o) (length w)) (has-ended (by-list (case-in bs) xs)) (case-in bs) (by-list (case-in bs) xs) r o z w v
+    definite-says (list-refusal bs xs (length o) (length w)) (has-ended (by-list (run-case bs) xs)) (run-case bs) (by-list (run-case bs) xs) r o z w v
     (list-numbers (λ n. n ≤ 11) (λ n l. omega arith) (omega arith) (omega arith) bs xs (length o) (length w))
     (list-numbers (λ n. n ≡ 10 → ⊥) (λ n l e. omega arith) (λ e. omega arith) (λ e. omega arith) bs xs (length o) (length w)) s
 runs-definite bs r o z w v (inr s) =
-    definite-says (rounds-refusal bs (length o) (length w)) (has-ended (by-rounds (case-in bs))) (case-in bs) (by-rounds (case-in bs)) r o z w v
+    definite-says (rounds-refusal bs (length o) (length w)) (has-ended (by-rounds (run-case bs))) (run-case bs) (by-rounds (run-case bs)) r o z w v
     (rounds-numbers (λ n. n ≤ 11) (λ n l. omega arith) (omega arith) bs (length o) (length w))
     (rounds-numbers (λ n. n ≡ 10 → ⊥) (λ n l e. omega arith) (λ e. omega arith) bs (length o) (length w)) s
 

@@ -14,7 +14,7 @@ use Rattle.model.specs.Run.{State, is-some, ended-lasso, has-ended, fres
 use Rattle.text.proofs.Tests.{Test, test, Same, same?, or-left, or-right, holds, fails, same, other}
 use Rattle.model.proofs.Tools.{sum, sum-le, sum-lt, sum-bound, sum-has, none-of, some-of, once-head, member-later, member-first, getD-replicate-same, no-queue, no-queues, no-cells, snoc-in}
 use Rattle.model.proofs.Steps.{relax-cases, scan-keeps, Acts, acted-keeps}
-use Rattle.model.proofs.Shapes.{Shape, enqueue-cases, not-broken, shape-relax, shape-cell, shape-queue, shape-counted, cell-in, fresh-shape, source-queued}
+use Rattle.model.proofs.Shapes.{Shape, enqueue-cases, not-broken, shape-relax, shape-cell, shape-queue, shape-counted, cell-in, fresh-shape, source-queued, file-in}
 
 unfoldable pub bit : Bool → ℕ
 bit b = cond b 1 0
@@ -180,14 +180,17 @@ module _ (c : Case) (ok : Sound c) where
       y : State
       y = relax c e d (emptied e x)
 
+      there : e < c .file-edges
+      there = cell-in c ok x e d s h
+
       l : e < length (c .graph .edges)
-      l = cell-in c ok x e d s h
+      l = file-in c ok e there
 
       rooms : (u : ℕ) → R c y u ≤ R c x u
       rooms u = unfold R waiting in (R-relax e d (emptied e x) l (shape-cell c ok e none x s) u)
 
       none-left : getD (y .cells) e none ≡ none
-      none-left = rw (relax-cells c e d (emptied e x)) (getD-set-same (x .cells) e none none (rw (s .cells) l))
+      none-left = rw (relax-cells c e d (emptied e x)) (getD-set-same (x .cells) e none none (rw (s .cells) there))
 
       kept : (f : ℕ) → (f ≡ e → ⊥) → getD (y .cells) f none ≡ getD (x .cells) f none
       kept f n = rw (relax-cells c e d (emptied e x)) (getD-set-other (x .cells) e f none none n)
@@ -215,7 +218,7 @@ module _ (c : Case) (ok : Sound c) where
     delivery = λ e d x o h p.
         let k : relax c e d (emptied e x) .count ≡ x .count = relax-count c e d (emptied e x) in
         record {
-          shape = shape-counted c ok _ (shape-relax c ok e d _ (not-broken x o) (cell-in c ok x e d (p .shape) h) (shape-cell c ok e none x (p .shape)));
+          shape = shape-counted c ok _ (shape-relax c ok e d _ (not-broken x o) (file-in c ok e (cell-in c ok x e d (p .shape) h)) (shape-cell c ok e none x (p .shape)));
           paid = omega (arith, Φ-delivery e d x (not-broken x o) h (p .shape), p .paid);
           told = refl;
         };
@@ -230,7 +233,7 @@ module _ (c : Case) (ok : Sound c) where
   )
     where
       empty : (e : ℕ) → getD (fresh c .cells) e none ≡ none
-      empty e = unfold fresh in (getD-replicate-same (length (c .graph .edges)) e none)
+      empty e = unfold fresh in (getD-replicate-same (c .file-edges) e none)
 
       zero-bit : bit (is-some {A = ℕ} none) ≡ 0
       zero-bit = unfold bit is-some in refl
@@ -270,7 +273,7 @@ module _ (c : Case) (ok : Sound c) where
       nothing-as e none h = h
       nothing-as e (some d) h =
           let one : bit (is-some (getD (x .cells) e none)) ≡ 1 = rw h (unfold bit is-some in refl) in
-          absurd (omega (arith, sum-has (length (c .graph .edges)) (S c x) e (cell-in c ok x e d (p .shape) h)))
+          absurd (omega (arith, sum-has (length (c .graph .edges)) (S c x) e (file-in c ok e (cell-in c ok x e d (p .shape) h))))
 
       nothing : (e : ℕ) → getD (x .cells) e none ≡ none
       nothing e = nothing-as e _ refl

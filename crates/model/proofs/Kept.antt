@@ -9,14 +9,14 @@ use Prim.Native.Nat.{ℕ, zero, suc, _+_, _-_, _≤_}
 use native.Mathlib.Omega.{arith}
 use native.Mathlib.Nat.{suc-add}
 use lib.ListN.{length, getD}
-use Rattle.model.specs.Graph.{Graph, edge}
-use Rattle.model.specs.Case.{Case, least-output, most-acts, Sound, Within}
-use Rattle.model.specs.CaseFile.{accepted, case-in}
+use Rattle.model.specs.Graph.{Graph, edge, rested}
+use Rattle.model.specs.Case.{Case, resting, least-output, most-acts, Sound, Within}
+use Rattle.model.specs.CaseFile.{accepted, case-in, run-case}
 use Rattle.model.specs.Run.{State, is-some, ended-lasso, has-ended, fresh, acted, round-acts, rounds, by-list, by-rounds}
 use Rattle.model.specs.Answer.{lasso-verdict, empty-verdict, cycle-start, cycle, stem, lasso-text, empty-text, answer-of, answer}
-use Rattle.model.specs.Passing.{answer-refusal, answer-verdict}
+use Rattle.model.specs.Passing.{meant, answer-refusal}
 use Rattle.model.specs.Entry.{verdict}
-use Rattle.model.specs.Promise.{Ended, Finding, whole-rounds, Runs-kept, Moments-kept, Limits-kept, Of-cases, One-stem, Agree, Same-finding, Files-sound, Of-files, Files-agree}
+use Rattle.model.specs.Promise.{Ended, Finding, whole-rounds, Runs-kept, Moments-kept, Limits-kept, Of-cases, One-stem, Agree, Same-finding, Resting-sound, Files-sound, Of-files, Files-agree}
 use Rattle.text.proofs.Tests.{or-cases, clash}
 use Rattle.model.proofs.Tools.{some-of}
 use Rattle.model.proofs.Walks.{lasso-whole}
@@ -32,7 +32,8 @@ use Rattle.model.proofs.ActRules.{rules-kept, counts}
 use Rattle.model.proofs.Accepting.{files-sound}
 use Rattle.model.proofs.Fits.{walk-below, below-append, cycle-few, accepting-few, answer-fits, answers-fit}
 use Rattle.model.proofs.Bounds.{most-acts-small, most-sent-small}
-use Rattle.model.proofs.CheckerComplete.{lasso-complete, empty-complete}
+use Rattle.model.proofs.CheckerComplete.{Complete, lasso-complete, empty-complete}
+use Rattle.model.proofs.Rests.{resting-sound}
 
 -- ROUNDS past the end change nothing, so enough whole rounds are the run by rounds
 rounds-past-end : (i : ℕ) (c : Case) (x : State) → has-ended x ≡ true → rounds i c x ≡ x
@@ -80,7 +81,7 @@ moments-kept c ok = record {
 
 -- WHAT AN ENDED RUN WRITES is read back and passes
 complete-at : (c : Case) (ok : Sound c) → Within c → (x : State) → Known c x → (o : Option ℕ) → x .broken ≡ o → (is-some o ≡ true) ⊎ (x .ended-empty ≡ true) →
-    (answer-refusal (c .graph) (answer-of (c .graph) o (x .parents) (x .depths)) ≡ 0) × (answer-verdict (answer-of (c .graph) o (x .parents) (x .depths)) ≡ cond (is-some o) lasso-verdict empty-verdict)
+    Complete (c .graph) (answer-of (c .graph) o (x .parents) (x .depths)) (cond (is-some o) lasso-verdict empty-verdict)
 unfolding answer-of is-some
 complete-at c ok w x k none h (inl i) = clash false i refl
 complete-at c ok w x k none h (inr i) =
@@ -95,12 +96,23 @@ complete-at c ok w x k (some b) h _ =
     (omega (arith, stem-few c ok x k b h, w .vertices)) (omega (arith, cycle-few (c .graph) (x .parents) b, w .vertices)) (y .some-edge)
     (let l : length (lasso-text ss es) ≤ least-output = answer-fits c ok w x k (some b) h in omega arith) (lasso-whole (c .graph) ss es y)
 
-pub passes : (c : Case) → Sound c → Within c → (x : State) → Ended c x → (answer-refusal (c .graph) (answer (c .graph) x) ≡ 0) × (answer-verdict (answer (c .graph) x) ≡ verdict x)
+pub complete : (c : Case) → Sound c → Within c → (x : State) → Ended c x → Complete (c .graph) (answer (c .graph) x) (verdict x)
 unfolding answer verdict ended-lasso
-passes c ok w x e = complete-at c ok w x (known c ok x e) (x .broken) refl (unfold has-ended ended-lasso in (or-cases (is-some (x .broken)) (x .ended-empty) (e .ended)))
+complete c ok w x e = complete-at c ok w x (known c ok x e) (x .broken) refl (unfold has-ended ended-lasso in (or-cases (is-some (x .broken)) (x .ended-empty) (e .ended)))
+
+-- version 2 means the graph with its rest loops
+pub passes-rested : {f : Graph} {ts : List ℕ} {v : ℕ} (g : Graph) → rested g ≡ f → Complete f ts v → answer-refusal g ts ≡ 0
+unfolding answer-refusal meant
+passes-rested g e k = rw (k .version, e) (k .passes)
 
 limits-kept : (c : Case) → Sound c → Within c → Limits-kept c
-limits-kept c ok l = record { answers-fit = answers-fit c ok l; counts-fit = most-acts-small c ok l; tallies-fit = most-sent-small c ok l; passes = passes c ok l }
+limits-kept c ok l = record {
+  answers-fit = answers-fit c ok l;
+  counts-fit = most-acts-small c ok l;
+  tallies-fit = most-sent-small c ok l;
+  passes = λ g r x e. (passes-rested g r (complete c ok l x e), complete c ok l x e .says);
+  older = λ g x e. complete c ok l x e .older g;
+}
 
 pub of-cases : Of-cases
 unfolding Of-cases
@@ -110,7 +122,7 @@ pub one-stem : One-stem
 unfolding One-stem
 one-stem = fewest-one
 
-pub agree : (c d : Case) → Sound c → Sound d → Agree c d
+pub agree : (c d : Case) → Sound c → Sound d → c .graph ≡ d .graph → Agree c d
 unfolding Agree
 agree c d okc okd g x y ex ey =
     let G : Finding (c .graph) y = subst (λ (z : Graph). Finding z y) (sym g) (finding d okd y ey) in
@@ -122,14 +134,23 @@ pub same-finding : Same-finding
 unfolding Same-finding
 same-finding = agree
 
--- ACCEPTED FILES
-pub file-sound : (bs : List ℕ) → accepted bs ≡ true → Sound (case-in bs) × Within (case-in bs)
-file-sound = unfold Files-sound in files-sound
+-- ACCEPTED FILES, and the cases of their runs
+pub file-sound : (bs : List ℕ) → accepted bs ≡ true → Sound (run-case bs) × Within (run-case bs)
+file-sound bs e =
+    let s = sound-in bs e in
+    let r = rests (case-in bs) (s .0) in
+    (r .0, r .1 (s .1) (unfold case-in in refl))
+  where
+    sound-in : (bs : List ℕ) → accepted bs ≡ true → Sound (case-in bs) × Within (case-in bs)
+    sound-in = unfold Files-sound in files-sound
+
+    rests : (c : Case) → Sound c → Sound (resting c) × (Within c → c .file-edges ≡ length (c .graph .edges) → Within (resting c))
+    rests = unfold Resting-sound in resting-sound
 
 pub of-files : Of-files
 unfolding Of-files
-of-files bs e = let s = file-sound bs e in (runs-kept (case-in bs) (s .0), moments-kept (case-in bs) (s .0), limits-kept (case-in bs) (s .0) (s .1))
+of-files bs e = let s = file-sound bs e in (runs-kept (run-case bs) (s .0), moments-kept (run-case bs) (s .0), limits-kept (run-case bs) (s .0) (s .1))
 
 pub files-agree : Files-agree
 unfolding Files-agree
-files-agree bs ds e f = agree (case-in bs) (case-in ds) (file-sound bs e .0) (file-sound ds f .0)
+files-agree bs ds e f g = agree (run-case bs) (run-case ds) (file-sound bs e .0) (file-sound ds f .0) (unfold resting in (ap rested g))

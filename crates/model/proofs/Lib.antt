@@ -4,6 +4,7 @@ pub mod Bits
 pub mod Pairs
 pub mod Pigeon
 pub mod Walks
+pub mod Rests
 pub mod Steps
 pub mod Shapes
 pub mod Few

@@ -16,7 +16,7 @@ use Rattle.model.specs.Run.{Tallies, State, ended-lasso, fresh, with-que
 use Rattle.text.proofs.Tests.{Same, same?, same, other, clash}
 use Rattle.model.proofs.Tools.{some-not-none, getD-replicate-same, member-later, member-first, once-head, set-some, some-inj, snoc-in}
 use Rattle.model.proofs.Steps.{relax-cases, scan-keeps, Acts, acted-keeps}
-use Rattle.model.proofs.Shapes.{Shape, enqueue-cases, not-broken, shape-relax, shape-cell, shape-queue, shape-counted, cell-in, head-depth, fresh-shape}
+use Rattle.model.proofs.Shapes.{Shape, enqueue-cases, not-broken, shape-relax, shape-cell, shape-queue, shape-counted, cell-in, head-depth, fresh-shape, file-in, sent-in}
 use Rattle.model.proofs.Few.{waiting, relax-cells}
 use Rattle.model.proofs.Rounds.{acted-append}
 use Rattle.model.proofs.Walked.{lower-cases, takes-less, taken-at, taken-other}
@@ -44,7 +44,7 @@ module _ (c : Case) (ok : Sound c) (v d : ℕ) where
         }) (with-queues (set (x .queues) w q) x) (shape-queue c ok w u q x l e (p .0), p .1) in
         (shape-counted c ok _ (r .0), r .1);
     delivery = λ e o x n h p.
-        let r = stays-relax e o (emptied e x) (not-broken x n) (cell-in c ok x e o (p .0) h) (shape-cell c ok e none x (p .0), p .1) in
+        let r = stays-relax e o (emptied e x) (not-broken x n) (file-in c ok e (cell-in c ok x e o (p .0) h)) (shape-cell c ok e none x (p .0), p .1) in
         (shape-counted c ok _ (r .0), r .1);
   }
 
@@ -113,7 +113,7 @@ module _ (c : Case) (ok : Sound c) where
         newer = λ w. p .newer (waits-taken e o x l s v n w);
       }
 
-  late-cell : (e : ℕ) (o : Option ℕ) {t : Tallies} (x : State) → e < length (c .graph .edges) → ((k : ℕ) → o ≡ some k → Late c x e k) → Lates c x → Lates c (with-cells (set (x .cells) e o) t x)
+  late-cell : (e : ℕ) (o : Option ℕ) {t : Tallies} (x : State) → e < c .file-edges → ((k : ℕ) → o ≡ some k → Late c x e k) → Lates c x → Lates c (with-cells (set (x .cells) e o) t x)
   late-cell e o {t} x l p s = record {
     shape = shape-cell c ok e o x (s .shape);
     late = λ f k h. move f k (set-some (x .cells) e f o k (rw (s .shape .cells) l) h (λ i q. subst (λ (z : ℕ). Late c x z k) (sym i) (p k q)) (λ _ q. s .late f k q));
@@ -122,7 +122,7 @@ module _ (c : Case) (ok : Sound c) where
       move : (f k : ℕ) → Late c x f k → Late c (with-cells (set (x .cells) e o) t x) f k
       move f k p = record { du = p .du; before = p .before; fits = p .fits; newer = λ w. p .newer (unfold waiting in w) }
 
-  late-send : (v d e : ℕ) (x : State) → e < length (c .graph .edges) → edge (c .graph) e .from ≡ v → Scanned c v d x → Lates c x → Lates c (send e (d + edge-depth (c .graph) e) x)
+  late-send : (v d e : ℕ) (x : State) → e < c .file-edges → edge (c .graph) e .from ≡ v → Scanned c v d x → Lates c x → Lates c (send e (d + edge-depth (c .graph) e) x)
   late-send v d e x l i p s = late-cell e _ x l (λ k q. subst (λ (z : ℕ). Late c x e z) (some-inj _ k q) (lower-cases (Late c x e) (getD (x .cells) e none) _ offer (λ j h. s .late e j h))) s
     where
       offer : Late c x e (d + edge-depth (c .graph) e)
@@ -170,7 +170,7 @@ module _ (c : Case) (ok : Sound c) where
           halt = λ _ _ _ _ p. p;
           pass = λ _ _ _ p. p;
           own = λ e y b l i p. (late-relax e (d + edge-depth (c .graph) e) y b l (p .0), scanned-relax v d e (d + edge-depth (c .graph) e) y l (p .0 .shape) (p .1));
-          other = λ e y b l i _ p. (late-send v d e y l i (p .1) (p .0), record { dv = p .1 .dv; here = p .1 .here; deep = p .1 .deep; newer = λ m. p .1 .newer (unfold waiting in m) });
+          other = λ e y b l i n p. (late-send v d e y (sent-in c ok v e l i n) i (p .1) (p .0), record { dv = p .1 .dv; here = p .1 .here; deep = p .1 .deep; newer = λ m. p .1 .newer (unfold waiting in m) });
         }) (with-queues (set (x .queues) w q) x) (
           late-queue w v q x l e s,
           record {
@@ -182,14 +182,14 @@ module _ (c : Case) (ok : Sound c) where
         )) .0);
     delivery = λ e o x n h s.
         let l = cell-in c ok x e o (s .shape) h in
-        late-counted _ (late-relax e o (emptied e x) (not-broken x n) l (late-cell e none x l (λ k q. some-not-none none k q refl) s));
+        late-counted _ (late-relax e o (emptied e x) (not-broken x n) (file-in c ok e l) (late-cell e none x l (λ k q. some-not-none none k q refl) s));
   }
 
   lates : (xs : List ℕ) → Lates c (by-list c xs)
   unfolding by-list
   lates xs = acted-keeps c (Lates c) late-acts xs (fresh c) (record {
     shape = fresh-shape c ok;
-    late = λ e k h. some-not-none _ k h (unfold fresh in (getD-replicate-same (length (c .graph .edges)) e none));
+    late = λ e k h. some-not-none _ k h (unfold fresh in (getD-replicate-same (c .file-edges) e none));
   })
 
   -- edges before e leave its cell alone

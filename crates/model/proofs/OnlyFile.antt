@@ -5,10 +5,10 @@ use mathlib.Core.List.{List, [], _∷_, _++_}
 use mathlib.Core.Option.{Option, none, some}
 use Prim.Native.Nat.{ℕ, zero, suc, _+_, _≤_}
 use native.Mathlib.Omega.{arith}
-use lib.Dec.{ltb, eqb}
+use lib.Dec.{ltb, leb, eqb}
 use lib.ListN.{length, getD, take, drop, take-append-drop, length-drop}
 use lib.Seq.{drop-drop, take-all}
-use borrow.Author.Tests.{ltb-false, eqb-true, ne-eqb}
+use borrow.Author.Tests.{not-false, ltb-false, leb-true, eqb-true}
 use Rattle.text.specs.Lines.{Line, closed-line, lines, line-at, line-is, fields, field, equal, joined, text}
 use Rattle.text.specs.Numbers.{is-number, value, all-numbers, numbers-line, number-at, decimal}
 use Rattle.model.specs.Graph.{Edge}
@@ -161,7 +161,7 @@ first-number l n = go (fields (l .text)) (and-both (l .closed) (eqb (length (fie
     go [] e = clash false (and-both (eqb 0 5) true e .0) refl
     go (w ∷ ws) e = unfold all-numbers in (and-both (is-number w) (all-numbers ws) (and-both (eqb (suc (length ws)) 5) (is-number w && all-numbers ws) e .1) .0)
 
-version-is : (ls : List Line) → other-version ls ≡ false → numbers-line 5 (line-at ls 1) ≡ true → number-at (line-at ls 1) 0 ≡ known-version
+version-is : (ls : List Line) → other-version known-version ls ≡ false → numbers-line 5 (line-at ls 1) ≡ true → number-at (line-at ls 1) 0 ≡ known-version
 unfolding other-version number-at
 version-is ls o n = go (same? (value (field (line-at ls 1) 0)) known-version) (first-number (line-at ls 1) n) o
   where
@@ -169,9 +169,12 @@ version-is ls o n = go (same? (value (field (line-at ls 1) 0)) known-version) (f
     w = field (line-at ls 1) 0
 
     go : Same (value (field (line-at ls 1) 0)) known-version → is-number (field (line-at ls 1) 0) ≡ true
-        → (is-number (field (line-at ls 1) 0) && not (eqb (value (field (line-at ls 1) 0)) known-version)) ≡ false → value (field (line-at ls 1) 0) ≡ known-version
+        → (is-number (field (line-at ls 1) 0) && not (leb 1 (value (field (line-at ls 1) 0)) && leb (value (field (line-at ls 1) 0)) known-version)) ≡ false → value (field (line-at ls 1) 0) ≡ known-version
     go (same e) i o = e
-    go (other x) i o = clash false (sym o ∙ rw (i, ne-eqb (value (field (line-at ls 1) 0)) known-version x) refl) refl
+    go (other x) i o =
+        let v = value (field (line-at ls 1) 0) in
+        let p = and-both (leb 1 v) (leb v known-version) (not-false (leb 1 v && leb v known-version) (rw i at o)) in
+        absurd (x (omega (arith, leb-true 1 v (p .0), leb-true v known-version (p .1))))
 
 -- the lines of a text whose blocks are those
 record Whole (ls : List Line) (n m : ℕ) : Type 0 where

@@ -11,7 +11,7 @@ use lib.ListN.{length, getD}
 use lib.Seq.{ext-getD}
 use borrow.Author.Tests.{ltb-false, leb-true, eqb-true, eq-eqb}
 use Rattle.text.proofs.Tests.{and-both, both-true}
-use Rattle.model.specs.Graph.{Edge, Graph, edge, mark, table-of}
+use Rattle.model.specs.Graph.{Edge, Graph, edge, mark, leaves, table-of}
 use Rattle.model.specs.Case.{Case, owner, most-edges, most-workers, Sound, Within}
 use Rattle.model.specs.CaseFile.{accepted, case-in}
 use Rattle.model.specs.CaseText.{case-file, all-rise}
@@ -20,7 +20,7 @@ use Rattle.model.specs.ChartPromise.{Charts-sound}
 use Rattle.model.specs.Claim.{Claim, state, claim-moves, claim-in, Claim-sound}
 use Rattle.model.specs.ClaimEntry.{mark-of}
 use Rattle.model.specs.ClaimPromise.{Claims-right}
-use Rattle.model.specs.Product.{Automaton, product, chart-automaton, claim-automaton, has-edge, state-mark, graph-of, product-graph, remainder-by, product-case, graph-in, product-refusal, build-refusal}
+use Rattle.model.specs.Product.{Automaton, product, chart-automaton, claim-automaton, has-edge, goes-on, state-mark, graph-of, product-graph, remainder-by, product-case, graph-in, product-refusal, build-refusal}
 use Rattle.model.specs.ProductPromise.{Only-file, Reads-back, Joint, Edge-in, Is-product, Only-product}
 use Rattle.model.specs.Promise.{Files-sound}
 use Rattle.model.proofs.OnlyFile.{only-file, accepted-rise}
@@ -30,15 +30,15 @@ use Rattle.model.proofs.Rising.{In, in-at, at-in, rising-same}
 use Rattle.model.proofs.Pairs.{pair-first, pair-second, pair-below, Pair, pair}
 use Rattle.model.proofs.ClaimWhole.{claims-right}
 use Rattle.model.proofs.ChartSound.{charts-sound}
-use Rattle.model.proofs.Automata.{edge-by, by-edge, Move, edge-listed, listed-edge, edges-rise}
+use Rattle.model.proofs.Automata.{edge-by, by-edge, Move, edge-listed, listed-edge, goes-on-leaves, edges-rise}
 use Rattle.model.proofs.Tools.{table-length, table-at}
 
 -- a case is what it has
-abbrev case-of : (vertices source workers : ℕ) → (marks owners : List ℕ) → (edges : List Edge) → Case
-case-of n s p ms os es = record { graph = record { vertices = n; source = s; accepting = ms; edges = es }; workers = p; owners = os }
+abbrev case-of : (vertices source file-edges workers : ℕ) → (marks owners : List ℕ) → (edges : List Edge) → Case
+case-of n s l p ms os es = record { graph = record { vertices = n; source = s; accepting = ms; edges = es }; file-edges = l; workers = p; owners = os }
 
-same-case : {n m s t p q : ℕ} {ms ns os ps : List ℕ} {es fs : List Edge} → n ≡ m → s ≡ t → p ≡ q → ms ≡ ns → os ≡ ps → es ≡ fs → case-of n s p ms os es ≡ case-of m t q ns ps fs
-same-case a b c d e f = rw (a, b, c, d, e, f) refl
+same-case : {n m s t l k p q : ℕ} {ms ns os ps : List ℕ} {es fs : List Edge} → n ≡ m → s ≡ t → l ≡ k → p ≡ q → ms ≡ ns → os ≡ ps → es ≡ fs → case-of n s l p ms os es ≡ case-of m t k q ns ps fs
+same-case a b l c d e f = rw (a, b, l, c, d, e, f) refl
 
 -- AN EDGE of a graph is a member of its edges
 in-edges : (e : Edge) (g : Graph) → Edge-in e g → In e (g .edges)
@@ -81,9 +81,16 @@ module _ (h : Chart) (k : Claim) where
   unfolding product chart-automaton claim-automaton
   accepts-right q s hs = rw (pair-second size q s hs) refl
 
-  marks-right : (q s : ℕ) → q < h .modes → s < size → mark (product-graph h k) (vertex q s) ≡ mark-of (state k s .accepting)
+  -- a vertex goes on exactly if an edge leaves it
+  pub goes-on-right : (v : ℕ) → v < h .modes * size → goes-on both v ≡ leaves (product-graph h k .edges) v
   unfolding graph-of product chart-automaton claim-automaton
-  marks-right q s hq hs = table-at (state-mark both) (h .modes * size) 0 (vertex q s) (pair-below size q s (h .modes) hs hq) ∙ rw (zero-add (vertex q s)) (ap mark-of (accepts-right q s hs))
+  goes-on-right v l = goes-on-leaves both v l
+
+  marks-right : (q s : ℕ) → q < h .modes → s < size → mark (product-graph h k) (vertex q s) ≡ mark-of (state k s .accepting && leaves (product-graph h k .edges) (vertex q s))
+  unfolding graph-of product chart-automaton claim-automaton
+  marks-right q s hq hs =
+      let l = pair-below size q s (h .modes) hs hq in
+      table-at (state-mark both) (h .modes * size) 0 (vertex q s) l ∙ rw (zero-add (vertex q s), accepts-right q s hs, goes-on-right (vertex q s) l) refl
 
   edge-move : (q s r t : ℕ) → q < h .modes → s < size → r < h .modes → t < size → Joint h k q s r t → In (record { from = vertex q s; to = vertex r t }) (product-graph h k .edges)
   unfolding graph-of product chart-automaton claim-automaton
@@ -114,16 +121,6 @@ module _ (h : Chart) (k : Claim) where
   module _ (p : ℕ) (c : Case) (ok : Sound c) (r : all-rise none (c .graph .edges) ≡ true) (is : Is-product h k p c) where
     apart : (v : ℕ) → v < c .graph .vertices → Pair (h .modes) size v
     apart v l = pair (h .modes) size v (rw (is .vertices) at l)
-
-    same-marks : c .graph .accepting ≡ product-graph h k .accepting
-    unfolding graph-of product chart-automaton claim-automaton
-    same-marks = ext-getD 0 (c .graph .accepting) (table-of (state-mark both) (h .modes * size) 0) (ok .marks ∙ is .vertices ∙ sym (table-length (state-mark both) (h .modes * size) 0)) each
-      where
-        each : (v : ℕ) → v < length (c .graph .accepting) → getD (c .graph .accepting) v 0 ≡ getD (table-of (state-mark both) (h .modes * size) 0) v 0
-        each v l =
-            let d = apart v (rw (ok .marks) at l) in
-            ap (λ (x : ℕ). mark (c .graph) x) (sym (d .whole)) ∙ is .marks (v / size) (v % size) (d .first) (d .second)
-            ∙ sym (marks-right (v / size) (v % size) (d .first) (d .second)) ∙ ap (λ (x : ℕ). mark (product-graph h k) x) (d .whole)
 
     same-owners : c .owners ≡ table-of (remainder-by p) (h .modes * size) 0
     unfolding owner
@@ -159,15 +156,26 @@ module _ (h : Chart) (k : Claim) where
             subst (λ (d : Edge). In d (c .graph .edges)) (whole e a b)
             (in-edges _ _ (is .edges (e .from / size) (e .from % size) (e .to / size) (e .to % size) (a .first) (a .second) (b .first) (b .second) .1 j))
 
-    pub only-case : c ≡ product-case h k p
+    same-marks : c .graph .accepting ≡ product-graph h k .accepting
+    unfolding graph-of product chart-automaton claim-automaton
+    same-marks = ext-getD 0 (c .graph .accepting) (table-of (state-mark both) (h .modes * size) 0) (ok .marks ∙ is .vertices ∙ sym (table-length (state-mark both) (h .modes * size) 0)) each
+      where
+        each : (v : ℕ) → v < length (c .graph .accepting) → getD (c .graph .accepting) v 0 ≡ getD (table-of (state-mark both) (h .modes * size) 0) v 0
+        each v l =
+            let d = apart v (rw (ok .marks) at l) in
+            ap (λ (x : ℕ). mark (c .graph) x) (sym (d .whole)) ∙ is .marks (v / size) (v % size) (d .first) (d .second)
+            ∙ ap (λ (es : List Edge). mark-of (state k (v % size) .accepting && leaves es (vertex (v / size) (v % size)))) same-edges
+            ∙ sym (marks-right (v / size) (v % size) (d .first) (d .second)) ∙ ap (λ (x : ℕ). mark (product-graph h k) x) (d .whole)
+
+    pub only-case : c .file-edges ≡ length (c .graph .edges) → c ≡ product-case h k p
     unfolding product-case graph-of product chart-automaton claim-automaton
-    only-case = same-case (is .vertices) (is .source) (is .workers) same-marks same-owners same-edges
+    only-case f = same-case (is .vertices) (is .source) (f ∙ ap length same-edges) (is .workers) same-marks same-owners same-edges
 
 pub only-product : Only-product
 unfolding Only-product Only-file Files-sound
 only-product h k p bs e is =
     let s = files-sound bs e in
-    sym (only-file bs e) ∙ ap case-file (only-case h k p (case-in bs) (s .0) (accepted-rise bs e) is)
+    sym (only-file bs e) ∙ ap case-file (only-case h k p (case-in bs) (s .0) (accepted-rise bs e) is (unfold case-in in refl))
 
 -- SOUND and within the limits, where nothing refuses: so its text is read back as it
 pub record Right (h : Chart) (k : Claim) (p : ℕ) : Type 0 where
@@ -188,15 +196,17 @@ module _ (h : Chart) (k : Claim) (p : ℕ) (hs : Chart-sound h) (ks : Claim-soun
         source = pair-below (length (k .states)) (h .start) (k .start) (h .modes) (ks .start) (hs .start);
         marks = table-length (state-mark (both h k)) n 0;
         owned = table-length (remainder-by p) n 0;
-        mark = λ v l. rw (table-at (state-mark (both h k)) n 0 v l) (one-bit (both h k .accepts (0 + v)));
+        mark = λ v l. rw (table-at (state-mark (both h k)) n 0 v l) (one-bit (both h k .accepts (0 + v) && goes-on (both h k) (0 + v)));
         owner = λ v l. rw (table-at (remainder-by p) n 0 v l) (mod-lt (0 + v) some);
         from = λ i l. move-edge h k _ (in-at (product-graph h k .edges) i l) .from;
         to = λ i l. move-edge h k _ (in-at (product-graph h k .edges) i l) .to;
+        file = omega arith;
+        loops = λ i l b. absurd (omega arith);
       }
 
   product-within : p ≤ most-workers → length (product-graph h k .edges) ≤ most-edges → Within (product-case h k p)
   unfolding product-case graph-of product chart-automaton claim-automaton
-  product-within l m = record { vertices = omega (arith, mul-le-mul (hs .modes) (ks .states)); edges = m; workers = l }
+  product-within l m = record { vertices = omega (arith, mul-le-mul (hs .modes) (ks .states)); file = m; edges = omega arith; workers = l }
 
   product-rises : all-rise none (product-case h k p .graph .edges) ≡ true
   unfolding product-case graph-of
@@ -206,7 +216,7 @@ module _ (h : Chart) (k : Claim) (p : ℕ) (hs : Chart-sound h) (ks : Claim-soun
   unfolding Reads-back product-case
   right l m =
       let w = product-within l m in
-      let b = reads-back (product-case h k p) product-sound w product-rises in
+      let b = reads-back (product-case h k p) product-sound w refl product-rises in
       record { product = is-product h k p; accepted = b .0; back = b .1 }
 
 -- NO REFUSAL, of chart and claim, and of the workers

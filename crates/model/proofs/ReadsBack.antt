@@ -23,7 +23,7 @@ use Rattle.text.proofs.Unique.{joined-fields}
 use Rattle.text.proofs.Rows.{Plain, All-plain, plain-append, row-lines, rows-append, lines-text, field-row, All-below, decimals, decimals-plain, row-numbers, row-number, row-short}
 use Rattle.model.proofs.Accepting.{zero-first, first-none, zero-refuse, not-refuse}
 use Rattle.model.proofs.Fits.{text-length}
-use Rattle.model.proofs.CheckerComplete.{free-of, is-plain, plain-by, version-one, length-lines}
+use Rattle.model.proofs.CheckerComplete.{free-of, is-plain, plain-by, version-known, length-lines}
 
 -- VERTEX LINES, with what follows them
 record Marked (v p : ℕ) (ms os : List ℕ) : Type 0 where
@@ -208,7 +208,7 @@ module _ (bs : List ℕ) (h : Line) (vs es : List Line) (n m s p : ℕ) (r : Rea
       rw (r .lined, second, third, r .vertices, r .edges, r .source, r .workers, names-at h vs es n (r .many), edges-after h vs es n (r .many))
       (zero-first _ _ (zero-refuse _ 1 (le-ltb longest-file (length bs) (g .short)))
       (zero-first _ _ (not-refuse _ 2 (g .begun))
-      (zero-first _ _ (zero-refuse _ 3 (version-one (blocks h vs es) (ap (λ (l : Line). field l 0) second ∙ r .version)))
+      (zero-first _ _ (zero-refuse _ 3 (version-known known-version known-version (blocks h vs es) (ap (λ (l : Line). field l 0) second ∙ r .version) (omega arith) (omega arith) (omega arith)))
       (zero-first _ _ (not-refuse _ 4 (both-true _ _ first (r .numbers)))
       (zero-first _ _ (not-refuse _ 5 counts)
       (zero-first _ _ (not-refuse _ 4 (names-line vertex-names))
@@ -233,7 +233,7 @@ module _ (bs : List ℕ) (h : Line) (vs es : List Line) (n m s p : ℕ) (r : Rea
       whole = omega (arith, length-append vs (closed-line edge-names ∷ es), r .many, g .last)
 
   read-case : length es ≡ m
-      → case-in bs ≡ record { graph = record { vertices = n; source = s; accepting = column 1 vs; edges = edges-in es }; workers = p; owners = column 2 vs }
+      → case-in bs ≡ record { graph = record { vertices = n; source = s; accepting = column 1 vs; edges = edges-in es }; file-edges = length (edges-in es); workers = p; owners = column 2 vs }
   unfolding case-in
   read-case e = rw (r .lined, second, r .vertices, r .edges, r .source, r .workers, edges-after h vs es n (r .many), vertices-first h vs es n (r .many), take-all m es (omega arith)) refl
     where
@@ -327,15 +327,15 @@ module _ (c : Case) (ok : Sound c) (l : Within c) where
   edge-lines-many : length (edge-lines c) ≡ length (c .graph .edges)
   edge-lines-many = length-lines (end-rows (c .graph .edges)) ∙ ends-many (c .graph .edges)
 
-  case-good : all-rise none (c .graph .edges) ≡ true
+  case-good : c .file-edges ≡ length (c .graph .edges) → all-rise none (c .graph .edges) ≡ true
       → Good (case-file c) (vertex-lines c) (edge-lines c) (c .graph .vertices) (length (c .graph .edges)) (c .graph .source) (c .workers)
-  case-good r =
+  case-good f r =
       record {
-        short = omega (arith, case-short, l .vertices, l .edges);
+        short = omega (arith, case-short, l .vertices, l .file, f);
         begun = unfold begins case-file text joined fields put-first equal in refl;
         some = omega (arith, ok .source);
         vertices = l .vertices;
-        edges = l .edges;
+        edges = omega (arith, l .file, f);
         source = ok .source;
         owned = omega (arith, ok .owner (c .graph .source) (ok .source));
         workers = l .workers;
@@ -346,10 +346,10 @@ module _ (c : Case) (ok : Sound c) (l : Within c) where
 
 pub reads-back : Reads-back
 unfolding Reads-back accepted
-reads-back c ok l r =
+reads-back c ok l f r =
     let x = case-read c ok l in
     let n = c .graph .vertices in
     let back = read-case (case-file c) _ _ _ _ _ _ _ x (edge-lines-many c ok l) in (
-      eq-eqb (case-refusal (case-file c)) 0 (read-accepted (case-file c) _ _ _ _ _ _ _ x (case-good c ok l r)),
-      back ∙ rw (marks-back 0 (c .workers) (c .graph .accepting) (c .owners) (marked c ok l), owners-back 0 (c .workers) (c .graph .accepting) (c .owners) (marked c ok l), ends-back n (omega (arith, l .vertices)) (c .graph .edges) (ends c ok l)) refl,
+      eq-eqb (case-refusal (case-file c)) 0 (read-accepted (case-file c) _ _ _ _ _ _ _ x (case-good c ok l f r)),
+      back ∙ rw (marks-back 0 (c .workers) (c .graph .accepting) (c .owners) (marked c ok l), owners-back 0 (c .workers) (c .graph .accepting) (c .owners) (marked c ok l), ends-back n (omega (arith, l .vertices)) (c .graph .edges) (ends c ok l), ← f) refl,
     )

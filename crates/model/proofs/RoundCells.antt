@@ -14,7 +14,7 @@ use Rattle.model.specs.Run.{Tallies, State, is-some, has-ended, fresh, w
 use Rattle.text.proofs.Tests.{Same, same?, same, other, clash}
 use Rattle.model.proofs.Tools.{some-not-none, set-some, no-cell, no-cells, getD-replicate-same, member-first}
 use Rattle.model.proofs.Steps.{Scans, scan-keeps, act-cases}
-use Rattle.model.proofs.Shapes.{Shape, not-broken, shape-relax, shape-cell, shape-queue, shape-counted, cell-in, fresh-shape}
+use Rattle.model.proofs.Shapes.{Shape, not-broken, shape-relax, shape-cell, shape-queue, shape-counted, cell-in, fresh-shape, file-in, sent-in}
 use Rattle.model.proofs.Few.{relax-cells, relax-tallies}
 
 -- INVARIANT before act a of a round: a message stands on an edge of a vertex that was scanned in it, and was not
@@ -43,12 +43,12 @@ module _ (c : Case) (ok : Sound c) (j : ℕ) where
           joins = ap (λ (t : Tallies). t .joined) (relax-tallies c e o x) ∙ p .joins;
           cells = λ f k h. n .cells f k (sym (ap (λ (os : List (Option ℕ)). getD os f none) (relax-cells c e o x)) ∙ h);
         };
-    other = λ e x _ l i _ p.
+    other = λ e x _ l i o p.
         let n = next e x p in
         record {
           shape = shape-cell c ok e _ x (p .shape);
           joins = fresh-cell e x i p;
-          cells = λ f k h. set-some (x .cells) e f _ k (rw (p .shape .cells) l) h (λ q _. inr (rw q i, omega arith)) (λ _ g. n .cells f k g);
+          cells = λ f k h. set-some (x .cells) e f _ k (rw (p .shape .cells) (sent-in c ok v e l i o)) h (λ q _. inr (rw q i, omega arith)) (λ _ g. n .cells f k g);
         };
   }
     where
@@ -102,7 +102,7 @@ module _ (c : Case) (ok : Sound c) (j : ℕ) where
 
       deliver : (d : ℕ) → has-ended x ≡ false → c .workers ≤ a → getD (x .cells) (a - c .workers) none ≡ some d → Before c j (suc a) (counted (relax c (a - c .workers) d (emptied (a - c .workers) x)))
       deliver d o l h = record {
-        shape = shape-counted c ok _ (shape-relax c ok e d (emptied e x) (not-broken x o) below (shape-cell c ok e none x (p .shape)));
+        shape = shape-counted c ok _ (shape-relax c ok e d (emptied e x) (not-broken x o) (file-in c ok e below) (shape-cell c ok e none x (p .shape)));
         joins = ap (λ (t : Tallies). t .joined) (relax-tallies c e d (emptied e x)) ∙ p .joins;
         cells = λ _ f k g. set-some (x .cells) e f none k (rw (p .shape .cells) below) (sym (ap (λ (os : List (Option ℕ)). getD os f none) (relax-cells c e d (emptied e x))) ∙ g) (λ _ z. some-not-none none k z refl)
             (λ n z. let r = p .cells o f k z in (omega (arith, r .0), omega (arith, r .1, n)));
@@ -111,7 +111,7 @@ module _ (c : Case) (ok : Sound c) (j : ℕ) where
           e : ℕ
           e = a - c .workers
 
-          below : e < length (c .graph .edges)
+          below : e < c .file-edges
           below = cell-in c ok x e d (p .shape) h
 
   steps : (k a : ℕ) (x : State) → Before c j a x → Before c j (a + k) (acted c (range k a) x)
@@ -131,10 +131,10 @@ module _ (c : Case) (ok : Sound c) (j : ℕ) where
   round-keeps x p = record { shape = s .shape; joins = s .joins; empty = λ o. no-cells _ (λ e. none-there e o _ refl) }
     where
       y : State
-      y = acted c (range (c .workers + length (c .graph .edges)) 0) x
+      y = acted c (range (c .workers + c .file-edges) 0) x
 
-      s : Before c j (0 + (c .workers + length (c .graph .edges))) y
-      s = steps c ok j (c .workers + length (c .graph .edges)) 0 x
+      s : Before c j (0 + (c .workers + c .file-edges)) y
+      s = steps c ok j (c .workers + c .file-edges) 0 x
           (record { shape = p .shape; joins = p .joins; cells = λ o e d h. some-not-none (getD (x .cells) e none) d h (no-cell (x .cells) (p .empty o) e) })
 
       none-there : (e : ℕ) → has-ended y ≡ false → (o : Option ℕ) → getD (y .cells) e none ≡ o → getD (y .cells) e none ≡ none
@@ -158,5 +158,5 @@ rounds-join-none c ok = rounds-keep c ok 0 (most-acts c) (fresh c) fresh-between
     fresh-between = record {
       shape = fresh-shape c ok;
       joins = unfold fresh in refl;
-      empty = λ _. no-cells (fresh c .cells) (λ e. unfold fresh in (getD-replicate-same (length (c .graph .edges)) e none));
+      empty = λ _. no-cells (fresh c .cells) (λ e. unfold fresh in (getD-replicate-same (c .file-edges) e none));
     }

@@ -8,7 +8,7 @@ use Prim.Native.Nat.{ℕ, zero, suc, _+_, _-_, _≤_, _<_}
 use native.Mathlib.Omega.{arith}
 use lib.Dec.{eqb}
 use borrow.Author.Tests.{lt-ltb, le-ltb, eq-eqb, ne-eqb}
-use lib.ListN.{length, getD, set}
+use lib.ListN.{getD, set}
 use Rattle.model.specs.Graph.{edge-depth}
 use Rattle.model.specs.Case.{Case, most-acts, Sound}
 use Rattle.model.specs.Run.{State, is-some, ended-lasso, has-ended, fresh, with-queues, emptied, member, relax, scan, counted, depth-or, turn-of, turn, delivery-of, delivery, act, acted, range, round-acts, rounds}
@@ -130,21 +130,21 @@ module _ (c : Case) (ok : Sound c) where
           let y : act c (c .workers + e) x .count ≡ x .count = ap (λ (y : State). y .count) i in
           omega (arith, act-delivery c e d x o h)
 
-      idle : x .count ≡ acted c (round-acts c) x .count → (a : ℕ) → a < c .workers + length (c .graph .edges) → act c a x ≡ x
-      idle e a l = all-idle c (round-acts c) x (sym e) a (unfold round-acts in (in-numbers (c .workers + length (c .graph .edges)) 0 a (omega arith) (omega arith)))
+      idle : x .count ≡ acted c (round-acts c) x .count → (a : ℕ) → a < c .workers + c .file-edges → act c a x ≡ x
+      idle e a l = all-idle c (round-acts c) x (sym e) a (unfold round-acts in (in-numbers (c .workers + c .file-edges) 0 a (omega arith) (omega arith)))
 
-      queues : ((a : ℕ) → a < c .workers + length (c .graph .edges) → act c a x ≡ x) → (w : ℕ) (q : List ℕ) → getD (x .queues) w [] ≡ q → getD (x .queues) w [] ≡ []
+      queues : ((a : ℕ) → a < c .workers + c .file-edges → act c a x ≡ x) → (w : ℕ) (q : List ℕ) → getD (x .queues) w [] ≡ q → getD (x .queues) w [] ≡ []
       queues f w [] e = e
       queues f w (v ∷ q) e =
           let m : member v (getD (x .queues) w []) ≡ true = rw e (member-first v q) in
           let l : w < c .workers = rw (p .shape .owned v w m) at (ok .owner v (p .shape .below v w m)) in
           absurd (idle-turn w v q l e (f w (omega arith)))
 
-      cells : ((a : ℕ) → a < c .workers + length (c .graph .edges) → act c a x ≡ x) → (e : ℕ) (o : Option ℕ) → getD (x .cells) e none ≡ o → getD (x .cells) e none ≡ none
+      cells : ((a : ℕ) → a < c .workers + c .file-edges → act c a x ≡ x) → (e : ℕ) (o : Option ℕ) → getD (x .cells) e none ≡ o → getD (x .cells) e none ≡ none
       cells f e none h = h
       cells f e (some d) h = absurd (idle-delivery e d h (f (c .workers + e) (omega (arith, cell-in c ok x e d (p .shape) h))))
 
-      ended : ((a : ℕ) → a < c .workers + length (c .graph .edges) → act c a x ≡ x) → x .ended-empty ≡ true
+      ended : ((a : ℕ) → a < c .workers + c .file-edges → act c a x ≡ x) → x .ended-empty ≡ true
       ended f = rw (p .told, not-broken x o, no-queues (x .queues) (λ w. queues f w (getD (x .queues) w []) refl), no-cells (x .cells) (λ e. cells f e (getD (x .cells) e none) refl)) (unfold is-some in refl)
 
       go : Same (x .count) (acted c (round-acts c) x .count) → x .count < acted c (round-acts c) x .count

@@ -16,7 +16,7 @@ use Rattle.text.proofs.Tests.{Same, same?, and-both, clash, same, other}
 use Rattle.model.proofs.Tools.{some-not-none, member-first, no-queue, no-cell, member-end, member-before, some-inj, member-rest}
 use Rattle.model.proofs.Walks.{Relaxed}
 use Rattle.model.proofs.Steps.{relax-cases, scan-keeps, Acts, acted-keeps}
-use Rattle.model.proofs.Shapes.{Shape, enqueue-cases, not-broken, shape-relax, shape-cell, shape-queue, cell-in, head-depth, fresh-depth, source-queued}
+use Rattle.model.proofs.Shapes.{Shape, enqueue-cases, not-broken, shape-relax, shape-cell, shape-queue, cell-in, head-depth, fresh-depth, source-queued, sent-in, file-in}
 use Rattle.model.proofs.Few.{waiting, Paid}
 use Rattle.model.proofs.Walked.{lower-offer, lower-old, takes-not, to-owned, taken-at, taken-other, taken-deeper, Walked, walked-relax, walked-cell, walked-queue, walked-counted, walked-scan, walked-fresh, walked}
 
@@ -97,7 +97,7 @@ module _ (c : Case) (ok : Sound c) where
       go f du (inl p) (other n) = inl (move f du n p)
       go f du (inr p) (other n) = inr (g f du n p)
 
-  settle-send : (e d v : ℕ) (x : State) → e < length (c .graph .edges) → edge (c .graph) e .from ≡ v → Shape c x → All-but (Owed c v d e) c x → All-but (Owed c v d (suc e)) c (send e (d + edge-depth (c .graph) e) x)
+  settle-send : (e d v : ℕ) (x : State) → e < c .file-edges → edge (c .graph) e .from ≡ v → Shape c x → All-but (Owed c v d e) c x → All-but (Owed c v d (suc e)) c (send e (d + edge-depth (c .graph) e) x)
   settle-send e d v x l i s a = settle-cell (Owed c v d e) (Owed c v d (suc e)) e (some k) x a (λ f du n p. (p .0, p .1, omega (arith, n, p .2))) settled
     where
       k : ℕ
@@ -132,7 +132,7 @@ module _ (c : Case) (ok : Sound c) where
     halt = λ e y b h p. (p .0, λ n. some-not-none (y .broken) b h n);
     pass = λ e y m p. (p .0, λ n f du i q. pass e f du m (p .1 n f du i q));
     own = λ e y b l i p. (shape-relax c ok e (d + edge-depth (c .graph) e) y b l (p .0), settle-relax (Owed c v d e) (Owed c v d (suc e)) e (d + edge-depth (c .graph) e) y b l (p .0) (p .1) (λ f du _ q. owed e f du q (same? f e)));
-    other = λ e y b l i _ p. (shape-cell c ok e _ y (p .0), settle-send e d v y l i (p .0) (p .1));
+    other = λ e y b l i n p. (shape-cell c ok e _ y (p .0), settle-send e d v y (sent-in c ok v e l i n) i (p .0) (p .1));
   }) x (s, a)) .1 n f du i p)
     where
       pass : (e f du : ℕ) {y : State} → (edge (c .graph) e .from ≡ v → ⊥) → Settled c y f du ⊎ Owed c v d e f du → Settled c y f du ⊎ Owed c v d (suc e) f du
@@ -152,7 +152,7 @@ module _ (c : Case) (ok : Sound c) where
       end f du i (inr (p, q, r)) = absurd (omega arith)
 
   settle-delivery : (e d : ℕ) (x : State) → x .broken ≡ none → getD (x .cells) e none ≡ some d → Shape c x → All-but (λ _ _. ⊥) c x → All-but (λ _ _. ⊥) c (relax c e d (emptied e x))
-  settle-delivery e d x b h s a = settle-relax (λ f du. (f ≡ e) × (du + edge-depth (c .graph) e ≤ d)) (λ _ _. ⊥) e d (emptied e x) b (cell-in c ok x e d s h) (shape-cell c ok e none x s)
+  settle-delivery e d x b h s a = settle-relax (λ f du. (f ≡ e) × (du + edge-depth (c .graph) e ≤ d)) (λ _ _. ⊥) e d (emptied e x) b (file-in c ok e (cell-in c ok x e d s h)) (shape-cell c ok e none x s)
       (settle-cell (λ _ _. ⊥) (λ f du. (f ≡ e) × (du + edge-depth (c .graph) e ≤ d)) e none x a (λ f du n z. absurd z) go) (λ f du i p. inl p)
     where
       go : (du : ℕ) → Settled c x e du ⊎ ⊥ → Settled c (emptied e x) e du ⊎ ((e ≡ e) × (du + edge-depth (c .graph) e ≤ d))
@@ -182,7 +182,7 @@ module _ (c : Case) (ok : Sound c) where
         let s = t .walked .shape in
         let l = cell-in c ok x e d s h in
         let b = not-broken x o in
-        tale-counted _ (walked-relax c ok e d (emptied e x) b l (t .walked .cells e d h) (walked-cell c ok e none x l (λ k q. some-not-none none k q refl) (t .walked)))
+        tale-counted _ (walked-relax c ok e d (emptied e x) b (file-in c ok e l) (t .walked .cells e d h) (walked-cell c ok e none x l (λ k q. some-not-none none k q refl) (t .walked)))
         (settle-delivery e d x b h s (t .settled));
   }
 

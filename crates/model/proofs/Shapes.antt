@@ -1,6 +1,6 @@
 -- The shape of a run, kept by every act: lengths, what stands in a queue, and no distance below the floor before it
 -- is broken.
-use mathlib.Core.Path.{_≡_, refl, sym, subst, _∙_}
+use mathlib.Core.Path.{_≡_, refl, sym, ap, subst, _∙_}
 use mathlib.Core.Bool.{Bool, true, false, cond}
 use mathlib.Core.List.{List, [], _∷_, _++_}
 use mathlib.Core.Option.{Option, none, some}
@@ -22,7 +22,7 @@ pub record Shape (c : Case) (x : State) : Type 0 where
   pub depths : length (x .depths) ≡ c .graph .vertices
   pub parents : length (x .parents) ≡ c .graph .vertices
   pub queues : length (x .queues) ≡ c .workers
-  pub cells : length (x .cells) ≡ length (c .graph .edges)
+  pub cells : length (x .cells) ≡ c .file-edges
   pub below : (v w : ℕ) → member v (getD (x .queues) w []) ≡ true → v < c .graph .vertices
   pub owned : (v w : ℕ) → member v (getD (x .queues) w []) ≡ true → owner c v ≡ w
   pub deep : (v w : ℕ) → member v (getD (x .queues) w []) ≡ true → is-some (getD (x .depths) v none) ≡ true
@@ -139,12 +139,23 @@ module _ (c : Case) (ok : Sound c) where
     above = s .above;
   }
 
-  pub cell-in : (x : State) (e d : ℕ) → Shape c x → getD (x .cells) e none ≡ some d → e < length (c .graph .edges)
+  -- a message stands on a file edge, and so does one that is sent: a loop stays with one owner
+  pub cell-in : (x : State) (e d : ℕ) → Shape c x → getD (x .cells) e none ≡ some d → e < c .file-edges
   cell-in x e d s h = go (test (ltb e (length (x .cells))))
     where
-      go : Test (ltb e (length (x .cells))) → e < length (c .graph .edges)
+      go : Test (ltb e (length (x .cells))) → e < c .file-edges
       go (holds t) = rw (s .cells) at (ltb-true e (length (x .cells)) t)
       go (fails t) = some-not-none (getD (x .cells) e none) d h (List·getD-eq-default (x .cells) none (omega (arith, ltb-false)))
+
+  pub file-in : (e : ℕ) → e < c .file-edges → e < length (c .graph .edges)
+  file-in e l = omega (arith, ok .file)
+
+  pub sent-in : (v e : ℕ) → e < length (c .graph .edges) → edge (c .graph) e .from ≡ v → (owner c (edge (c .graph) e .to) ≡ owner c v → ⊥) → e < c .file-edges
+  sent-in v e l i n = go (test (ltb e (c .file-edges)))
+    where
+      go : Test (ltb e (c .file-edges)) → e < c .file-edges
+      go (holds t) = ltb-true e (c .file-edges) t
+      go (fails t) = absurd (n (ap (owner c) (ok .loops e (ltb-false e (c .file-edges) t) l ∙ i)))
 
   -- the depth that a scan reads
   pub head-depth : (w v : ℕ) (q : List ℕ) (x : State) → Shape c x → getD (x .queues) w [] ≡ v ∷ q → getD (x .depths) v none ≡ some (depth-or (getD (x .depths) v none))

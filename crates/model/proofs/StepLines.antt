@@ -3,33 +3,35 @@ use mathlib.Core.Path.{_≡_, refl, sym, ap, _∙_}
 use mathlib.Core.Bool.{Bool, true, false, _&&_, cond}
 use mathlib.Core.List.{List, [], _∷_, _++_}
 use mathlib.Core.Option.{Option, none, some}
-use Prim.Native.Nat.{ℕ, zero, suc, _+_, _*_, _/_, _%_, _≤_}
+use Prim.Native.Nat.{ℕ, zero, suc, _+_, _*_, _/_, _%_, _≤_, _<_}
 use native.Mathlib.Omega.{arith}
-use lib.Dec.{leb}
+use lib.Dec.{ltb, leb, eqb}
 use lib.Seq.{take-add}
-use lib.ListN.{length, take, drop, length-append}
-use borrow.Author.Tests.{ltb-false, leb-true, eqb-true}
+use lib.ListN.{length, getD, take, drop, length-append, List·getD-eq-default}
+use borrow.Author.Tests.{ltb-true, ltb-false, leb-true, eqb-true}
 use Rattle.text.specs.Ascii.{space}
 use Rattle.text.specs.Lines.{Line, lines, line-at, joined, text}
 use Rattle.text.specs.Numbers.{number-at}
-use Rattle.text.proofs.Tests.{and-both}
+use Rattle.text.proofs.Tests.{Test, test, holds, fails, and-both}
 use Rattle.text.proofs.Decimals.{decimal-most}
-use Rattle.model.specs.Graph.{Graph, edge, is-walk}
-use Rattle.model.specs.Case.{most-listed}
+use Rattle.model.specs.Graph.{Edge, Graph, edge, rested, is-walk}
+use Rattle.model.specs.Case.{most-listed, answer-version}
 use Rattle.model.specs.CaseFile.{first-of, accepted, column, case-refusal}
 use Rattle.model.specs.CaseText.{case-file}
 use Rattle.model.specs.Answer.{lasso-verdict, empty-verdict}
-use Rattle.model.specs.Passing.{listed-edges-refusal, says-lasso, counts-suit, counts-fit, stem-in, cycle-in, lasso-refusal, empty-refusal, answer-refusal, check-refusal, answer-verdict}
+use Rattle.model.specs.Passing.{listed-edges-refusal, says-lasso, counts-suit, counts-fit, stem-in, cycle-in, lasso-refusal, empty-refusal, refusal-against, meant, answer-refusal, check-refusal, answer-verdict}
 use Rattle.model.specs.ClaimGrammar.{longest-title}
 use Rattle.model.specs.Claim.{Claim, state, claim-in, Claim-sound}
 use Rattle.model.specs.Chart.{Chart, longest-name, mode-name, chart-in, Chart-sound}
 use Rattle.model.specs.Product.{product-graph, product-case, graph-in, built-case}
 use Rattle.model.specs.Steps.{shown, step-row, step-rows, walk-in, steps-text, steps-refusal}
 use Rattle.model.specs.ProductPromise.{Steps-check, Steps-fit}
+use Rattle.model.proofs.Tools.{getD-inside}
 use Rattle.model.proofs.Walks.{walk-append, lasso-parts}
 use Rattle.model.proofs.Accepting.{first-zero, first-one, refuse-zero, refuse-not}
 use Rattle.model.proofs.Fits.{text-length}
 use Rattle.model.proofs.Products.{right, unrefused}
+use Rattle.model.proofs.Rests.{loops-of, rested-edge, walk-kept}
 
 -- AS THE CHECKER DOES: an accepted case leaves the answer's refusal
 pub steps-check : Steps-check
@@ -56,7 +58,7 @@ rows-short : (h : Chart) (k : Claim) → Chart-sound h → Claim-sound k → (es
 unfolding step-rows
 rows-short h k hs ks [] = unfold text in (omega arith)
 rows-short h k hs ks (e ∷ es) =
-    let v = edge (product-graph h k) e .from in
+    let v = edge (rested (product-graph h k)) e .from in
     omega (arith, text-length (step-row h k v) (step-rows h k es), row-short h k hs ks v, rows-short h k hs ks es)
 
 column-few : (i k : ℕ) (ls : List Line) → length (column i (take k ls)) ≤ k
@@ -78,7 +80,7 @@ walk-few h ls e =
     omega (arith, length-append (column 0 (take a ls)) (column 0 (take b (drop a ls))), column-few 0 a ls, column-few 0 b (drop a ls))
 
 answer-counts : (g : Graph) (ts : List ℕ) → answer-refusal g ts ≡ 0 → counts-fit (line-at (lines ts) 1) ≡ true
-unfolding answer-refusal
+unfolding answer-refusal refusal-against
 answer-counts g ts e = refuse-not _ 11 (first-zero _ _ (first-zero _ _ (first-zero _ _ (first-zero _ _ (first-zero _ _ e .1) .1) .1) .1) .0)
 
 walk-in-few : (g : Graph) (ts : List ℕ) → answer-refusal g ts ≡ 0 → length (walk-in ts) ≤ most-listed + most-listed
@@ -122,22 +124,22 @@ walk-lines h ls =
     let b = number-at h 3 in
     sym (ap (column 0) (take-add a b ls) ∙ column-append 0 (take a ls) (take b (drop a ls)))
 
--- a lasso that passes lists as many edges as its line 2 says, up to its end
+-- a lasso that passes lists as many edges as its line 2 says, up to its end: edges of the graph that its version means
 pub record Lasso-lines (g : Graph) (ts : List ℕ) : Type 0 where
   pub many : ℕ
-  pub edges : listed-edges-refusal many (length (g .edges)) (drop 3 (lines ts)) ≡ 0
+  pub edges : listed-edges-refusal many (length (meant g ts .edges)) (drop 3 (lines ts)) ≡ 0
   pub few : length (lines ts) ≤ 3 + many
   pub walk : walk-in ts ≡ column 0 (take many (drop 3 (lines ts)))
 
 pub lasso-lines : (g : Graph) (ts : List ℕ) → answer-refusal g ts ≡ 0 → answer-verdict ts ≡ lasso-verdict → Lasso-lines g ts
-unfolding answer-refusal answer-verdict walk-in lasso-refusal
+unfolding answer-refusal refusal-against answer-verdict walk-in lasso-refusal
 lasso-lines g ts e v = go (says-lasso (line-at (lines ts) 1)) refl v (first-zero _ _ (first-zero _ _ (first-zero _ _ (first-zero _ _ (first-zero _ _ (first-zero _ _ e .1) .1) .1) .1) .1) .0)
   where
     k : ℕ
     k = number-at (line-at (lines ts) 1) 2 + number-at (line-at (lines ts) 1) 3
 
     go : (b : Bool) → says-lasso (line-at (lines ts) 1) ≡ b → cond b lasso-verdict empty-verdict ≡ lasso-verdict
-        → cond b (lasso-refusal g (line-at (lines ts) 1) (lines ts)) (empty-refusal g (line-at (lines ts) 1) (lines ts)) ≡ 0 → Lasso-lines g ts
+        → cond b (lasso-refusal (meant g ts) (line-at (lines ts) 1) (lines ts)) (empty-refusal (meant g ts) (line-at (lines ts) 1) (lines ts)) ≡ 0 → Lasso-lines g ts
     go true q v z =
         let a = first-zero _ _ (first-zero _ _ z .1) in
         record {
@@ -154,11 +156,36 @@ lasso-walks g h ls e =
     let x = lasso-parts g (stem-in h (drop 3 ls)) (cycle-in h (drop 3 ls)) (refuse-not _ 12 (first-zero _ _ (first-zero _ _ (first-zero _ _ (first-zero _ _ e .1) .1) .1) .0)) in
     walk-append g (g .source) (stem-in h (drop 3 ls)) (cycle-in h (drop 3 ls)) (x .stem) (x .cycle)
 
-pub walk-walks : (g : Graph) (ts : List ℕ) → answer-refusal g ts ≡ 0 → is-walk g (g .source) (walk-in ts) ≡ true
-unfolding answer-refusal walk-in
-walk-walks g ts e = go (says-lasso (line-at (lines ts) 1)) (first-zero _ _ (first-zero _ _ (first-zero _ _ (first-zero _ _ (first-zero _ _ (first-zero _ _ e .1) .1) .1) .1) .1) .0)
+meant-walks : (g : Graph) (ts : List ℕ) → answer-refusal g ts ≡ 0 → is-walk (meant g ts) (meant g ts .source) (walk-in ts) ≡ true
+unfolding answer-refusal refusal-against walk-in
+meant-walks g ts e = go (says-lasso (line-at (lines ts) 1)) (first-zero _ _ (first-zero _ _ (first-zero _ _ (first-zero _ _ (first-zero _ _ (first-zero _ _ e .1) .1) .1) .1) .1) .0)
   where
-    go : (b : Bool) → cond b (lasso-refusal g (line-at (lines ts) 1) (lines ts)) (empty-refusal g (line-at (lines ts) 1) (lines ts)) ≡ 0
-        → is-walk g (g .source) (cond b (stem-in (line-at (lines ts) 1) (drop 3 (lines ts)) ++ cycle-in (line-at (lines ts) 1) (drop 3 (lines ts))) []) ≡ true
-    go true z = lasso-walks g (line-at (lines ts) 1) (lines ts) z
+    go : (b : Bool) → cond b (lasso-refusal (meant g ts) (line-at (lines ts) 1) (lines ts)) (empty-refusal (meant g ts) (line-at (lines ts) 1) (lines ts)) ≡ 0
+        → is-walk (meant g ts) (meant g ts .source) (cond b (stem-in (line-at (lines ts) 1) (drop 3 (lines ts)) ++ cycle-in (line-at (lines ts) 1) (drop 3 (lines ts))) []) ≡ true
+    go true z = lasso-walks (meant g ts) (line-at (lines ts) 1) (lines ts) z
     go false z = unfold is-walk in refl
+
+-- WITH ITS REST LOOPS: whichever version an answer has, what it lists is a walk of the graph with them
+pub walk-walks : (g : Graph) (ts : List ℕ) → answer-refusal g ts ≡ 0 → is-walk (rested g) (g .source) (walk-in ts) ≡ true
+unfolding meant
+walk-walks g ts e = go (eqb (number-at (line-at (lines ts) 1) 0) answer-version) (meant-walks g ts e)
+  where
+    go : (b : Bool) → is-walk (cond b (rested g) g) (cond b (rested g) g .source) (walk-in ts) ≡ true → is-walk (rested g) (g .source) (walk-in ts) ≡ true
+    go true w = unfold rested in w
+    go false w = walk-kept g (g .source) (walk-in ts) w
+
+-- where each edge leads, by a table of the file edges' ends: past it stand loops, which stay
+pub rested-to : (g : Graph) (tos : List ℕ) → length tos ≡ length (g .edges) → ((e : ℕ) → e < length (g .edges) → getD tos e 0 ≡ edge g e .to)
+    → (e : ℕ) → e < length (rested g .edges) → getD tos e (edge (rested g) e .from) ≡ edge (rested g) e .to
+rested-to g tos long ends e b = go (test (ltb e (length (g .edges))))
+  where
+    go : Test (ltb e (length (g .edges))) → getD tos e (edge (rested g) e .from) ≡ edge (rested g) e .to
+    go (holds t) =
+        let l = ltb-true e (length (g .edges)) t in
+        getD-inside tos e (edge (rested g) e .from) 0 (omega (arith, l, long)) ∙ ends e l ∙ sym (ap (λ (d : Edge). d .to) (loops-of g .kept e l))
+    go (fails t) =
+        let l = ltb-false e (length (g .edges)) t in
+        List·getD-eq-default tos (edge (rested g) e .from) (omega (arith, l, long)) ∙ sym (loops-of g .loops e l b .loop)
+
+pub rested-below : (g : Graph) (n : ℕ) → g .vertices ≤ n → ((e : ℕ) → e < length (g .edges) → edge g e .to < n) → (e : ℕ) → e < length (rested g .edges) → edge (rested g) e .to < n
+rested-below g n few ends e b = rested-edge g (λ d. d .to < n) e b (ends e) (λ r. omega (arith, r .loop, r .below))

@@ -16,7 +16,7 @@ use Rattle.model.specs.Promise.{Balanced, Tallied}
 use Rattle.text.proofs.Tests.{Same, same?, same, other, and-both}
 use Rattle.model.proofs.Tools.{sum, sum-le, sum-lt, sum-bound, sum-of-set, sum-of-none, one-none, one-some, member-first}
 use Rattle.model.proofs.Steps.{Scans, scan-from-keeps, scan-keeps, Acts, acted-keeps}
-use Rattle.model.proofs.Shapes.{Shape, not-broken, shape-relax, shape-cell, shape-queue, shape-counted, cell-in, fresh-shape}
+use Rattle.model.proofs.Shapes.{Shape, not-broken, shape-relax, shape-cell, shape-queue, shape-counted, cell-in, fresh-shape, file-in, sent-in}
 use Rattle.model.proofs.Few.{bit, bit-le, bit-mono, waiting, R, R-most, R-relax, R-queue, R-head, R-send, relax-cells, relax-tallies}
 
 -- BALANCE: an offer that joins fills no cell, any other fills one; a delivery empties one
@@ -36,7 +36,7 @@ pending c v e f = eqb (edge (c .graph) f .from) v && leb e f
 
 -- the offers that may still be sent before the scan's edge e
 unfoldable owed : Case → (v e : ℕ) → State → ℕ
-owed c v e x = sum (length (c .graph .edges)) (λ f. R c x (edge (c .graph) f .from) + bit (pending c v e f))
+owed c v e x = sum (c .file-edges) (λ f. R c x (edge (c .graph) f .from) + bit (pending c v e f))
 
 pending-less : (c : Case) (v e f : ℕ) → bit (pending c v (suc e) f) ≤ bit (pending c v e f)
 unfolding pending
@@ -62,7 +62,7 @@ record Sending (c : Case) (v e : ℕ) (x : State) : Type 0 where
   paid : x .tallies .sent + owed c v e x ≤ most-sent c
 
 unfoldable left : Case → State → ℕ
-left c x = sum (length (c .graph .edges)) (λ f. R c x (edge (c .graph) f .from))
+left c x = sum (c .file-edges) (λ f. R c x (edge (c .graph) f .from))
 
 record Sent (c : Case) (x : State) : Type 0 where
   shape : Shape c x
@@ -72,11 +72,11 @@ record Sent (c : Case) (x : State) : Type 0 where
 module _ (c : Case) (ok : Sound c) where
   owed-next : (v e : ℕ) (x y : State) → ((u : ℕ) → R c y u ≤ R c x u) → owed c v (suc e) y ≤ owed c v e x
   unfolding owed
-  owed-next v e x y h = sum-le (length (c .graph .edges)) _ _ (λ f _. omega (arith, h (edge (c .graph) f .from), pending-less c v e f))
+  owed-next v e x y h = sum-le (c .file-edges) _ _ (λ f _. omega (arith, h (edge (c .graph) f .from), pending-less c v e f))
 
-  owed-sent : (v d e : ℕ) (x : State) → e < length (c .graph .edges) → edge (c .graph) e .from ≡ v → owed c v (suc e) (send e d x) < owed c v e x
+  owed-sent : (v d e : ℕ) (x : State) → e < c .file-edges → edge (c .graph) e .from ≡ v → owed c v (suc e) (send e d x) < owed c v e x
   unfolding owed
-  owed-sent v d e x l i = sum-lt (length (c .graph .edges)) _ _ (λ f _. omega (arith, R-send c ok e d x (edge (c .graph) f .from), pending-less c v e f)) e l
+  owed-sent v d e x l i = sum-lt (c .file-edges) _ _ (λ f _. omega (arith, R-send c ok e d x (edge (c .graph) f .from), pending-less c v e f)) e l
       (omega (arith, R-send c ok e d x (edge (c .graph) e .from), pending-now c v e i, pending-past c v e i))
 
   sending : (v d : ℕ) → Scans c v d (Sending c v)
@@ -91,10 +91,10 @@ module _ (c : Case) (ok : Sound c) where
           balanced = rw (relax-tallies c e o x, relax-cells c e o x) (p .balanced);
           paid = omega (arith, p .paid, owed-next v e x (relax c e o x) (λ u. R-relax c ok e o x l (p .shape) u));
         };
-    other = λ e x _ l i _ p. record {
+    other = λ e x _ l i n p. record {
       shape = shape-cell c ok e _ x (p .shape);
-      balanced = put-balanced (x .tallies) (x .cells) e _ (rw (p .shape .cells) l) (p .balanced);
-      paid = omega (arith, p .paid, owed-sent v (d + edge-depth (c .graph) e) e x l i);
+      balanced = put-balanced (x .tallies) (x .cells) e _ (rw (p .shape .cells) (sent-in c ok v e l i n)) (p .balanced);
+      paid = omega (arith, p .paid, owed-sent v (d + edge-depth (c .graph) e) e x (sent-in c ok v e l i n) i);
     };
   }
     where
@@ -119,17 +119,17 @@ module _ (c : Case) (ok : Sound c) where
       each f (other n) = omega (arith, pending-other c v 0 f n, R-queue c ok w v q x l e (p .shape) (edge (c .graph) f .from))
 
       fewer : owed c v 0 y ≤ left c x
-      fewer = unfold owed left in (sum-le (length (c .graph .edges)) _ _ (λ f _. each f (same? (edge (c .graph) f .from) v)))
+      fewer = unfold owed left in (sum-le (c .file-edges) _ _ (λ f _. each f (same? (edge (c .graph) f .from) v)))
 
   inside : (w v : ℕ) (q : List ℕ) (k : ℕ) (x : State) → has-ended x ≡ false → w < c .workers → getD (x .queues) w [] ≡ v ∷ q → k ≤ length (c .graph .edges) → Sent c x →
       Sending c v (0 + k) (scan-from k 0 c v (depth-or (getD (x .depths) v none)) (with-queues (set (x .queues) w q) x))
   inside w v q k x o l e h p = scan-from-keeps c v (depth-or (getD (x .depths) v none)) (Sending c v) (sending v (depth-or (getD (x .depths) v none))) k 0 (with-queues (set (x .queues) w q) x) (omega arith) (begins w v q x o l e p)
 
   left-owed : (v e : ℕ) (x : State) → left c x ≤ owed c v e x
-  left-owed v e x = unfold owed left in (sum-le (length (c .graph .edges)) _ _ (λ f _. omega arith))
+  left-owed v e x = unfold owed left in (sum-le (c .file-edges) _ _ (λ f _. omega arith))
 
   left-less : (x y : State) → ((u : ℕ) → R c y u ≤ R c x u) → left c y ≤ left c x
-  left-less x y h = unfold left in (sum-le (length (c .graph .edges)) _ _ (λ f _. h (edge (c .graph) f .from)))
+  left-less x y h = unfold left in (sum-le (c .file-edges) _ _ (λ f _. h (edge (c .graph) f .from)))
 
   sent-acts : Acts c (Sent c)
   sent-acts = record {
@@ -143,11 +143,11 @@ module _ (c : Case) (ok : Sound c) where
       counted-paid : (x : State) → x .tallies .sent + left c x ≤ most-sent c → x .tallies .sent + left c (counted x) ≤ most-sent c
       counted-paid x h = unfold left R waiting in h
 
-      delivers : (e d : ℕ) (x : State) → has-ended x ≡ false → getD (x .cells) e none ≡ some d → Sent c x → e < length (c .graph .edges) → Sent c (counted (relax c e d (emptied e x)))
+      delivers : (e d : ℕ) (x : State) → has-ended x ≡ false → getD (x .cells) e none ≡ some d → Sent c x → e < c .file-edges → Sent c (counted (relax c e d (emptied e x)))
       delivers e d x o h p l = record {
-        shape = shape-counted c ok _ (shape-relax c ok e d (emptied e x) (not-broken x o) l empty);
+        shape = shape-counted c ok _ (shape-relax c ok e d (emptied e x) (not-broken x o) (file-in c ok e l) empty);
         balanced = rw (relax-tallies c e d (emptied e x), relax-cells c e d (emptied e x)) (deliver-balanced (x .tallies) (x .cells) e d (rw (p .shape .cells) l) h (p .balanced));
-        paid = counted-paid _ (omega (arith, p .paid, left-less (emptied e x) (relax c e d (emptied e x)) (λ u. R-relax c ok e d (emptied e x) l empty u), same-left, k));
+        paid = counted-paid _ (omega (arith, p .paid, left-less (emptied e x) (relax c e d (emptied e x)) (λ u. R-relax c ok e d (emptied e x) (file-in c ok e l) empty u), same-left, k));
       }
         where
           empty : Shape c (emptied e x)
@@ -163,12 +163,12 @@ module _ (c : Case) (ok : Sound c) where
   unfolding by-list
   sent xs = acted-keeps c (Sent c) sent-acts xs (fresh c) (record {
     shape = fresh-shape c ok;
-    balanced = unfold fresh in (rw (sum-of-none one-if none (length (c .graph .edges)) one-none) refl);
+    balanced = unfold fresh in (rw (sum-of-none one-if none (c .file-edges) one-none) refl);
     paid = begun;
   })
     where
       bound : left c (fresh c) ≤ most-sent c
-      bound = unfold left most-sent in (omega (arith, sum-bound (length (c .graph .edges)) (suc (accepting-count (c .graph))) (λ f. R c (fresh c) (edge (c .graph) f .from)) (λ f _. R-most c (fresh c) (edge (c .graph) f .from))))
+      bound = unfold left most-sent in (omega (arith, sum-bound (c .file-edges) (suc (accepting-count (c .graph))) (λ f. R c (fresh c) (edge (c .graph) f .from)) (λ f _. R-most c (fresh c) (edge (c .graph) f .from))))
 
       begun : fresh c .tallies .sent + left c (fresh c) ≤ most-sent c
       begun = let z : fresh c .tallies .sent ≡ 0 = unfold fresh in refl in omega (arith, bound)

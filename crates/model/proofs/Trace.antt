@@ -17,7 +17,7 @@ use Rattle.model.specs.Run.{Tallies, State, fresh, with-queues, with-cel
 use Rattle.text.proofs.Tests.{Same, same?, same, other}
 use Rattle.model.proofs.Tools.{some-not-none, getD-replicate-same, set-some, some-inj}
 use Rattle.model.proofs.Steps.{relax-cases, scan-keeps, Acts, acted-keeps}
-use Rattle.model.proofs.Shapes.{Shape, not-broken, shape-relax, shape-cell, shape-queue, shape-counted, cell-in, head-depth, fresh-depth, fresh-shape}
+use Rattle.model.proofs.Shapes.{Shape, not-broken, shape-relax, shape-cell, shape-queue, shape-counted, cell-in, head-depth, fresh-depth, fresh-shape, file-in, sent-in}
 use Rattle.model.proofs.Walked.{lower-cases, takes-less, taken-at, taken-other, taken-deeper}
 
 -- v's parent edge: it goes down at least as far as the two depths say, and where not further its start is older
@@ -190,7 +190,7 @@ module _ (c : Case) (ok : Sound c) where
   trace-relax : (e d : ℕ) (x : State) → x .broken ≡ none → e < length (c .graph .edges) → Offer (c .graph) (x .depths) e d → Trace c x → Trace c (relax c e d x)
   trace-relax e d x b l o r = relax-cases (Trace c) c e d x (λ _. r) (λ k. record { t = stamp (r .t) (edge (c .graph) e .to) (r .T); T = suc (r .T); traced = traced-taken e d x l (r .t) (r .T) (r .traced) o k b })
 
-  trace-cell : (e : ℕ) (k : Option ℕ) {u : Tallies} (x : State) → e < length (c .graph .edges) → ((o : ℕ) → k ≡ some o → Offer (c .graph) (x .depths) e o) → Trace c x → Trace c (with-cells (set (x .cells) e k) u x)
+  trace-cell : (e : ℕ) (k : Option ℕ) {u : Tallies} (x : State) → e < c .file-edges → ((o : ℕ) → k ≡ some o → Offer (c .graph) (x .depths) e o) → Trace c x → Trace c (with-cells (set (x .cells) e k) u x)
   trace-cell e k {u} x l o r = record {
     t = r .t;
     T = r .T;
@@ -210,7 +210,7 @@ module _ (c : Case) (ok : Sound c) where
       cell : (f j : ℕ) → getD ((with-cells (set (x .cells) e k) u x) .cells) f none ≡ some j → Offer (c .graph) ((with-cells (set (x .cells) e k) u x) .depths) f j
       cell f j h = (set-some (x .cells) e f k j (rw (a .shape .cells) l) h (λ p q. rw p (o j q)) (λ _ q. a .cell f j q))
 
-  trace-send : (e d : ℕ) (x : State) → e < length (c .graph .edges) → Offer (c .graph) (x .depths) e d → Trace c x → Trace c (send e d x)
+  trace-send : (e d : ℕ) (x : State) → e < c .file-edges → Offer (c .graph) (x .depths) e d → Trace c x → Trace c (send e d x)
   trace-send e d x l o r = trace-cell e _ x l (λ k q. subst (λ (z : ℕ). Offer (c .graph) (x .depths) e z) (some-inj _ k q)
       (lower-cases (λ z. Offer (c .graph) (x .depths) e z) (getD (x .cells) e none) d o (λ j h. r .traced .cell e j h))) r
 
@@ -251,7 +251,7 @@ module _ (c : Case) (ok : Sound c) where
     halt = λ _ _ _ _ p. p;
     pass = λ _ _ _ p. p;
     own = λ e y b l i p. (trace-relax e (d + edge-depth (c .graph) e) y b l (offer e y i (p .1)) (p .0), after e y l (p .0) (p .1));
-    other = λ e y b l i _ p. (trace-send e (d + edge-depth (c .graph) e) y l (offer e y i (p .1)) (p .0), p .1);
+    other = λ e y b l i n p. (trace-send e (d + edge-depth (c .graph) e) y (sent-in c ok v e l i n) (offer e y i (p .1)) (p .0), p .1);
   }) x (r, (d, h, omega arith))) .0
     where
       offer : (e : ℕ) (y : State) → edge (c .graph) e .from ≡ v → (j : ℕ) × (getD (y .depths) v none ≡ some j) × (d ≤ j) → Offer (c .graph) (y .depths) e (d + edge-depth (c .graph) e)
@@ -265,7 +265,7 @@ module _ (c : Case) (ok : Sound c) where
     turn = λ w v q x o l e r. trace-counted _ (trace-scan v (depth-or (getD (x .depths) v none)) (with-queues (set (x .queues) w q) x) ((head-depth c ok w v q x (r .traced .shape) e)) (trace-queue w v q x l e r));
     delivery = λ e d x o h r.
         let l = cell-in c ok x e d (r .traced .shape) h in
-        trace-counted _ (trace-relax e d (emptied e x) (not-broken x o) l ((r .traced .cell e d h)) (trace-cell e none x l (λ k q. some-not-none none k q refl) r));
+        trace-counted _ (trace-relax e d (emptied e x) (not-broken x o) (file-in c ok e l) ((r .traced .cell e d h)) (trace-cell e none x l (λ k q. some-not-none none k q refl) r));
   }
 
   trace-fresh : Trace c (fresh c)
@@ -276,7 +276,7 @@ module _ (c : Case) (ok : Sound c) where
       shape = fresh-shape c ok;
       early = λ _. omega arith;
       parent = λ v e h. some-not-none _ e h (unfold fresh in (getD-replicate-same (c .graph .vertices) v none));
-      cell = λ e o h. some-not-none _ o h (unfold fresh in (getD-replicate-same (length (c .graph .edges)) e none));
+      cell = λ e o h. some-not-none _ o h (unfold fresh in (getD-replicate-same (c .file-edges) e none));
       root = λ v d _ h. fresh-depth c ok v d h (λ p q. (p, q));
       broke = λ b h. some-not-none _ b h (unfold fresh in refl);
     };

@@ -16,7 +16,7 @@ use Rattle.text.proofs.Tests.{Same, same?, clash, same, other}
 use Rattle.model.proofs.Tools.{some-not-none, is-some-of, getD-replicate-same, set-some, some-inj, some-after}
 use Rattle.model.proofs.Walks.{Walk, walk-on}
 use Rattle.model.proofs.Steps.{relax-cases, scan-keeps, Acts, acted-keeps}
-use Rattle.model.proofs.Shapes.{Shape, not-broken, shape-relax, shape-cell, shape-queue, shape-counted, cell-in, head-depth, fresh-depth, fresh-source, fresh-shape}
+use Rattle.model.proofs.Shapes.{Shape, not-broken, shape-relax, shape-cell, shape-queue, shape-counted, cell-in, head-depth, fresh-depth, fresh-source, fresh-shape, file-in, sent-in}
 use Rattle.model.proofs.Few.{relax-cells}
 
 pub lower-cases : (P : ℕ → Type 0) (o : Option ℕ) (d : ℕ) → P d → ((k : ℕ) → o ≡ some k → P k) → P (lower o d)
@@ -97,7 +97,7 @@ module _ (c : Case) (ok : Sound c) where
       deep v k i = set-some (x .depths) (edge (c .graph) e .to) v (some d) k (to-in c ok e d x l (s .shape)) i
           (λ p q. subst (λ (z : ℕ). Walk (c .graph) z k) (sym p) (subst (λ (z : ℕ). Walk (c .graph) (edge (c .graph) e .to) z) (some-inj d k q) w)) (λ _ q. s .depths v k q)
 
-  pub walked-cell : (e : ℕ) (o : Option ℕ) {t : Tallies} (x : State) → e < length (c .graph .edges) → ((d : ℕ) → o ≡ some d → Walk (c .graph) (edge (c .graph) e .to) d) → Walked c x → Walked c (with-cells (set (x .cells) e o) t x)
+  pub walked-cell : (e : ℕ) (o : Option ℕ) {t : Tallies} (x : State) → e < c .file-edges → ((d : ℕ) → o ≡ some d → Walk (c .graph) (edge (c .graph) e .to) d) → Walked c x → Walked c (with-cells (set (x .cells) e o) t x)
   walked-cell e o x l w s = record {
     shape = shape-cell c ok e o x (s .shape);
     depths = s .depths;
@@ -105,7 +105,7 @@ module _ (c : Case) (ok : Sound c) where
     source = s .source;
   }
 
-  walked-send : (e d : ℕ) (x : State) → e < length (c .graph .edges) → Walk (c .graph) (edge (c .graph) e .to) d → Walked c x → Walked c (send e d x)
+  walked-send : (e d : ℕ) (x : State) → e < c .file-edges → Walk (c .graph) (edge (c .graph) e .to) d → Walked c x → Walked c (send e d x)
   walked-send e d x l w s = walked-cell e _ x l (λ k q. subst (λ (z : ℕ). Walk (c .graph) (edge (c .graph) e .to) z) (some-inj _ k q)
       (lower-cases (λ z. Walk (c .graph) (edge (c .graph) e .to) z) (getD (x .cells) e none) d w (λ j h. s .cells e j h))) s
 
@@ -120,7 +120,7 @@ module _ (c : Case) (ok : Sound c) where
     halt = λ _ _ _ _ p. p;
     pass = λ _ _ _ p. p;
     own = λ e y b l i p. walked-relax e (d + edge-depth (c .graph) e) y b l (walk-on (c .graph) v d e w l i) p;
-    other = λ e y b l i _ p. walked-send e (d + edge-depth (c .graph) e) y l (walk-on (c .graph) v d e w l i) p;
+    other = λ e y b l i n p. walked-send e (d + edge-depth (c .graph) e) y (sent-in c ok v e l i n) (walk-on (c .graph) v d e w l i) p;
   }) x s
 
   pub walked-acts : Acts c (Walked c)
@@ -128,14 +128,14 @@ module _ (c : Case) (ok : Sound c) where
     turn = λ w v q x o l e s. walked-counted _ (walked-scan v _ _ (s .depths v _ (head-depth c ok w v q x (s .shape) e)) (walked-queue w v q x l e s));
     delivery = λ e d x o h s.
         let l = cell-in c ok x e d (s .shape) h in
-        walked-counted _ (walked-relax e d _ (not-broken x o) l (s .cells e d h) (walked-cell e none x l (λ k q. some-not-none none k q refl) s));
+        walked-counted _ (walked-relax e d _ (not-broken x o) (file-in c ok e l) (s .cells e d h) (walked-cell e none x l (λ k q. some-not-none none k q refl) s));
   }
 
   pub walked-fresh : Walked c (fresh c)
   walked-fresh = record {
     shape = fresh-shape c ok;
     depths = λ v d e. fresh-depth c ok v d e (λ p q. record { edges = []; reaches = record { walks = unfold is-walk in refl; arrives = unfold walk-end in (sym p) }; depth = unfold walk-depth in (sym q) });
-    cells = λ e d h. some-not-none _ d h (unfold fresh in (getD-replicate-same (length (c .graph .edges)) e none));
+    cells = λ e d h. some-not-none _ d h (unfold fresh in (getD-replicate-same (c .file-edges) e none));
     source = is-some-of _ 0 (fresh-source c ok);
   }
 

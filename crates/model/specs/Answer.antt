@@ -10,7 +10,7 @@ use Rattle.text.specs.Ascii.{ascii}
 use Rattle.text.specs.Lines.{fields, text}
 use Rattle.text.specs.Numbers.{decimal, signed-decimal}
 use Rattle.model.specs.Graph.{Graph, edge}
-use Rattle.model.specs.Case.{known-version}
+use Rattle.model.specs.Case.{answer-version}
 use Rattle.model.specs.Run.{State, distance}
 
 -- THE CYCLE. "Go n parent edges back from the vertex that broke the floor. The cycle starts there"; from a vertex
@@ -69,7 +69,8 @@ stem-from (suc l) k g t = walk-or (walk-of k (length (g .edges)) 0 g (g .source)
 unfoldable pub stem : Graph → (goal : ℕ) → List ℕ
 stem g t = stem-from (g .vertices) 0 g t
 
--- THE TEXT. "Line 2 holds the version, the verdict, the number of stem edges, of cycle edges, and of vertex lines"
+-- THE TEXT. "Line 2 holds the version, the verdict, the number of stem edges, of cycle edges, and of vertex lines";
+-- "answers carry version 2"
 abbrev pub answer-names : List ℕ
 answer-names = ascii "version verdict stem cycle reached"
 
@@ -96,7 +97,7 @@ abbrev pub no-verdict : ℕ
 no-verdict = 0
 
 unfoldable pub head-row : (verdict : List ℕ) → (stem cycle reached : ℕ) → List (List ℕ)
-head-row w s k r = decimal known-version ∷ w ∷ decimal s ∷ decimal k ∷ decimal r ∷ []
+head-row w s k r = decimal answer-version ∷ w ∷ decimal s ∷ decimal k ∷ decimal r ∷ []
 
 -- "Edge numbers follow, stem first"
 unfoldable pub edge-rows : List ℕ → List (List (List ℕ))

@@ -11,7 +11,7 @@ use Rattle.text.specs.Ascii.{ascii}
 use Rattle.text.specs.Lines.{Line, lines, line-at, line-is, field, begins}
 use Rattle.text.specs.Numbers.{is-number, value, numbers-line, number-at}
 use Rattle.model.specs.Graph.{Edge}
-use Rattle.model.specs.Case.{Case, most-vertices, most-edges, most-workers, longest-file, known-version}
+use Rattle.model.specs.Case.{Case, resting, most-vertices, most-edges, most-workers, longest-file, known-version}
 
 -- REFUSALS are numbers, 0 where there is none; of a list of them the first that is not 0 decides
 unfoldable pub refuse : (fault : Bool) → (number : ℕ) → ℕ
@@ -36,9 +36,9 @@ abbrev pub begins-version : (file : List ℕ) → Bool
 begins-version bs = begins (ascii "version ") bs
 
 -- "3: line 2's first field, ended by a space, a line feed or the file's end, is a number other than 1 (also an answer
--- file)"
-unfoldable pub other-version : List Line → Bool
-other-version ls = let w = field (line-at ls 1) 0 in is-number w && not (eqb (value w) known-version)
+-- file)"; of an answer other than 1 and 2. The versions known are 1 to the newest
+unfoldable pub other-version : (newest : ℕ) → List Line → Bool
+other-version k ls = let w = field (line-at ls 1) 0 in is-number w && not (leb 1 (value w) && leb (value w) k)
 
 -- "5: a count or the source out of range": "Vertices 1 to 500, edges 0 to 2,000, workers 1 to 16, source below
 -- vertices"
@@ -95,7 +95,7 @@ case-refusal bs =
     let m = number-at h 2 in
     first-of (refuse (ltb longest-file (length bs)) 1
     ∷ refuse (not (begins-version bs)) 2
-    ∷ refuse (other-version ls) 3
+    ∷ refuse (other-version known-version ls) 3
     ∷ refuse (not (line-is head-names (line-at ls 0) && numbers-line 5 h)) 4
     ∷ refuse (not (counts-good h)) 5
     ∷ refuse (not (line-is vertex-names (line-at ls 2))) 4
@@ -126,6 +126,11 @@ case-in bs =
     let es = take (number-at h 2) (drop (4 + number-at h 1) ls) in
     record {
       graph = record { vertices = number-at h 1; source = number-at h 3; accepting = column 1 vs; edges = edges-in es };
+      file-edges = length (edges-in es);
       workers = number-at h 4;
       owners = column 2 vs;
     }
+
+-- THE CASE OF A RUN of that text: with the rest loops
+abbrev pub run-case : (file : List ℕ) → Case
+run-case bs = resting (case-in bs)

@@ -8,7 +8,7 @@ use lib.Dec.{ltb, leb, eqb}
 use lib.ListN.{length, drop, replicate}
 use lib.IntN.{ℤ, pos}
 use Rattle.model.specs.Case.{Case, least-output, least-work}
-use Rattle.model.specs.CaseFile.{refuse, first-of, case-refusal, case-in}
+use Rattle.model.specs.CaseFile.{refuse, first-of, case-refusal, case-in, run-case}
 use Rattle.model.specs.Run.{Tallies, no-tallies, State, has-ended, ended-lasso, by-list, by-rounds}
 use Rattle.model.specs.Answer.{lasso-verdict, empty-verdict, no-verdict, answer}
 use Rattle.model.specs.Passing.{check-refusal, answer-verdict}
@@ -19,13 +19,14 @@ use Rattle.model.specs.declared.Checked.{Checked}
 unfoldable pub buffer-refusal : (output work : ℕ) → ℕ
 buffer-refusal o w = refuse (ltb o least-output || ltb w least-work) 11
 
--- "9: an act at or above P + m anywhere in the list, checked after the whole case and before the first act"
+-- "9: an act at or above P + m anywhere in the list, checked after the whole case and before the first act"; "act numbers
+-- still cover file edges only"
 unfoldable pub any-at-or-above : (limit : ℕ) → (acts : List ℕ) → Bool
 any-at-or-above l [] = false
 any-at-or-above l (a ∷ more) = leb l a || any-at-or-above l more
 
 unfoldable pub acts-refusal : Case → (acts : List ℕ) → ℕ
-acts-refusal c xs = refuse (any-at-or-above (c .workers + length (c .graph .edges)) xs) 9
+acts-refusal c xs = refuse (any-at-or-above (c .workers + c .file-edges) xs) 9
 
 -- every refusal but 10; the buffers count by their lengths only
 unfoldable pub list-refusal : (case acts : List ℕ) → (output work : ℕ) → ℕ
@@ -89,11 +90,11 @@ Run-says zero false c x r o z w v = Cut-short x r o z w v
 -- THE ENTRIES: what `run_list`, `run_rounds` and `check_answer` say of their inputs
 unfoldable pub List-says : (case acts : List ℕ) → Outcome → (output output-now : List ℕ) → (work work-now : List ℤ) → Type 0
 List-says bs xs r o z w v =
-    let x = by-list (case-in bs) xs in Run-says (list-refusal bs xs (length o) (length w)) (has-ended x) (case-in bs) x r o z w v
+    let x = by-list (run-case bs) xs in Run-says (list-refusal bs xs (length o) (length w)) (has-ended x) (run-case bs) x r o z w v
 
 unfoldable pub Rounds-say : (case : List ℕ) → Outcome → (output output-now : List ℕ) → (work work-now : List ℤ) → Type 0
 Rounds-say bs r o z w v =
-    let x = by-rounds (case-in bs) in Run-says (rounds-refusal bs (length o) (length w)) (has-ended x) (case-in bs) x r o z w v
+    let x = by-rounds (run-case bs) in Run-says (rounds-refusal bs (length o) (length w)) (has-ended x) (run-case bs) x r o z w v
 
 pub record Check-says (bs ts : List ℕ) (r : Checked) : Type 0 where
   pub refusal : r .refusal ≡ check-refusal bs ts

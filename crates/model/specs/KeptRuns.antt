@@ -10,7 +10,7 @@ use lib.ListN.{replicate}
 use Rattle.text.specs.Ascii.{ascii}
 use Rattle.text.specs.Lines.{equal}
 use Rattle.model.specs.Case.{Case, longest-file, least-output, least-work}
-use Rattle.model.specs.CaseFile.{case-refusal, case-in}
+use Rattle.model.specs.CaseFile.{case-refusal, run-case}
 use Rattle.model.specs.Run.{Tallies, no-tallies, State, has-ended, by-list, by-rounds}
 use Rattle.model.specs.Answer.{lasso-verdict, empty-verdict, no-verdict, answer}
 use Rattle.model.specs.Passing.{check-refusal}
@@ -24,12 +24,20 @@ case-text h vs es = ascii "version vertices edges source workers\n" ++ ascii h +
 abbrev pub answer-text : (head names rows : String) → List ℕ
 answer-text h ns rs = ascii "version verdict stem cycle reached\n" ++ ascii h ++ ascii "\n" ++ ascii ns ++ ascii "\n" ++ ascii rs
 
--- K1 and its answer, as 01 prints them
+-- K1 as 01 prints it, and its answer, of version 2
 abbrev pub K1 : List ℕ
 K1 = ascii "version vertices edges source workers\n1 3 3 0 2\nvertex accepting owner\n0 0 0\n1 1 1\n2 0 0\nfrom to\n0 1\n1 2\n2 1\n"
 
 abbrev pub lasso-of-K1 : List ℕ
-lasso-of-K1 = ascii "version verdict stem cycle reached\n1 lasso 1 2 0\nedge\n0\n1\n2\n"
+lasso-of-K1 = ascii "version verdict stem cycle reached\n2 lasso 1 2 0\nedge\n0\n1\n2\n"
+
+-- K4: one vertex, accepting, without an edge. D: of four vertices only 1 has an edge, to 2, so the loops of 0, 2 and 3 are
+-- its edges 1 to 3; only 2 accepts
+abbrev pub K4 : List ℕ
+K4 = case-text "1 1 0 0 1" "0 1 0\n" ""
+
+abbrev pub D : List ℕ
+D = case-text "1 4 1 1 1" "0 0 0\n1 0 0\n2 1 0\n3 0 0\n" "1 2\n"
 
 -- KEPT RUNS: a case, its acts (none: by rounds), and what comes back
 pub record Kept : Type 0 where
@@ -54,8 +62,8 @@ comes k zero true c x = is-outcome k 0 (verdict x) (x .count) (x .tallies) (answ
 comes k zero false c x = is-outcome k 10 no-verdict (x .count) (x .tallies) []
 
 unfoldable pub holds-by : Kept → (acts : Option (List ℕ)) → Bool
-holds-by k none = let x = by-rounds (case-in (k .case)) in comes k (rounds-refusal (k .case) least-output least-work) (has-ended x) (case-in (k .case)) x
-holds-by k (some xs) = let x = by-list (case-in (k .case)) xs in comes k (list-refusal (k .case) xs least-output least-work) (has-ended x) (case-in (k .case)) x
+holds-by k none = let x = by-rounds (run-case (k .case)) in comes k (rounds-refusal (k .case) least-output least-work) (has-ended x) (run-case (k .case)) x
+holds-by k (some xs) = let x = by-list (run-case (k .case)) xs in comes k (list-refusal (k .case) xs least-output least-work) (has-ended x) (run-case (k .case)) x
 
 unfoldable pub all-hold : List Kept → Bool
 all-hold [] = true
@@ -76,15 +84,15 @@ refused c xs k = record { case = c; acts = xs; refusal = k; verdict = no-verdict
 abbrev cut-short : (case acts : List ℕ) → (count : ℕ) → Tallies → Kept
 cut-short c xs n t = record { case = c; acts = some xs; refusal = 10; verdict = no-verdict; count = n; tallies = t; answer = [] }
 
--- K1 to K11, a row each; then K1 with its first message under way, and a run in which a message joins
+-- K1 to K11, a row each; then K1 with its first message under way, a run in which a message joins, and D
 abbrev pub kept-runs : List Kept
 kept-runs =
     lasso K1 8 (tally 4 4 0) lasso-of-K1
-    ∷ empty (case-text "1 3 3 0 2" "0 1 0\n1 0 1\n2 0 0\n" "0 1\n1 2\n2 1\n") 6 (tally 3 3 0) (answer-text "1 empty 0 0 3" "vertex distance" "0 0\n1 -1\n2 -1\n")
-    ∷ lasso (case-text "1 1 1 0 1" "0 1 0\n" "0 0\n") 2 no-tallies (answer-text "1 lasso 0 1 0" "edge" "0\n")
-    ∷ empty (case-text "1 1 0 0 1" "0 1 0\n" "") 1 no-tallies (answer-text "1 empty 0 0 1" "vertex distance" "0 0\n")
-    ∷ empty (case-text "1 1 1 0 1" "0 0 0\n" "0 0\n") 1 no-tallies (answer-text "1 empty 0 0 1" "vertex distance" "0 0\n")
-    ∷ empty (case-text "1 2 1 0 1" "0 0 0\n1 1 0\n" "1 1\n") 1 no-tallies (answer-text "1 empty 0 0 1" "vertex distance" "0 0\n")
+    ∷ empty (case-text "1 3 3 0 2" "0 1 0\n1 0 1\n2 0 0\n" "0 1\n1 2\n2 1\n") 6 (tally 3 3 0) (answer-text "2 empty 0 0 3" "vertex distance" "0 0\n1 -1\n2 -1\n")
+    ∷ lasso (case-text "1 1 1 0 1" "0 1 0\n" "0 0\n") 2 no-tallies (answer-text "2 lasso 0 1 0" "edge" "0\n")
+    ∷ lasso K4 2 no-tallies (answer-text "2 lasso 0 1 0" "edge" "0\n")
+    ∷ empty (case-text "1 1 1 0 1" "0 0 0\n" "0 0\n") 1 no-tallies (answer-text "2 empty 0 0 1" "vertex distance" "0 0\n")
+    ∷ empty (case-text "1 2 1 0 1" "0 0 0\n1 1 0\n" "1 1\n") 1 no-tallies (answer-text "2 empty 0 0 1" "vertex distance" "0 0\n")
     ∷ refused K1 (some []) 10
     ∷ lasso (case-text "1 3 3 0 1" "0 0 0\n1 1 0\n2 0 0\n" "0 1\n1 2\n2 1\n") 4 no-tallies lasso-of-K1
     ∷ refused K1 (some (2 ∷ [])) 10
@@ -92,6 +100,7 @@ kept-runs =
     ∷ refused (case-text "1 3 4 0 2" "0 0 0\n1 1 1\n2 0 0\n" "0 1\n1 2\n1 2\n2 1\n") none 8
     ∷ cut-short K1 (0 ∷ []) 1 (tally 1 0 0)
     ∷ cut-short (case-text "1 3 4 0 3" "0 0 0\n1 1 1\n2 0 2\n" "0 1\n0 2\n1 0\n1 2\n") (0 ∷ 3 ∷ 1 ∷ 5 ∷ 0 ∷ []) 5 (tally 6 2 1)
+    ∷ lasso D 3 no-tallies (answer-text "2 lasso 1 1 0" "edge" "0\n2\n")
     ∷ []
 
 -- EXAMPLES OF REFUSALS: what is asked of a case (to be judged; to be run by a list, with buffers so long; to be the
@@ -177,7 +186,9 @@ run-examples =
     ∷ ran 2 [] (9 ∷ []) least-output least-work
     ∷ ran 9 K1 (5 ∷ []) least-output least-work
     ∷ ran 9 K1 (0 ∷ 0 ∷ 4000000000 ∷ []) least-output least-work
-    ∷ ran 9 (case-text "1 1 0 0 1" "0 1 0\n" "") (0 ∷ 1 ∷ []) least-output least-work
+    ∷ ran 9 K4 (0 ∷ 1 ∷ []) least-output least-work
+    ∷ ran 9 D (2 ∷ []) least-output least-work
+    ∷ ran 0 D (1 ∷ 0 ∷ []) least-output least-work
     ∷ ran 0 K1 (4 ∷ 1 ∷ []) least-output least-work
     ∷ []
 
@@ -187,11 +198,13 @@ check-examples =
     record { refusal = 1; case = too-long; asked = check too-long }
     ∷ record { refusal = 2; case = []; asked = check too-long }
     ∷ checked 1 too-long
-    ∷ checked 3 (answer-text "2 lasso 1 2 0" "edge" "")
+    ∷ checked 3 (answer-text "3 lasso 1 2 0" "edge" "")
+    ∷ checked 3 (answer-text "10 lasso 1 2 0" "edge" "")
     ∷ checked 3 (ascii "version \n0")
     ∷ checked 12 []
     ∷ checked 12 (ascii "answer 1")
     ∷ checked 12 (answer-text "01 lasso 1 2 0" "edge" "0\n1\n2\n")
+    ∷ checked 12 (answer-text "02 lasso 1 2 0" "edge" "0\n1\n2\n")
     ∷ checked 12 (answer-text "1 open 1 2 0" "edge" "0\n1\n2\n")
     ∷ checked 12 (answer-text "1 lasso 1 0 0" "edge" "0\n")
     ∷ checked 12 (answer-text "1 lasso 1 2 1" "edge" "0\n1\n2\n")
@@ -215,10 +228,36 @@ check-examples =
     ∷ checked 13 (answer-text "1 empty 0 0 1" "vertex distance" "0 0\n")
     ∷ checked 13 (answer-text "1 empty 0 0 3" "vertex distance" "0 0\n1 0\n2 -1\n")
     ∷ checked 0 lasso-of-K1
+    ∷ checked 0 (answer-text "1 lasso 1 2 0" "edge" "0\n1\n2\n")
     ∷ checked 0 (answer-text "1 lasso 3 4 0" "edge" "0\n1\n2\n1\n2\n1\n2\n")
     ∷ record { refusal = 0; case = case-text "1 3 1 0 1" "0 1 0\n1 0 0\n2 0 0\n" "0 1\n"; asked = check (answer-text "1 empty 0 0 3" "vertex distance" "0 500\n1 499\n2 -500\n") }
     ∷ []
 
+-- a vertex that accepts and has no edge, out of reach
+abbrev apart : List ℕ
+apart = case-text "1 2 1 0 1" "0 0 0\n1 1 0\n" "0 0\n"
+
+abbrev answered : (refusal : ℕ) → (case : List ℕ) → (head names rows : String) → Example
+answered k bs h ns rs = record { refusal = k; case = bs; asked = check (answer-text h ns rs) }
+
+-- version 2 means the graph with its rest loops, version 1 the file's: each of these texts in both
+abbrev version-examples : List Example
+version-examples =
+    answered 0 K4 "2 lasso 0 1 0" "edge" "0\n"
+    ∷ answered 13 K4 "1 lasso 0 1 0" "edge" "0\n"
+    ∷ answered 13 K4 "2 empty 0 0 1" "vertex distance" "0 0\n"
+    ∷ answered 0 K4 "1 empty 0 0 1" "vertex distance" "0 0\n"
+    ∷ answered 0 D "2 lasso 1 1 0" "edge" "0\n2\n"
+    ∷ answered 13 D "1 lasso 1 1 0" "edge" "0\n2\n"
+    ∷ answered 13 D "2 lasso 1 1 0" "edge" "0\n4\n"
+    ∷ answered 13 D "2 lasso 1 1 0" "edge" "0\n3\n"
+    ∷ answered 13 D "2 empty 0 0 2" "vertex distance" "1 0\n2 0\n"
+    ∷ answered 0 D "1 empty 0 0 2" "vertex distance" "1 0\n2 0\n"
+    ∷ answered 0 apart "2 empty 0 0 1" "vertex distance" "0 0\n"
+    ∷ answered 13 apart "2 empty 0 0 2" "vertex distance" "0 0\n1 0\n"
+    ∷ answered 0 apart "1 empty 0 0 2" "vertex distance" "0 0\n1 0\n"
+    ∷ []
+
 -- the table of examples
 abbrev pub examples : List Example
-examples = case-examples ++ run-examples ++ check-examples
+examples = case-examples ++ run-examples ++ check-examples ++ version-examples

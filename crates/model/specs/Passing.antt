@@ -11,8 +11,8 @@ use lib.Signed.{leZ}
 use Rattle.text.specs.Ascii.{ascii}
 use Rattle.text.specs.Lines.{Line, lines, line-at, line-is, fields, field, equal}
 use Rattle.text.specs.Numbers.{is-number, is-signed, signed-value, numbers-line, number-at}
-use Rattle.model.specs.Graph.{Graph, edge, edge-length, is-lasso}
-use Rattle.model.specs.Case.{longest-file, most-listed, farthest}
+use Rattle.model.specs.Graph.{Graph, edge, rested, edge-length, is-lasso}
+use Rattle.model.specs.Case.{longest-file, most-listed, farthest, known-version, answer-version}
 use Rattle.model.specs.CaseFile.{refuse, first-of, begins-version, other-version, column, case-refusal, case-in}
 use Rattle.model.specs.Answer.{answer-names, lasso-names, empty-names, lasso-word, empty-word, lasso-verdict, empty-verdict}
 
@@ -136,17 +136,30 @@ empty-refusal g h ls =
     ∷ refuse (not (passes-empty g (listed-in (take k (drop 3 ls))))) 13
     ∷ [])
 
-unfoldable pub answer-refusal : Graph → (file : List ℕ) → ℕ
-answer-refusal g bs =
+-- by a checker that knows the versions 1 to the newest and judges against this graph
+unfoldable pub refusal-against : (newest : ℕ) → Graph → (file : List ℕ) → ℕ
+refusal-against k g bs =
     let ls = lines bs in
     let h = line-at ls 1 in
     first-of (refuse (ltb longest-file (length bs)) 1
     ∷ refuse (not (begins-version bs)) 12
-    ∷ refuse (other-version ls) 3
+    ∷ refuse (other-version k ls) 3
     ∷ refuse (not (line-is answer-names (line-at ls 0) && head-layout h)) 12
     ∷ refuse (not (counts-fit h)) 12
     ∷ cond (says-lasso h) (lasso-refusal g h ls) (empty-refusal g h ls)
     ∷ [])
+
+-- THE GRAPH THAT A VERSION MEANS. "A version 2 finding is right against the graph with its rest loops"; "the checker judges
+-- version 1 answers by the old meaning"
+unfoldable pub meant : Graph → (file : List ℕ) → Graph
+meant g bs = cond (eqb (number-at (line-at (lines bs) 1) 0) answer-version) (rested g) g
+
+unfoldable pub answer-refusal : Graph → (file : List ℕ) → ℕ
+answer-refusal g bs = refusal-against answer-version (meant g bs) bs
+
+-- 01's checker: it knows version 1 alone, "an older checker refuses 2 by number 3"
+unfoldable pub older-refusal : Graph → (file : List ℕ) → ℕ
+older-refusal g bs = refusal-against known-version g bs
 
 -- "The whole case, its length included, is judged before the answer"; "a pass returns the verdict"
 unfoldable pub check-refusal : (case answer : List ℕ) → ℕ

@@ -61,8 +61,12 @@ unfoldable pub edges-from : (left s : ℕ) → Automaton → List Edge
 edges-from zero s a = []
 edges-from (suc k) s a = edges-to (a .states) 0 a s ++ edges-from k (suc s) a
 
+-- "accepting 0 for a product vertex with no edge, since there the claim has stopped and not the aircraft"
+unfoldable pub goes-on : Automaton → (s : ℕ) → Bool
+goes-on a s = leb 1 (length (edges-to (a .states) 0 a s))
+
 abbrev pub state-mark : Automaton → (s : ℕ) → ℕ
-state-mark a s = mark-of (a .accepts s)
+state-mark a s = mark-of (a .accepts s && goes-on a s)
 
 unfoldable pub graph-of : Automaton → Graph
 graph-of a = record { vertices = a .states; source = a .start; accepting = table-of (state-mark a) (a .states) 0; edges = edges-from (a .states) 0 a }
@@ -75,7 +79,7 @@ abbrev pub remainder-by : (workers v : ℕ) → ℕ
 remainder-by p v = v % p
 
 unfoldable pub product-case : Chart → Claim → (workers : ℕ) → Case
-product-case h k p = let g = product-graph h k in record { graph = g; workers = p; owners = table-of (remainder-by p) (g .vertices) 0 }
+product-case h k p = let g = product-graph h k in record { graph = g; file-edges = length (g .edges); workers = p; owners = table-of (remainder-by p) (g .vertices) 0 }
 
 -- THE PRODUCT IN TWO TEXTS, a chart's and a claim's
 abbrev pub graph-in : (chart claim : List ℕ) → Graph

@@ -10,7 +10,7 @@ use Prim.Native.Nat.{ℕ, _+_, _*_, _/_, _%_, _≤_, _<_}
 use lib.Dec.{ltb}
 use lib.ListN.{length, take}
 use Rattle.text.specs.Lines.{text}
-use Rattle.model.specs.Graph.{Edge, Graph, edge, mark, is-walk}
+use Rattle.model.specs.Graph.{Edge, Graph, edge, mark, leaves, is-walk}
 use Rattle.model.specs.Case.{Case, owner, most-workers, Sound, Within}
 use Rattle.model.specs.CaseFile.{accepted, case-in}
 use Rattle.model.specs.Answer.{lasso-verdict, empty-verdict}
@@ -25,13 +25,14 @@ use Rattle.model.specs.BuiltEntry.{Build-says, Steps-say}
 use Rattle.model.specs.declared.Built.{Built}
 
 -- CASE FILES AS TEXTS: one that is accepted is what its case is written as, so no two texts have one case; and a sound case
--- within the limits whose edges rise is read back from what it is written as
+-- within the limits, all of whose edges are a file's and rise, is read back from what it is written as
 unfoldable pub Only-file : Type 0
 Only-file = (bs : List ℕ) → accepted bs ≡ true → case-file (case-in bs) ≡ bs
 
 unfoldable pub Reads-back : Type 0
 Reads-back =
-    (c : Case) → Sound c → Within c → all-rise none (c .graph .edges) ≡ true → (accepted (case-file c) ≡ true) × (case-in (case-file c) ≡ c)
+    (c : Case) → Sound c → Within c → c .file-edges ≡ length (c .graph .edges) → all-rise none (c .graph .edges) ≡ true →
+    (accepted (case-file c) ≡ true) × (case-in (case-file c) ≡ c)
 
 -- THE PRODUCT. "There is an edge when some flag combination lets both parts move"
 pub record Joint (h : Chart) (k : Claim) (q s r t : ℕ) : Type 0 where
@@ -46,13 +47,15 @@ pub record Edge-in (e : Edge) (g : Graph) : Type 0 where
   pub is : edge g number ≡ e
 
 -- what a reader believes of a case: "mode q and claim state c make vertex q × (claim states) + c"; a vertex is accepting
--- exactly if its claim state is, since every mode is; "the owner is the vertex number's remainder by workers"
+-- exactly if its claim state is, since every mode is, but for "accepting 0 for a product vertex with no edge"; "the owner is
+-- the vertex number's remainder by workers"
 pub record Is-product (h : Chart) (k : Claim) (p : ℕ) (c : Case) : Type 0 where
   pub vertices : c .graph .vertices ≡ h .modes * length (k .states)
   pub source : c .graph .source ≡ h .start * length (k .states) + k .start
   pub workers : c .workers ≡ p
   pub marks :
-      (q s : ℕ) → q < h .modes → s < length (k .states) → mark (c .graph) (q * length (k .states) + s) ≡ mark-of (state k s .accepting)
+      (q s : ℕ) → q < h .modes → s < length (k .states) →
+      let v = q * length (k .states) + s in mark (c .graph) v ≡ mark-of (state k s .accepting && leaves (c .graph .edges) v)
   pub owners : (v : ℕ) → v < c .graph .vertices → owner c v ≡ v % p
   pub edges : (q s r t : ℕ) → q < h .modes → s < length (k .states) → r < h .modes → t < length (k .states) →
       let n = length (k .states) in Edge-in (record { from = q * n + s; to = r * n + t }) (c .graph) ↔ Joint h k q s r t
@@ -124,7 +127,7 @@ Steps-definite =
     (bs cs ts : List ℕ) (r : Built) (o z : List ℕ) → Steps-say bs cs ts r o z →
     Definite-built r o z × ((r .refusal ≡ 1) ⊎ ((r .refusal ≡ 3) ⊎ (((11 ≤ r .refusal) × (r .refusal ≤ 13)) ⊎ Product-number (r .refusal))))
 
--- "The output is the only case file for that product, and reading it back gives the product"
+-- "The output is the only case file for that product, and reading it back gives the product but for those marks"
 pub record Case-built (h : Chart) (k : Claim) (p : ℕ) (bs : List ℕ) : Type 0 where
   pub taken : accepted bs ≡ true
   pub product : Is-product h k p (case-in bs)

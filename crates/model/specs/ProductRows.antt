@@ -24,17 +24,30 @@ claim ps b = ascii "HOA: v1\nStates: 2\nStart: 0\nAP: " ++ ascii ps ++ ascii "\n
 abbrev never-again : List ℕ
 never-again = claim "2 \"climb\" \"photo\"" "State: 0 \"watch\"\n[t] 0\n[!1] 1\nState: 1 {0}\n[!1] 1\n"
 
+-- flag 1 stays off: a claim that stops where it comes on, in a state that accepts and has no edge
+abbrev stops : List ℕ
+stops = claim "2 \"climb\" \"photo\"" "State: 0 {0}\n[!1] 0\n[1] 1\nState: 1 {0}\n"
+
 -- WHAT IS WRITTEN
 abbrev case : List ℕ
 case =
     ascii "version vertices edges source workers\n1 4 12 0 2\nvertex accepting owner\n0 0 0\n1 1 1\n2 0 0\n3 1 1\nfrom to\n"
     ++ ascii "0 0\n0 1\n0 2\n0 3\n1 1\n1 3\n2 0\n2 1\n2 2\n2 3\n3 1\n3 3\n"
 
+-- "accepting 0 for a product vertex with no edge": vertices 1 and 3, in whichever mode the claim has stopped
+abbrev stopped : List ℕ
+stopped =
+    ascii "version vertices edges source workers\n1 4 8 0 2\nvertex accepting owner\n0 1 0\n1 0 1\n2 1 0\n3 0 1\nfrom to\n"
+    ++ ascii "0 0\n0 1\n0 2\n0 3\n2 0\n2 1\n2 2\n2 3\n"
+
 abbrev answer : (rest : String) → List ℕ
 answer s = ascii "version verdict stem cycle reached\n" ++ ascii s
 
+unfoldable pub builds-to : (chart claim : List ℕ) → (workers : ℕ) → (case : List ℕ) → Bool
+builds-to h k p bs = equal (case-file (built-case h k p)) bs && eqb (case-refusal bs) 0
+
 unfoldable pub built : Bool
-built = equal (case-file (built-case mission never-again 2)) case && eqb (case-refusal case) 0
+built = builds-to mission never-again 2 case && builds-to mission stops 2 stopped
 
 pub record Listed : Type 0 where
   pub chart : List ℕ
@@ -67,6 +80,8 @@ listed =
     of-mission "1 lasso 1 1 0\nedge\n1\n4\n" "Hold watch\nHold 1\n"
     ∷ of-mission "1 lasso 3 2 0\nedge\n2\n6\n1\n5\n10\n" "Hold watch\nClimb watch\nHold watch\nHold 1\nClimb 1\n"
     ∷ of-mission "1 lasso 1 2 0\nedge\n1\n4\n4\n" "Hold watch\nHold 1\nHold 1\n"
+    ∷ of-mission "2 lasso 1 1 0\nedge\n1\n4\n" "Hold watch\nHold 1\n"
+    ∷ record { chart = mission; claim = stops; answer = answer "2 lasso 1 2 0\nedge\n2\n4\n2\n"; shown = ascii "Hold 0\nClimb 0\nHold 0\n" }
     ∷ named "" "a 0\n"
     ∷ named "\"\"" "a \n"
     ∷ named "\"low fuel\"" "a low fuel\n"
@@ -139,7 +154,8 @@ builds =
     ∷ building 0 mission never-again 16 70000
     ∷ []
 
--- the listing has no worker count, and says of the answer what the checker says
+-- the listing has no worker count, and says of the answer what the checker says; edge 8 is the rest loop of vertex 1, in which
+-- the claim has stopped
 abbrev pub steps : List Refused
 steps =
     listing-of 11 [] [] [] 65535
@@ -153,6 +169,7 @@ steps =
     ∷ listing-of 12 mission never-again (answer "1 open 1 1 0\nedge\n1\n4\n") 65536
     ∷ listing-of 13 mission never-again (answer "1 lasso 1 1 0\nedge\n1\n12\n") 65536
     ∷ listing-of 13 mission never-again (answer "1 lasso 1 1 0\nedge\n1\n5\n") 65536
+    ∷ listing-of 13 mission stops (answer "2 lasso 1 1 0\nedge\n1\n8\n") 65536
     ∷ listing-of 13 mission never-again (answer "1 empty 0 0 4\nvertex distance\n0 0\n1 0\n2 0\n3 0\n") 65536
     ∷ listing-of 0 mission never-again (answer "1 lasso 1 1 0\nedge\n1\n4\n") 65536
     ∷ []

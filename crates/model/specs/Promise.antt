@@ -3,18 +3,21 @@
 use mathlib.Core.Path.{_≡_}
 use mathlib.Core.Bool.{true, false}
 use mathlib.Core.List.{List, [], _∷_, _++_}
-use mathlib.Core.Logic.{_⊎_}
+use mathlib.Core.Logic.{_⊎_, _↔_}
 use mathlib.Core.Option.{Option, none, some}
 use Prim.Native.Nat.{ℕ, zero, suc, _+_, _^_, _≤_, _<_}
+use lib.Dec.{leb, eqb}
 use lib.ListN.{length, getD, set, take, drop}
 use lib.IntN.{ℤ, pos, negℤ}
 use lib.Signed.{leZ, ltZ}
-use Rattle.model.specs.Graph.{Graph, edge, edge-depth, accepting-count, walk-end, Reaches, is-lasso, Has-lasso, No-lasso, Has-walk, Distance, Fewest}
-use Rattle.model.specs.Case.{Case, Sound, Within, owner, most-acts, most-sent, least-output}
-use Rattle.model.specs.CaseFile.{accepted, case-in}
+use Rattle.text.specs.Lines.{lines, line-at}
+use Rattle.text.specs.Numbers.{number-at}
+use Rattle.model.specs.Graph.{Graph, edge, mark, leaves, rested, edge-depth, accepting-count, walk-end, Reaches, is-lasso, Has-lasso, No-lasso, Has-walk, Distance, Fewest}
+use Rattle.model.specs.Case.{Case, resting, Sound, Within, owner, answer-version, most-acts, most-sent, least-output}
+use Rattle.model.specs.CaseFile.{accepted, case-in, run-case}
 use Rattle.model.specs.Run.{Tallies, no-tallies, State, distance, is-some, ended-lasso, has-ended, fresh, with-queues, depth-or, scan-from, no-vertex, no-message, full-cells, idle, does-something, act, acts-done, round-acts, by-list, by-rounds, Moment}
 use Rattle.model.specs.Answer.{cycle-start, cycle, stem, lasso-text, empty-text, lasso-verdict, empty-verdict, answer}
-use Rattle.model.specs.Passing.{answer-refusal, check-refusal, answer-verdict}
+use Rattle.model.specs.Passing.{answer-refusal, older-refusal, meant, check-refusal, answer-verdict}
 use Rattle.model.specs.Entry.{List-says, Rounds-say, Check-says, list-refusal, verdict, zeros, tallies-of}
 use Rattle.model.specs.declared.Outcome.{Outcome}
 use Rattle.model.specs.declared.Checked.{Checked}
@@ -105,13 +108,17 @@ pub record Moments-kept (c : Case) : Type 0 where
       (xs : List ℕ) (w v : ℕ) (q : List ℕ) (k : ℕ) → let x = by-list c xs in has-ended x ≡ false → getD (x .queues) w [] ≡ v ∷ q → k ≤ length (c .graph .edges) →
       Tallied c (scan-from k 0 c v (depth-or (getD (x .depths) v none)) (with-queues (set (x .queues) w q) x))
 
--- within the limits: an answer fits the least output, a count and a tally fit 32 bits, and the checker "passes all that our
--- finished runs write"
+-- within the limits: an answer fits the least output, a count and a tally fit 32 bits; the checker "passes all that our
+-- finished runs write", against each graph whose graph with rest loops the run was of; "an older checker refuses 2 by
+-- number 3"
 pub record Limits-kept (c : Case) : Type 0 where
   pub answers-fit : (x : State) → Ended c x → length (answer (c .graph) x) ≤ least-output
   pub counts-fit : most-acts c < 2 ^ 32
   pub tallies-fit : most-sent c < 2 ^ 32
-  pub passes : (x : State) → Ended c x → (answer-refusal (c .graph) (answer (c .graph) x) ≡ 0) × (answer-verdict (answer (c .graph) x) ≡ verdict x)
+  pub passes :
+      (g : Graph) → rested g ≡ c .graph → (x : State) → Ended c x →
+      (answer-refusal g (answer (c .graph) x) ≡ 0) × (answer-verdict (answer (c .graph) x) ≡ verdict x)
+  pub older : (g : Graph) (x : State) → Ended c x → older-refusal g (answer (c .graph) x) ≡ 3
 
 unfoldable pub Of-cases : Type 0
 Of-cases = (c : Case) → Sound c → Runs-kept c × Moments-kept c × (Within c → Limits-kept c)
@@ -124,27 +131,67 @@ One-stem = (g : Graph) (v : ℕ) (ss es : List ℕ) → Fewest g v ss → Fewest
 -- same finding, and where it is empty their answer files are equal byte for byte"
 unfoldable pub Agree : Case → Case → Type 0
 Agree c d =
-    c .graph ≡ d .graph → (x y : State) → Ended c x → Ended d y →
+    (x y : State) → Ended c x → Ended d y →
     (ended-lasso x ≡ ended-lasso y) × (ended-lasso x ≡ false → answer (c .graph) x ≡ answer (d .graph) y)
 
 unfoldable pub Same-finding : Type 0
-Same-finding = (c d : Case) → Sound c → Sound d → Agree c d
+Same-finding = (c d : Case) → Sound c → Sound d → c .graph ≡ d .graph → Agree c d
 
--- demand 2: "The answer checker passes no answer whose finding is false"
+-- demand 2: "The answer checker passes no answer whose finding is false", of the graph that its version means
 unfoldable pub Checker-sound : Type 0
 Checker-sound =
     (g : Graph) (ts : List ℕ) → answer-refusal g ts ≡ 0 →
-    (answer-verdict ts ≡ lasso-verdict → Has-lasso g) × (answer-verdict ts ≡ empty-verdict → No-lasso g)
+    (answer-verdict ts ≡ lasso-verdict → Has-lasso (meant g ts)) × (answer-verdict ts ≡ empty-verdict → No-lasso (meant g ts))
 
--- ACCEPTED FILES: each gives a sound case within the limits, so all of the above holds of it
+-- "The checker judges version 1 answers by the old meaning": every text that does not say version 2 gets what 01's checker
+-- gave it
+unfoldable pub As-before : Type 0
+As-before =
+    (g : Graph) (ts : List ℕ) → eqb (number-at (line-at (lines ts) 1) 0) answer-version ≡ false → answer-refusal g ts ≡ older-refusal g ts
+
+-- REST LOOPS, of any graph. "Numbered after the file's edges in vertex order": file edges keep their numbers; each edge after
+-- them is the loop of a vertex that no file edge leaves, in rising order; and an edge leaves every vertex
+pub record Is-rest-loop (g : Graph) (e : ℕ) : Type 0 where
+  pub loop : edge (rested g) e .to ≡ edge (rested g) e .from
+  pub below : edge (rested g) e .from < g .vertices
+  pub rests : leaves (g .edges) (edge (rested g) e .from) ≡ false
+
+pub record Loops-only (g : Graph) : Type 0 where
+  pub kept : (e : ℕ) → e < length (g .edges) → edge (rested g) e ≡ edge g e
+  pub loops : (e : ℕ) → length (g .edges) ≤ e → e < length (rested g .edges) → Is-rest-loop g e
+  pub rising : (d e : ℕ) → length (g .edges) ≤ d → d < e → e < length (rested g .edges) → edge (rested g) d .from < edge (rested g) e .from
+  pub every : (v : ℕ) → v < g .vertices → leaves (rested g .edges) v ≡ true
+  pub few : length (rested g .edges) ≤ length (g .edges) + g .vertices
+
+unfoldable pub Rest-loops : Type 0
+Rest-loops = (g : Graph) → Loops-only g
+
+-- so a sound case stays sound, and one within the limits of a file is within those of a run
+unfoldable pub Resting-sound : Type 0
+Resting-sound = (c : Case) → Sound c → Sound (resting c) × (Within c → c .file-edges ≡ length (c .graph .edges) → Within (resting c))
+
+-- "A reachable accepting dead end is then a lasso", and no other lasso comes with the rest loops
+pub record Dead-end (g : Graph) : Type 0 where
+  pub vertex : ℕ
+  pub below : vertex < g .vertices
+  pub walk : List ℕ
+  pub reaches : Reaches g vertex walk
+  pub accepting : leb 1 (mark g vertex) ≡ true
+  pub rests : leaves (g .edges) vertex ≡ false
+
+unfoldable pub Rest-lasso : Type 0
+Rest-lasso = (g : Graph) → Has-lasso (rested g) ↔ (Has-lasso g ⊎ Dead-end g)
+
+-- ACCEPTED FILES: each gives a sound case within the limits, and so is the case of its runs: all of the above holds of it
 unfoldable pub Files-sound : Type 0
 Files-sound = (bs : List ℕ) → accepted bs ≡ true → Sound (case-in bs) × Within (case-in bs)
 
 unfoldable pub Of-files : Type 0
-Of-files = (bs : List ℕ) → accepted bs ≡ true → let c = case-in bs in Runs-kept c × Moments-kept c × Limits-kept c
+Of-files = (bs : List ℕ) → accepted bs ≡ true → let c = run-case bs in Runs-kept c × Moments-kept c × Limits-kept c
 
 unfoldable pub Files-agree : Type 0
-Files-agree = (bs ds : List ℕ) → accepted bs ≡ true → accepted ds ≡ true → Agree (case-in bs) (case-in ds)
+Files-agree =
+    (bs ds : List ℕ) → accepted bs ≡ true → accepted ds ≡ true → case-in bs .graph ≡ case-in ds .graph → Agree (run-case bs) (run-case ds)
 
 -- THE ENTRIES: what holds of each outcome that meets its entry's contract. A run's entry is by a list or by rounds
 unfoldable pub Says : (case : List ℕ) → Outcome → (output output-now : List ℕ) → (work work-now : List ℤ) → Type 0
@@ -198,18 +245,19 @@ pub record Result-tallied (c : Case) (r : Outcome) : Type 0 where
   pub few-sent : r .sent ≤ most-sent c
 
 pub record Result-right (bs : List ℕ) (r : Outcome) (z : List ℕ) : Type 0 where
-  pub verdict : True-verdict (case-in bs .graph) (r .verdict)
-  pub lasso : r .verdict ≡ lasso-verdict → Shows-lasso (case-in bs .graph) (take (r .written) z)
-  pub empty : r .verdict ≡ empty-verdict → Shows-distances (case-in bs .graph) (take (r .written) z)
-  pub acts : r .acts ≤ most-acts (case-in bs)
-  pub tallies : Result-tallied (case-in bs) r
+  pub verdict : True-verdict (rested (case-in bs .graph)) (r .verdict)
+  pub lasso : r .verdict ≡ lasso-verdict → Shows-lasso (rested (case-in bs .graph)) (take (r .written) z)
+  pub empty : r .verdict ≡ empty-verdict → Shows-distances (rested (case-in bs .graph)) (take (r .written) z)
+  pub acts : r .acts ≤ most-acts (run-case bs)
+  pub tallies : Result-tallied (run-case bs) r
   pub passes : (check-refusal bs (take (r .written) z) ≡ 0) × (answer-verdict (take (r .written) z) ≡ r .verdict)
+  pub older : older-refusal (case-in bs .graph) (take (r .written) z) ≡ 3
 
 unfoldable pub Runs-right : Type 0
 Runs-right = (bs : List ℕ) (r : Outcome) (o z : List ℕ) (w v : List ℤ) → Says bs r o z w v → r .refusal ≡ 0 → Result-right bs r z
 
 unfoldable pub Check-right : Type 0
-Check-right = (bs ts : List ℕ) (r : Checked) → Check-says bs ts r → r .refusal ≡ 0 → True-verdict (case-in bs .graph) (r .verdict)
+Check-right = (bs ts : List ℕ) (r : Checked) → Check-says bs ts r → r .refusal ≡ 0 → True-verdict (meant (case-in bs .graph) ts) (r .verdict)
 
 -- demand 3: two results on one graph agree, and where they say "empty" the same bytes were written
 unfoldable pub Runs-agree : Type 0
@@ -220,19 +268,19 @@ Runs-agree =
 -- "The run by rounds gives the result, count and answer file that a list of enough whole rounds gives"
 unfoldable pub Rounds-as-list : Type 0
 Rounds-as-list =
-    (bs : List ℕ) (k : ℕ) (r : Outcome) (o z : List ℕ) (w v : List ℤ) → most-acts (case-in bs) ≤ k → Rounds-say bs r o z w v →
-    List-says bs (whole-rounds k (case-in bs)) r o z w v
+    (bs : List ℕ) (k : ℕ) (r : Outcome) (o z : List ℕ) (w v : List ℤ) → most-acts (run-case bs) ≤ k → Rounds-say bs r o z w v →
+    List-says bs (whole-rounds k (run-case bs)) r o z w v
 
 -- "Refusal 10 is given exactly when the list leaves the run unended and no other refusal applies"; so it comes only
 -- with fewer acts than the bound, and never by rounds; "10 returns the acts counted", and the tallies are in balance
 -- "also when 10 is returned"
 pub record Ten (bs xs : List ℕ) (r : Outcome) (output work : ℕ) : Type 0 where
-  pub only : r .refusal ≡ 10 → (list-refusal bs xs output work ≡ 0) × (has-ended (by-list (case-in bs) xs) ≡ false)
-  pub always : list-refusal bs xs output work ≡ 0 → has-ended (by-list (case-in bs) xs) ≡ false → r .refusal ≡ 10
-  pub below : r .refusal ≡ 10 → r .acts < most-acts (case-in bs)
-  pub counted : r .refusal ≡ 10 → r .acts ≡ acts-done (case-in bs) xs (fresh (case-in bs))
-  pub balanced : r .refusal ≡ 10 → Balanced (tallies-of r) (full-cells (by-list (case-in bs) xs .cells))
-  pub few-sent : r .refusal ≡ 10 → r .sent ≤ most-sent (case-in bs)
+  pub only : r .refusal ≡ 10 → (list-refusal bs xs output work ≡ 0) × (has-ended (by-list (run-case bs) xs) ≡ false)
+  pub always : list-refusal bs xs output work ≡ 0 → has-ended (by-list (run-case bs) xs) ≡ false → r .refusal ≡ 10
+  pub below : r .refusal ≡ 10 → r .acts < most-acts (run-case bs)
+  pub counted : r .refusal ≡ 10 → r .acts ≡ acts-done (run-case bs) xs (fresh (run-case bs))
+  pub balanced : r .refusal ≡ 10 → Balanced (tallies-of r) (full-cells (by-list (run-case bs) xs .cells))
+  pub few-sent : r .refusal ≡ 10 → r .sent ≤ most-sent (run-case bs)
 
 unfoldable pub Ten-exactly : Type 0
 Ten-exactly = (bs xs : List ℕ) (r : Outcome) (o z : List ℕ) (w v : List ℤ) → List-says bs xs r o z w v → Ten bs xs r (length o) (length w)

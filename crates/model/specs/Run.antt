@@ -56,7 +56,7 @@ unfoldable pub has-ended : State → Bool
 has-ended x = ended-lasso x || x .ended-empty
 
 -- THE FRESH RUN. "Before its first act a run has the source at distance 0 and in its owner's queue; all else is
--- without distance, parent or message"
+-- without distance, parent or message". A rest loop stays with one owner, so it has no cell
 unfoldable pub fresh : Case → State
 fresh c =
     let g = c .graph in
@@ -64,7 +64,7 @@ fresh c =
       depths = set (replicate (g .vertices) none) (g .source) (some 0);
       parents = replicate (g .vertices) none;
       queues = set (replicate (c .workers) []) (owner c (g .source)) (g .source ∷ []);
-      cells = replicate (length (g .edges)) none;
+      cells = replicate (c .file-edges) none;
       broken = none;
       ended-empty = false;
       count = 0;
@@ -223,13 +223,14 @@ unfoldable pub acts-done : Case → (acts : List ℕ) → State → ℕ
 acts-done c [] x = 0
 acts-done c (a ∷ more) x = let k = acts-done c more (act c a x) in cond (does-something c a x) (suc k) k
 
--- ROUNDS. "A round is every turn by worker number, then every delivery by edge number": the acts 0 to P + m − 1
+-- ROUNDS. "A round is every turn by worker number, then every delivery by edge number": the acts 0 to P + m − 1, where
+-- "act numbers still cover file edges only"
 unfoldable pub range : (left i : ℕ) → List ℕ
 range zero i = []
 range (suc k) i = i ∷ range k (suc i)
 
 unfoldable pub round-acts : Case → List ℕ
-round-acts c = range (c .workers + length (c .graph .edges)) 0
+round-acts c = range (c .workers + c .file-edges) 0
 
 -- "the run by rounds repeats it to the end": at most so many rounds; `Promise` has that most-acts of them always
 -- reach the end

@@ -7,7 +7,7 @@ use lib.Dec.{ltb}
 use lib.ListN.{length, drop}
 use Rattle.text.specs.Lines.{lines, line-at, text}
 use Rattle.text.specs.Numbers.{decimal}
-use Rattle.model.specs.Graph.{edge}
+use Rattle.model.specs.Graph.{edge, rested}
 use Rattle.model.specs.CaseFile.{refuse, first-of}
 use Rattle.model.specs.Passing.{says-lasso, stem-in, cycle-in, answer-refusal}
 use Rattle.model.specs.Claim.{Claim, state, claim-in}
@@ -26,10 +26,10 @@ step-row h k v =
     let n = length (k .states) in
     mode-name h (v / n) ∷ shown (state k (v % n) .name) (v % n) ∷ []
 
--- "on one line for each edge of the answer"
+-- "on one line for each edge of the answer"; the edge may be a rest loop, which leaves its vertex
 unfoldable pub step-rows : Chart → Claim → (walk : List ℕ) → List (List (List ℕ))
 step-rows h k [] = []
-step-rows h k (e ∷ es) = step-row h k (edge (product-graph h k) e .from) ∷ step-rows h k es
+step-rows h k (e ∷ es) = step-row h k (edge (rested (product-graph h k)) e .from) ∷ step-rows h k es
 
 -- the edges that an answer lists, stem first; "for an empty the listing has length 0"
 unfoldable pub walk-in : (answer : List ℕ) → List ℕ

@@ -111,12 +111,12 @@ module _ (bs cs : List ℕ) (p : ℕ) (o : List ℕ) where
             let x : Product-is (chart-in bs) (claim-in cs) p TooMany froms tos o o′ = rw q at (s .says (chart-in bs) (claim-in cs) (h .held)) in
             rw (x .1, build-is, product-many bs cs (h .passes) (x .0)) (plain-says 21 refl refl _ _ o)
 
-        module _ {n : ℕ} (q : r ≡ Written n) where
-          file : File-written (chart-in bs) (claim-in cs) p n froms tos o o′
+        module _ {n m : ℕ} (q : r ≡ Written n m) where
+          file : File-written (chart-in bs) (claim-in cs) p n m froms tos o o′
           file = rw q at (s .says (chart-in bs) (claim-in cs) (h .held))
 
           passes : product-refusal bs cs ≡ 0
-          passes = product-passes bs cs (h .passes) (file .few)
+          passes = product-passes bs cs (h .passes) (rw (file .count) at (file .few))
 
           short : length (case-file (built-case bs cs p)) ≤ longest-file
           short = let w = workers-range p right in case-short bs cs p passes (w .0) (w .1)

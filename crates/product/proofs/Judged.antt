@@ -6,7 +6,7 @@ use mathlib.Core.List.{List, [], _∷_}
 use Prim.Native.Nat.{ℕ, zero, suc, _*_, _≤_, _<_}
 use native.Mathlib.Omega.{arith}
 use lib.ListN.{length, getD, take, drop}
-use lib.Seq.{take-append-seam, getD-take}
+use lib.Seq.{take-append-seam, length-take-le}
 use borrow.Author.Tests.{ne-eqb, lt-ltb, le-ltb, eq-eqb}
 use Rattle.text.specs.Lines.{Line, lines, line-at, text}
 use Rattle.text.specs.Reading.{skip}
@@ -157,10 +157,10 @@ module _ {bs cs case tos cells : List ℕ} {states source : ℕ} {o : List ℕ} 
           ap (λ (ls : List Line). text (rows-by (named-row bs cs places cells states) tos source (column 0 ls))) place
           ∙ ap (λ (k : ℕ). text (rows-by (named-row bs cs places cells k) tos source (column 0 (drop 3 (lines ts))))) (a .of-states)
           ∙ ap (λ (v : ℕ). text (rows-by (named-row bs cs places cells (length (claim-in cs .states))) tos v (column 0 (drop 3 (lines ts))))) (a .of-source)
-          ∙ rows-listed bs cs chart-is-right (sound .claim) (a .claim) filled modes-fit tos (a .ends) ts right-answer lasso (source-below bs cs (sound .chart) (sound .claim))
+          ∙ rows-listed bs cs chart-is-right (sound .claim) (a .claim) filled modes-fit tos (a .long) (a .ends) ts right-answer lasso (source-below bs cs (sound .chart) (sound .claim))
 
       listed : Puts 0 (listing bs cs ts) m o o′
-      listed = puts-as rows (w .lines (rw place (edges-single bs cs chart-is-right (sound .claim) (a .claim) filled modes-fit tos (a .ends) ts right-answer lasso)))
+      listed = puts-as rows (w .lines (rw place (edges-single bs cs chart-is-right (sound .claim) (a .claim) filled modes-fit tos (a .long) (a .ends) ts right-answer lasso)))
 
       pub checked-fits : m ≤ longest-file
       checked-fits = lasso-listed bs cs ts o (a .room) (a .passes) right-answer listed .0
@@ -183,12 +183,12 @@ module _ {bs cs : List ℕ} {z : Sizes} {follow cells o : List ℕ} (a : List-as
   pub list-many : (ts : List ℕ) → r ≡ TooMany → Steps-say bs cs ts (refused-by 21) o o
   list-many ts q = steps-many bs cs ts o (a .room) (a .both .passes) (said TooMany q .0)
 
-  module _ {n : ℕ} (q : r ≡ Written n) (long : length w ≡ longest-file) where
-    file : File-written (chart-in bs) (claim-in cs) 1 n froms tos w w′
-    file = said (Written n) q
+  module _ {n m : ℕ} (q : r ≡ Written n m) (long : length w ≡ longest-file) where
+    file : File-written (chart-in bs) (claim-in cs) 1 n m froms tos w w′
+    file = said (Written n m) q
 
     passes : product-refusal bs cs ≡ 0
-    passes = product-passes bs cs (a .both .passes) (file .few)
+    passes = product-passes bs cs (a .both .passes) (rw (file .count) at (file .few))
 
     front : (n ≡ length (case-file (built-case bs cs 1))) × (w′ ≡ in-front (case-file (built-case bs cs 1)) w)
     front = puts-says (case-file (built-case bs cs 1)) (file .file) (omega (arith, case-short bs cs 1 passes (omega arith) (omega arith)))
@@ -196,20 +196,23 @@ module _ {bs cs : List ℕ} {z : Sizes} {follow cells o : List ℕ} (a : List-as
     pub file-fits : n ≤ longest-file
     file-fits = omega (arith, front .0, case-short bs cs 1 passes (omega arith) (omega arith))
 
-    ends : (e : ℕ) → e < length (graph-in bs cs .edges) → getD tos e 0 ≡ edge (graph-in bs cs) e .to
+    pub edges-fit : m ≤ most-edges
+    edges-fit = file .few
+
+    ends : (e : ℕ) → e < length (graph-in bs cs .edges) → getD (take m tos) e 0 ≡ edge (graph-in bs cs) e .to
     unfolding edge
     ends e l =
-        let m = length (graph-in bs cs .edges) in
         let is : (es : List Edge) → es ≡ graph-in bs cs .edges → getD es e (record { from = 0; to = 0 }) .to ≡ getD (graph-in bs cs .edges) e (record { from = 0; to = 0 }) .to = λ es x. ap (λ (ds : List Edge). getD ds e (record { from = 0; to = 0 }) .to) x in
-        sym (getD-take m tos e 0 l) ∙ sym (ends-to (take m froms) (take m tos) e (omega (arith, ap length (file .ends)))) ∙ is (ends-of (take m froms) (take m tos)) (file .ends)
+        sym (ends-to (take m froms) (take m tos) e (omega (arith, ap length (file .ends)))) ∙ is (ends-of (take m froms) (take m tos)) (file .ends)
 
-    pub check-asked : Check-asks bs cs (take n w′) tos cells (z .states) (z .source) o
+    pub check-asked : length tos ≡ most-edges → Check-asks bs cs (take n w′) (take m tos) cells (z .states) (z .source) o
     unfolding in-front graph-of product chart-automaton claim-automaton
-    check-asked =
+    check-asked roomy =
         let t = case-file (built-case bs cs 1) in
         record {
           passes = passes;
           file = rw (front .1, front .0) (take-append-seam t (drop (length t) w));
+          long = length-take-le m tos (omega (arith, file .few)) ∙ file .count;
           ends = ends;
           claim = a .both .claim;
           roomy = a .both .tables .roomy;

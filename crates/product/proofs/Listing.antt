@@ -11,21 +11,21 @@ use borrow.Author.Tests.{eq-eqb, ne-eqb}
 use Rattle.text.specs.Lines.{Line, lines, line-at, text}
 use Rattle.text.specs.Numbers.{numbers-line}
 use Rattle.text.proofs.Tests.{both-true}
-use Rattle.model.specs.Graph.{edge, is-walk}
+use Rattle.model.specs.Graph.{edge, rested, is-walk}
 use Rattle.model.specs.CaseFile.{column}
 use Rattle.model.specs.Answer.{lasso-verdict}
 use Rattle.model.specs.Passing.{listed-edges-refusal, answer-refusal, answer-verdict}
 use Rattle.model.specs.Claim.{state, claim-in, Claim-sound}
 use Rattle.model.specs.ClaimEntry.{Name-at}
 use Rattle.model.specs.Chart.{chart-right, chart-in}
-use Rattle.model.specs.Product.{product, chart-automaton, claim-automaton, graph-in}
+use Rattle.model.specs.Product.{product, chart-automaton, claim-automaton, graph-of, graph-in}
 use Rattle.model.specs.Steps.{shown, step-row, step-rows, walk-in, steps-text, listing}
 use Rattle.model.proofs.Pairs.{pair}
 use Rattle.model.proofs.Accepting.{first-zero, refuse-not}
 use Rattle.model.proofs.Walks.{steps}
 use Rattle.model.proofs.Rising.{in-at}
 use Rattle.model.proofs.Products.{move-edge}
-use Rattle.model.proofs.StepLines.{Lasso-lines, lasso-lines, walk-walks}
+use Rattle.model.proofs.StepLines.{Lasso-lines, lasso-lines, walk-walks, rested-to, rested-below}
 use Rattle.claim.specs.Cells.{name-cell, length-cell, Claim-held}
 use Rattle.chart.proofs.Whole.{name-part}
 use Rattle.product.specs.Names.{state-text, Places-filled, named-row, rows-by, all-single}
@@ -55,18 +55,21 @@ module _ (bs cs : List ℕ) (right : chart-right bs ≡ true) (sound : Claim-sou
       let d = pair (chart-in bs .modes) size v b in
       rw (filled .at (v / size) (omega (arith, d .first)), name-part bs right (v / size) (d .first), shown-is (state (claim-in cs) (v % size) .name) cs cells (v % size) (held .names (v % size) (omega (arith, d .second, sound .states)))) refl
 
-  to-below : (e : ℕ) → e < length (graph-in bs cs .edges) → edge (graph-in bs cs) e .to < chart-in bs .modes * size
-  unfolding edge product chart-automaton claim-automaton
-  to-below e l = move-edge (chart-in bs) (claim-in cs) _ (in-at (graph-in bs cs .edges) e l) .to
+  to-below : (e : ℕ) → e < length (rested (graph-in bs cs) .edges) → edge (rested (graph-in bs cs)) e .to < chart-in bs .modes * size
+  unfolding edge graph-of product chart-automaton claim-automaton
+  to-below e l =
+      rested-below (graph-in bs cs) (chart-in bs .modes * size) (omega arith) (λ i b. move-edge (chart-in bs) (claim-in cs) _ (in-at (graph-in bs cs .edges) i b) .to) e l
 
-  -- along a walk, by a table that has each edge's end
-  module _ (tos : List ℕ) (ends : (e : ℕ) → e < length (graph-in bs cs .edges) → getD tos e 0 ≡ edge (graph-in bs cs) e .to) where
-    rows-are : (v : ℕ) (es : List ℕ) → v < chart-in bs .modes * size → is-walk (graph-in bs cs) v es ≡ true → rows-by (named-row bs cs places cells size) tos v es ≡ step-rows (chart-in bs) (claim-in cs) es
+  -- along a walk of the graph with its rest loops, by a table that has each other edge's end
+  module _ (tos : List ℕ) (long : length tos ≡ length (graph-in bs cs .edges)) (ends : (e : ℕ) → e < length (graph-in bs cs .edges) → getD tos e 0 ≡ edge (graph-in bs cs) e .to) where
+    rows-are : (v : ℕ) (es : List ℕ) → v < chart-in bs .modes * size → is-walk (rested (graph-in bs cs)) v es ≡ true → rows-by (named-row bs cs places cells size) tos v es ≡ step-rows (chart-in bs) (claim-in cs) es
     unfolding rows-by step-rows
     rows-are v [] b w = refl
     rows-are v (e ∷ es) b w =
-        let s = steps (graph-in bs cs) v e es w in
-        rw (row-is v b, s .from, ends e (s .below), rows-are (edge (graph-in bs cs) e .to) es (to-below e (s .below)) (s .rest)) refl
+        let g = rested (graph-in bs cs) in
+        let s = steps g v e es w in
+        let next : getD tos e v ≡ edge g e .to = ap (λ (x : ℕ). getD tos e x) (sym (s .from)) ∙ rested-to (graph-in bs cs) tos long ends e (s .below) in
+        rw (row-is v b, s .from, next, rows-are (edge g e .to) es (to-below e (s .below)) (s .rest)) refl
 
     -- the answer's lines from the fourth on
     module _ (ts : List ℕ) (passes : answer-refusal (graph-in bs cs) ts ≡ 0) (lasso : answer-verdict ts ≡ lasso-verdict) where

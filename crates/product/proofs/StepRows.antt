@@ -115,7 +115,7 @@ module _ {row : ℕ → List (List ℕ)} {s : List ℕ} {at v : ℕ} {tos : List
     pub steps-torn : No-row 1 s here → Steps-written row s at v tos place o z
     steps-torn n = record { lines = λ a. clash (numbers-line 1 (line-here s here)) (right a .0) (n .none) }
 
-    pub steps-on : {e next r u : ℕ} {y : List ℕ} → Row s here (e ∷ []) next → Puts place (text (row w ∷ [])) r z y → length y ≡ length z → u ≡ getD tos e 0
+    pub steps-on : {e next r u : ℕ} {y : List ℕ} → Row s here (e ∷ []) next → Puts place (text (row w ∷ [])) r z y → length y ≡ length z → u ≡ getD tos e w
         → Steps-left row s at v tos next r u o y
     steps-on {e} {next} {r} {u} {y} g p n q = record { kept = n ∙ d .kept; left = λ a. (rw (row-rest g) (right a .1), still-step (d .left a .1) line p n) }
       where
@@ -123,4 +123,4 @@ module _ {row : ℕ → List (List ℕ)} {s : List ℕ} {at v : ℕ} {tos : List
         walk = unfold column in (rw (lines-here s here h, g .are 0 (omega arith), row-rest g) refl)
 
         line : rows-from row s tos here w ≡ text (row w ∷ []) ++ rows-from row s tos next u
-        line = unfold rows-by in (ap (λ (es : List ℕ). text (rows-by row tos w es)) walk ∙ rw q (text-append (row w ∷ []) (rows-by row tos (getD tos e 0) (column 0 (lines (drop next s))))))
+        line = unfold rows-by in (ap (λ (es : List ℕ). text (rows-by row tos w es)) walk ∙ rw q (text-append (row w ∷ []) (rows-by row tos (getD tos e w) (column 0 (lines (drop next s))))))

@@ -29,10 +29,11 @@ pub record List-asks (bs cs : List ℕ) (z : Sizes) (follow cells o : List ℕ) 
   pub both : Both-held bs cs z follow cells
   pub room : least-steps-output ≤ length o
 
--- and once the case file is written: it, the vertex that each edge leads to, the claim's cells, and the counts
+-- and once the case file is written: it, the vertex that each of its edges leads to, the claim's cells, and the counts
 pub record Check-asks (bs cs case tos cells : List ℕ) (states source : ℕ) (o : List ℕ) : Type 0 where
   pub passes : product-refusal bs cs ≡ 0
   pub file : case ≡ case-file (built-case bs cs 1)
+  pub long : length tos ≡ length (graph-in bs cs .edges)
   pub ends : (e : ℕ) → e < length (graph-in bs cs .edges) → getD tos e 0 ≡ edge (graph-in bs cs) e .to
   pub claim : Claim-held cs (claim-in cs) cells
   pub roomy : claim-cells ≤ length cells

@@ -43,10 +43,11 @@ pub record Places-filled (chart places : List ℕ) : Type 0 where
 unfoldable pub named-row : (chart claim places cells : List ℕ) → (states vertex : ℕ) → List (List ℕ)
 named-row h k ps cs n v = field-here h (getD ps (v / n) 0) ∷ state-text k cs (v % n) ∷ []
 
--- one line for each edge of a walk from v on, by the vertex that each leads to
+-- one line for each edge of a walk from v on, by the vertex that each leads to; an edge past the table is a rest loop, which
+-- stays where it is
 unfoldable pub rows-by : (row : ℕ → List (List ℕ)) → (tos : List ℕ) → (v : ℕ) → (walk : List ℕ) → List (List (List ℕ))
 rows-by row tos v [] = []
-rows-by row tos v (e ∷ es) = row v ∷ rows-by row tos (getD tos e 0) es
+rows-by row tos v (e ∷ es) = row v ∷ rows-by row tos (getD tos e v) es
 
 unfoldable pub all-single : List Line → Bool
 all-single [] = true

@@ -15,10 +15,11 @@ ends-of [] ts = []
 ends-of (f ∷ fs) [] = []
 ends-of (f ∷ fs) (t ∷ ts) = record { from = f; to = t } ∷ ends-of fs ts
 
--- a mark and an owner for each vertex, both ends of each edge
+-- a mark and an owner for each vertex, both ends of each edge; all of them are the file's
 unfoldable pub tabled : (source workers : ℕ) → (marks owners froms tos : List ℕ) → Case
 tabled s p ms os fs ts =
-    record { graph = record { vertices = length ms; source = s; accepting = ms; edges = ends-of fs ts }; workers = p; owners = os }
+    let es = ends-of fs ts in
+    record { graph = record { vertices = length ms; source = s; accepting = ms; edges = es }; file-edges = length es; workers = p; owners = os }
 
 pub record Tables (marks owners froms tos : List ℕ) : Type 0 where
   pub owned : length owners ≡ length marks

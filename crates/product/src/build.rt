@@ -1,10 +1,11 @@
 // The product as a case file, out of the tables into which a chart and a claim were read. Contracts cite specs/Written.antt.
 ghost use Rattle.text.specs.Writing.{Puts};
 ghost use Rattle.model.specs.CaseText.{case-file};
-ghost use Rattle.product.specs.Written.{Fill-asks, Vertices-filled, case-by, Case-asks, Product-asks, Product-says};
+ghost use Rattle.product.specs.Written.{Marks-ask, Starts-marked, Owners-ask, Owners-filled, case-by, Case-asks, Product-asks, Product-says};
 use crate::case::write_case;
 use crate::edges::all_edges;
 use casefile::Case;
+use casefile::put;
 
 // The modes of a chart, the states of a claim, the combinations of flags; and the product's source.
 pub(crate) struct Sizes {
@@ -14,27 +15,34 @@ pub(crate) struct Sizes {
     pub source: usize,
 }
 
-// What becomes of a product: the length of its file, or that it has more edges than a case file may have.
+// What becomes of a product: the length of its file and how many edges it has, or that these are more than a case file may
+// have.
 pub(crate) enum Product {
-    Written(usize),
+    Written(usize, usize),
     TooMany,
 }
 
-// The mark and the owner of each vertex.
-fn fill_vertices(
-    vertices: usize,
-    states: usize,
-    workers: usize,
-    cells: &[u32],
-    marks: &mut [u32],
-    owners: &mut [u32],
-)
-    requires { ⌜ Fill-asks vertices states workers (now cells) (now marks) (now owners) ⌝ }
-    ensures { λ r. ⌜ Vertices-filled vertices states workers (now (cells .entry)) (now (marks .exit)) (now (owners .exit)) ⌝ }
+// The mark of its claim state for each vertex that an edge leaves. "Accepting 0 for a product vertex with no edge": the others
+// keep the 0 that they have.
+fn mark_starts(froms: &[u32], states: usize, cells: &[u32], marks: &mut [u32])
+    requires { ⌜ Marks-ask states (now cells) (now marks) ⌝ }
+    ensures { λ r. ⌜ Starts-marked states (now (cells .entry)) (now (froms .entry)) (now (marks .exit)) ⌝ }
+{
+    let mut e: usize = 0;
+    while e < froms.len() {
+        let v = froms[e] as usize;
+        put(marks, v, cells[v % states]);
+        e += 1;
+    }
+}
+
+// The owner of each vertex.
+fn fill_owners(vertices: usize, workers: usize, owners: &mut [u32])
+    requires { ⌜ Owners-ask vertices workers (now owners) ⌝ }
+    ensures { λ r. ⌜ Owners-filled vertices workers (now (owners .exit)) ⌝ }
 {
     let mut v: usize = 0;
     while v < vertices {
-        marks[v] = cells[v % states];
         owners[v] = (v % workers) as u32;
         v += 1;
     }
@@ -56,7 +64,8 @@ fn write_ends(
 {
     let mut marks = [0u32; Case::MOST_VERTICES];
     let mut owners = [0u32; Case::MOST_VERTICES];
-    fill_vertices(vertices, states, workers, cells, &mut marks, &mut owners);
+    mark_starts(froms, states, cells, &mut marks);
+    fill_owners(vertices, workers, &mut owners);
     write_case(
         output,
         source as u32,
@@ -96,5 +105,5 @@ pub(crate) fn write_product(
         &froms[..m],
         &tos[..m],
     );
-    Product::Written(n)
+    Product::Written(n, m)
 }

@@ -84,7 +84,7 @@ pub fn build_case(chart: &[u8], claim: &[u8], workers: u32, output: &mut [u8]) -
                 &mut tos,
             ) {
                 Product::TooMany => refused(Built::TOO_MANY_EDGES),
-                Product::Written(n) => written(n),
+                Product::Written(n, _) => written(n),
             }
         }
     }
@@ -149,12 +149,12 @@ fn list_read<'a>(
     let mut tos = [0u32; Case::MOST_EDGES];
     match write_product(&mut case, follow, cells, sizes, 1, &mut froms, &mut tos) {
         Product::TooMany => refused(Built::TOO_MANY_EDGES),
-        Product::Written(n) => list_checked(
+        Product::Written(n, m) => list_checked(
             chart,
             claim,
             answer,
             &case[..n],
-            &tos,
+            &tos[..m],
             cells,
             sizes.states,
             sizes.source,

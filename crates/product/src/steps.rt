@@ -1,8 +1,9 @@
 // The listing of a lasso's steps: for each edge of the answer a line of the mode and the claim state that it leaves. Contracts
 // cite specs/Names.antt.
+ghost use mathlib.Core.Path.{_≡_};
 ghost use mathlib.Core.List.{[], _∷_};
 ghost use Prim.Native.Nat.{_≤_, _<_};
-ghost use lib.ListN.{length};
+ghost use lib.ListN.{length, getD};
 ghost use Rattle.text.specs.Lines.{text};
 ghost use Rattle.text.specs.Writing.{Puts};
 ghost use Rattle.model.specs.ClaimGrammar.{most-states};
@@ -61,6 +62,16 @@ fn write_step<'a>(
     write_byte(output, next, b'\n')
 }
 
+// Where edge e leads from v: one past the table is a rest loop.
+fn end_of(tos: &[u32], e: usize, v: usize) -> usize
+    ensures { λ r. ⌜ r ≡ getD (now (tos .entry)) e v ⌝ }
+{
+    if e < tos.len() {
+        return tos[e] as usize;
+    }
+    v
+}
+
 // The lines of the edges that stand in the answer from `at` on, a walk from v.
 pub(crate) fn write_steps<'a>(
     output: &mut [u8],
@@ -85,7 +96,7 @@ pub(crate) fn write_steps<'a>(
             return place;
         };
         place = write_step(output, place, chart, claim, places, cells, states, w);
-        w = cell(tos, e as usize);
+        w = end_of(tos, e as usize, w);
         here = next;
     }
     place

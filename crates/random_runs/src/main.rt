@@ -1,5 +1,6 @@
 // Random graphs against a plain nested search: each by rounds and by random lists of acts, with several numbers of
-// workers, every answer put to the checker, the tallies summed up. It prints totals; the file stdout has what must come.
+// workers, every answer put to the checker, one also as version 1, the tallies summed up. It prints totals; the file stdout
+// has what must come.
 mod graph;
 mod nested;
 mod runs;
@@ -30,7 +31,11 @@ const FOUND: usize = 11;
 
 const JOINED: usize = 14;
 
-const TOTALS: usize = 15;
+const AT_REST: usize = 15;
+
+const VERSION_1: usize = 16;
+
+const TOTALS: usize = 19;
 
 fn verdict(lasso: bool) -> u32 {
     if lasso {
@@ -112,11 +117,13 @@ fn try_case(
     try_lists(totals, case, limit, want, one, next(seed))
 }
 
-// A graph beside its edges and marks: how many vertices, its source, and the verdict that it must get.
+// A graph beside its edges and marks: how many vertices, its source, and the verdicts that it must get, with its rest loops
+// and as the file has it.
 struct Drawn {
     n: usize,
     source: usize,
     want: u32,
+    old: u32,
 }
 
 // The graph owned by 1 to 16 workers.
@@ -151,12 +158,22 @@ fn first_answer(
     let size = graph::write_case(&mut text, drawn.n, drawn.source, 1, edges, marks, &owners);
     let case = front(&text, size);
     let written = runs::first_run(case, output);
+    let one = front(output, written);
+    count(totals, BY_ROUNDS, runs::by_rounds(case, drawn.want, one));
     count(
         totals,
-        BY_ROUNDS,
-        runs::by_rounds(case, drawn.want, front(output, written)),
+        VERSION_1,
+        runs::as_version_1(case, one, drawn.want, drawn.old),
     );
     written
+}
+
+// Counts a graph by its verdict, and if it has a lasso by rest loops alone.
+fn count_graph(totals: &mut [u32], want: u32, old: u32) {
+    count(totals, FOUND, want as usize);
+    if want != old {
+        count(totals, AT_REST, 0);
+    }
 }
 
 // The graph with several owners of its vertices.
@@ -168,12 +185,18 @@ fn try_graph(
     source: usize,
     seed: u32,
 ) -> u32 {
-    let want = verdict(nested::has_lasso(edges, marks, n, source));
+    let want = verdict(nested::has_lasso(edges, marks, n, source, true));
+    let old = verdict(nested::has_lasso(edges, marks, n, source, false));
     let mut output = [MARK; 8192];
-    let drawn = Drawn { n, source, want };
+    let drawn = Drawn {
+        n,
+        source,
+        want,
+        old,
+    };
     let size = first_answer(totals, edges, marks, drawn, &mut output);
     let one = front(&output, size);
-    count(totals, FOUND, want as usize);
+    count_graph(totals, want, old);
     let x = try_owners(totals, edges, marks, drawn, one, seed);
     let y = try_owners(totals, edges, marks, drawn, one, next(x));
     try_owners(totals, edges, marks, drawn, one, next(y))
@@ -221,32 +244,35 @@ fn print_runs(totals: &[u32], start: usize) {
     print_total(totals, start, runs::MISMATCH, b"  mismatches: ");
 }
 
-fn print_damaged(totals: &[u32]) {
-    io::write_all(STDOUT, b"damaged answers\n");
-    print_total(totals, DAMAGED, runs::DAMAGED_REFUSED, b"  refused: ");
+// Answers that are not as a run wrote them.
+fn print_answers(totals: &[u32], start: usize, passed: &[u8]) {
+    print_total(totals, start, runs::REFUSED, b"  refused: ");
+    print_total(totals, start, runs::PASSED, passed);
+    print_total(totals, start, runs::MISMATCH, b"  mismatches: ");
+}
+
+fn print_graphs(totals: &[u32]) {
     print_total(
         totals,
-        DAMAGED,
-        runs::DAMAGED_PASSED,
-        b"  passed with the same verdict: ",
+        FOUND,
+        Outcome::LASSO as usize,
+        b"graphs with a lasso: ",
     );
-    print_total(totals, DAMAGED, runs::MISMATCH, b"  mismatches: ");
+    print_total(totals, AT_REST, 0, b"  by rest loops alone: ");
+    print_total(totals, FOUND, Outcome::EMPTY as usize, b"graphs without: ");
 }
 
 fn main() {
     let mut totals = [0u32; TOTALS];
     try_all(&mut totals);
-    print_total(
-        &totals,
-        FOUND,
-        Outcome::LASSO as usize,
-        b"graphs with a lasso: ",
-    );
-    print_total(&totals, FOUND, Outcome::EMPTY as usize, b"graphs without: ");
+    print_graphs(&totals);
     io::write_all(STDOUT, b"runs by rounds\n");
     print_runs(&totals, BY_ROUNDS);
     io::write_all(STDOUT, b"runs by a list\n");
     print_runs(&totals, BY_LISTS);
     print_total(&totals, JOINED, 0, b"  with a message that joined: ");
-    print_damaged(&totals);
+    io::write_all(STDOUT, b"damaged answers\n");
+    print_answers(&totals, DAMAGED, b"  passed with the same verdict: ");
+    io::write_all(STDOUT, b"answers as version 1\n");
+    print_answers(&totals, VERSION_1, b"  passed with the file's verdict: ");
 }

@@ -1,5 +1,5 @@
 // A plain nested search: from the source, and from each accepting vertex that this reaches, back to itself. It knows
-// nothing of distances, workers or acts.
+// nothing of distances, workers, acts or edge numbers; a vertex that no edge leaves rests there, or ends the walk.
 use crate::graph::byte;
 use crate::graph::get;
 use crate::graph::place;
@@ -77,18 +77,28 @@ fn on_cycle(edges: &[u8], n: usize, v: usize) -> bool {
     get(&seen, v) != 0
 }
 
-// Whether v is accepting, reached and on a cycle.
-fn closes(edges: &[u8], marks: &[u8], seen: &[u8], n: usize, v: usize) -> bool {
+// Whether no edge leaves v: all would be new, and none is followed.
+fn dead_end(edges: &[u8], n: usize, v: usize) -> bool {
+    let mut seen = [0u8; 128];
+    let mut stack = [0u8; 128];
+    follow_all(edges, n, v, &mut seen, &mut stack, 0) == 0
+}
+
+// Whether v is accepting, reached and on a cycle, or at rest if dead ends rest.
+fn closes(edges: &[u8], marks: &[u8], seen: &[u8], n: usize, resting: bool, v: usize) -> bool {
     if get(marks, v) == 0 || get(seen, v) == 0 {
         return false;
+    }
+    if resting && dead_end(edges, n, v) {
+        return true;
     }
     on_cycle(edges, n, v)
 }
 
-fn any_closes(edges: &[u8], marks: &[u8], seen: &[u8], n: usize) -> bool {
+fn any_closes(edges: &[u8], marks: &[u8], seen: &[u8], n: usize, resting: bool) -> bool {
     let mut v: usize = 0;
     while v < n {
-        if closes(edges, marks, seen, n, v) {
+        if closes(edges, marks, seen, n, resting, v) {
             return true;
         }
         v += 1;
@@ -96,10 +106,16 @@ fn any_closes(edges: &[u8], marks: &[u8], seen: &[u8], n: usize) -> bool {
     false
 }
 
-// Whether the graph has a lasso.
-pub(crate) fn has_lasso(edges: &[u8], marks: &[u8], n: usize, source: usize) -> bool {
+// Whether the graph has a lasso: with its rest loops, or as the file has it.
+pub(crate) fn has_lasso(
+    edges: &[u8],
+    marks: &[u8],
+    n: usize,
+    source: usize,
+    resting: bool,
+) -> bool {
     let mut seen = [0u8; 128];
     search(edges, n, source, &mut seen);
     put(&mut seen, source, 1);
-    any_closes(edges, marks, &seen, n)
+    any_closes(edges, marks, &seen, n, resting)
 }

@@ -32,9 +32,13 @@ pub(crate) struct Came {
     pub joined: u32,
 }
 
-pub const DAMAGED_REFUSED: usize = 1;
+// What came of an answer that is not as a run wrote it.
+pub const REFUSED: usize = 1;
 
-pub const DAMAGED_PASSED: usize = 2;
+pub const PASSED: usize = 2;
+
+// Where an answer has its version.
+const VERSION_AT: usize = 35;
 
 // Where the total of this kind stands, among those that start at a place; past all of them where it is no kind.
 pub(crate) fn total(start: usize, kind: usize) -> usize {
@@ -144,11 +148,21 @@ pub(crate) fn damaged(case: &[u8], answer: &[u8], want: u32, seed: u32) -> usize
     put(&mut copy, below(seed, size), other_byte(next(seed)));
     let c = check_answer(case, front(&copy, size));
     if c.verdict == Outcome::NONE {
-        return DAMAGED_REFUSED;
+        return REFUSED;
     }
-    if c.verdict == want {
-        DAMAGED_PASSED
-    } else {
-        MISMATCH
+    if c.verdict == want { PASSED } else { MISMATCH }
+}
+
+// What it says of the answer as one of version 1, which means the graph as the file has it, with the verdict `old`: never
+// another one, and 13 only for a lasso, which may need a rest loop.
+pub(crate) fn as_version_1(case: &[u8], answer: &[u8], want: u32, old: u32) -> usize {
+    let mut copy = [0u8; 8192];
+    let size = answer.len();
+    write_bytes(&mut copy, 0, answer);
+    put(&mut copy, VERSION_AT, b'1');
+    let c = check_answer(case, front(&copy, size));
+    if c.refusal == 13 && want == Outcome::LASSO {
+        return REFUSED;
     }
+    if c.verdict == old { PASSED } else { MISMATCH }
 }

@@ -12,7 +12,7 @@ use lib.ListN.{length, getD, set, drop, drop-of-length-le}
 use lib.Seq.{drop-cons}
 use lib.IntN.{ℤ, pos}
 use lib.Signed.{ltZ}
-use Rattle.model.specs.Case.{Case, most-vertices, most-edges, Sound, Within}
+use Rattle.model.specs.Case.{Case, most-vertices, most-edges, most-run-edges, Sound, Within}
 use Rattle.model.specs.Run.{Tallies, deliver-one, State, is-some, ended-lasso, has-ended, with-queues, emptied, full-cells, takes, taken, relax, scan, no-vertex, no-message, counted, depth-or, turn-of, turn, delivery-of, delivery, act, acted, Moment}
 use Rattle.model.proofs.Shapes.{head-depth}
 use Rattle.model.proofs.Fits.{accepting-few}
@@ -35,12 +35,12 @@ use Rattle.search.proofs.Steps.{is-broken, not-broken}
 
 -- COUNTS fit 32 bits, and so do the tallies after one delivery or one scan more
 pub count-small : (c : Case) (x : State) → Sound c → Within c → Moment c x → x .count < 2 ^ 32 - 1
-count-small c x ok l m = omega (arith, few c ok x (moment-known c ok x m .paid) .0, most-acts-within c most-vertices most-edges ok (l .vertices) (l .edges))
+count-small c x ok l m = omega (arith, few c ok x (moment-known c ok x m .paid) .0, most-acts-within c most-vertices most-run-edges ok (l .vertices) (l .edges))
 
-sent-small : (c : Case) (x : State) → Sound c → Within c → Moment c x → (x .tallies .sent + most-edges < 2 ^ 32) × (x .tallies .delivered + x .tallies .joined ≤ x .tallies .sent)
+sent-small : (c : Case) (x : State) → Sound c → Within c → Moment c x → (x .tallies .sent + most-run-edges < 2 ^ 32) × (x .tallies .delivered + x .tallies .joined ≤ x .tallies .sent)
 sent-small c x ok l m =
     let t = moment-tallied c ok x m in
-    (omega (arith, t .few-sent, most-sent-within c most-vertices most-edges ok (l .vertices) (l .edges)), omega (arith, t .balanced))
+    (omega (arith, t .few-sent, most-sent-within c most-vertices most-edges ok (l .vertices) (l .file)), omega (arith, t .balanced))
 
 module _ (c : Case) (x : State) (k : Run) (ok : Sound c) (l : Within c) (m : Moment c x) (t : tallies-in k ≡ x .tallies) where
   pub scan-room : Room (length (c .graph .edges)) k
@@ -177,7 +177,7 @@ ended-either : {c : Case} (x : State) (k : Run) (w : List ℤ) (b : Bool) → Re
 ended-either x k w b rep = record { links = rep .links; heads = rep .heads; tails = rep .tails; held = rep .held; lined = rep .lined; counted = rep .counted }
 
 module _ (c : Case) (x : State) (k : Run) (w : List ℤ) (e o : ℕ) where
-  pub cell-emptied : Rep c x k w → e < length (c .graph .edges) → getD (x .cells) e none ≡ some o → Rep c (emptied-counted e x) (emptied-run k) (set w (message-at + e) (pos 1))
+  pub cell-emptied : Rep c x k w → e < c .file-edges → getD (x .cells) e none ≡ some o → Rep c (emptied-counted e x) (emptied-run k) (set w (message-at + e) (pos 1))
   cell-emptied rep below there =
       let q = rep .counted in
       record {

@@ -11,7 +11,7 @@ use lib.Dec.{eqb}
 use lib.ListN.{length, getD, set, List·getD-eq-default}
 use lib.IntN.{ℤ, pos}
 use Rattle.model.specs.Graph.{Graph, edge}
-use Rattle.model.specs.Case.{Case, most-edges}
+use Rattle.model.specs.Case.{Case, most-run-edges}
 use Rattle.model.specs.Answer.{one-back, back, with-parent, cycle-start, cycle-from, cycle}
 use Rattle.model.proofs.Tools.{some-not-none}
 use Rattle.model.specs.Run.{State}
@@ -50,7 +50,7 @@ module _ (c : Case) (ps : List (Option ℕ)) (v : ℕ) (w : List ℤ) (l : Lies 
   parent-cell : (e : ℕ) → getD ps v none ≡ some e → getD w (parent-at + v) (pos 0) ≡ pos (suc e)
   parent-cell e h = l .parents .each v (omega (arith, l .sized, chained-below)) ∙ rw h refl
 
-  pub parent-there : Below (most-edges + 1) (getD w (parent-at + v) (pos 0))
+  pub parent-there : Below (most-run-edges + 1) (getD w (parent-at + v) (pos 0))
   parent-there =
       let p = chained-here (c .graph) ps v f in
       record { number = suc (p .0); is = parent-cell (p .0) (p .1); less = omega (arith, l .real v (p .0) (p .1), l .laid .within .edges) }

@@ -12,14 +12,15 @@ use lib.IntN.{ℤ, pos}
 use borrow.Author.Tests.{eqb-true, lt-ltb, le-ltb, le-leb, lt-leb, leb-false}
 use Rattle.text.proofs.Tests.{or-false}
 use Rattle.model.specs.Case as model
-use Rattle.model.specs.Case.{least-output, least-work, most-acts, Sound}
-use Rattle.model.specs.CaseFile.{refuse, first-of, case-refusal, accepted, case-in}
+use Rattle.model.specs.Graph.{rested, accepting-count}
+use Rattle.model.specs.Case.{resting, least-output, least-work, most-acts, Sound}
+use Rattle.model.specs.CaseFile.{refuse, first-of, case-refusal, accepted, case-in, run-case}
 use Rattle.model.specs.Run.{State, fresh, has-ended, by-list, by-rounds}
 use Rattle.model.specs.Entry.{buffer-refusal, any-at-or-above, acts-refusal, list-refusal, rounds-refusal, zeros, Run-says, List-says, Rounds-say}
 use Rattle.model.specs.Promise.{whole-rounds}
 use Rattle.model.specs.declared.Outcome.{Outcome}
 use Rattle.model.proofs.ActRules.{moment-fresh}
-use Rattle.model.proofs.Kept.{runs-kept}
+use Rattle.model.proofs.Kept.{runs-kept, file-sound}
 use Rattle.casefile.specs.Judging.{header, judged}
 use Rattle.casefile.specs.declared.Case.{Case}
 use Rattle.casefile.specs.declared.Judged.{Judged}
@@ -30,12 +31,12 @@ use Rattle.casefile.proofs.Whole.{turned, taken}
 use Rattle.casefile.proofs.Tables.{held}
 use Rattle.search.specs.Rep.{Rep}
 use Rattle.search.specs.Asks.{Fresh-asks, Fresh-says, List-asks, List-done, By-rounds-asks, By-rounds-says}
-use Rattle.search.specs.Loading.{Load-asks, Load-says}
+use Rattle.search.specs.Loading.{Load-asks, Load-says, Filed, Loops-ask, Loops-say}
 use Rattle.search.specs.Finish.{Gone, Finish-asks, Finish-says}
 use Rattle.search.specs.Entries.{refused-by, load-refusal, Case-laid, Loads}
 use Rattle.search.specs.declared.Loaded.{Loaded}
 use Rattle.search.specs.declared.Loaded.the-variants.{Refused as Not-loaded, Laid as Loaded-case}
-use Rattle.search.proofs.Loads.{sound-in, within-in, from-rises, load-asks, load-laid, load-counts}
+use Rattle.search.proofs.Loads.{sound-in, within-in, whole-in, from-rises, load-asks, load-filed, load-counts}
 use Rattle.search.specs.declared.run.Run.{Run}
 
 -- ACTS IN RANGE: none so far is at or above the limit
@@ -130,7 +131,7 @@ module _ (s xs : List ℕ) (o : List ℕ) (w : List ℤ) where
 pub loads-refused : (s xs : List ℕ) {r : Loaded} {k : ℕ} {w v : List ℤ} → Loads s xs r w v → r ≡ Not-loaded k → (load-refusal s xs ≡ k) × (0 < k) × (v ≡ w)
 loads-refused s xs l e = rw e at l
 
-pub loads-laid : {s xs : List ℕ} {r : Loaded} {c : Case} {n : ℕ} {w v : List ℤ} → Loads s xs r w v → r ≡ Loaded-case c n → Case-laid s xs c n w v
+pub loads-laid : {s xs : List ℕ} {r : Loaded} {c : Case} {n m : ℕ} {w v : List ℤ} → Loads s xs r w v → r ≡ Loaded-case c n m → Case-laid s xs c n m w v
 loads-laid l e = rw e at l
 
 module _ (s : List ℕ) {r : Judged} (p : r ≡ judged s) where
@@ -157,13 +158,13 @@ module _ (s : List ℕ) {r : Judged} (p : r ≡ judged s) where
     workers-of = ap (λ (h : Case). h .workers) (is-taken .1) ∙ (unfold header in refl)
 
     pub counts-few : (c .workers ≤ model.most-workers) × (c .edges ≤ model.most-edges) × (c .vertices ≤ model.most-vertices)
-    counts-few = let l = within-in s (is-taken .0) in (omega (arith, workers-of, l .workers), omega (arith, edges-of, l .edges), omega (arith, vertices-of, l .vertices))
+    counts-few = let l = within-in s (is-taken .0) in (omega (arith, workers-of, l .workers), omega (arith, edges-of, whole-in s, l .file), omega (arith, vertices-of, l .vertices))
 
     pub acts-refused : (xs : List ℕ) (w : List ℤ) → any-at-or-above (c .workers + c .edges) xs ≡ true → (load-refusal s xs ≡ 9) × (0 < 9) × (w ≡ w)
     acts-refused xs w e = (nine (rw (workers-of, edges-of) at e), omega arith, refl)
       where
         nine : any-at-or-above (case-in s .workers + length (case-in s .graph .edges)) xs ≡ true → load-refusal s xs ≡ 9
-        nine e = unfold load-refusal acts-refusal in (rw (eqb-true (case-refusal s) 0 (unfold accepted in (is-taken .0)), e) (unfold refuse first-of in refl))
+        nine f = let e = rw (← whole-in s) at f in unfold load-refusal acts-refusal in (rw (eqb-true (case-refusal s) 0 (unfold accepted in (is-taken .0)), e) (unfold refuse first-of in refl))
 
 module _ (s : List ℕ) {r : Judged} {marks marks′ owners owners′ froms froms′ tos tos′ : List ℕ} (g : Case-read s r marks marks′ owners owners′ froms froms′ tos tos′) {c : Case} (q : r ≡ Accepted c)
     (rows : (model.most-vertices ≤ length marks) × (model.most-vertices ≤ length owners)) (pairs : (model.most-edges ≤ length froms) × (model.most-edges ≤ length tos))
@@ -174,84 +175,102 @@ module _ (s : List ℕ) {r : Judged} {marks marks′ owners owners′ froms from
   in-tables : Holds (case-in s) marks′ owners′ froms′ tos′
   in-tables =
       let k = within-in s (is-taken s (g .answer) q .0) in
-      held g q (omega (arith, rows .0, k .vertices)) (omega (arith, rows .1, k .vertices)) (omega (arith, pairs .0, k .edges)) (omega (arith, pairs .1, k .edges))
+      held g q (omega (arith, rows .0, k .vertices)) (omega (arith, rows .1, k .vertices)) (omega (arith, pairs .0, whole-in s, k .file)) (omega (arith, pairs .1, whole-in s, k .file))
 
   accepts : accepted s ≡ true
   accepts = is-taken s (g .answer) q .0
 
   pub tables-ask : {w : List ℤ} → least-work ≤ length w → Load-asks (take (c .vertices) marks′) (take (c .vertices) owners′) (take (c .edges) froms′) (take (c .edges) tos′) w
-  tables-ask enough = load-asks (sound-in s accepts) (within-in s accepts) (from-rises s accepts) in-tables (vertices-of s (g .answer) q) (edges-of s (g .answer) q) room enough
+  tables-ask enough = load-asks (sound-in s accepts) (within-in s accepts) (from-rises s accepts) (whole-in s) in-tables (vertices-of s (g .answer) q) (edges-of s (g .answer) q) room enough
 
-  pub case-laid : (xs : List ℕ) → any-at-or-above (c .workers + c .edges) xs ≡ false → {count : ℕ} {w v : List ℤ} → least-work ≤ length w →
-      Load-says (take (c .vertices) marks′) (take (c .vertices) owners′) (take (c .edges) froms′) (take (c .edges) tos′) count w v → Case-laid s xs c count w v
-  case-laid xs e enough l =
-      record {
-        taken = accepts;
-        is = is-taken s (g .answer) q .1;
-        in-range = e;
-        laid = load-laid (sound-in s accepts) (within-in s accepts) (from-rises s accepts) in-tables (vertices-of s (g .answer) q) (edges-of s (g .answer) q) room enough l;
-        counted = load-counts (sound-in s accepts) (within-in s accepts) (from-rises s accepts) in-tables (vertices-of s (g .answer) q) (edges-of s (g .answer) q) room l;
-        long = l .long;
-      }
+  -- the file's case, and then the case of its runs
+  module _ {count : ℕ} {w v : List ℤ} (enough : least-work ≤ length w)
+      (l : Load-says (take (c .vertices) marks′) (take (c .vertices) owners′) (take (c .edges) froms′) (take (c .edges) tos′) count w v) where
+    filed : Filed (case-in s) v
+    filed = load-filed (sound-in s accepts) (within-in s accepts) (from-rises s accepts) (whole-in s) in-tables (vertices-of s (g .answer) q) (edges-of s (g .answer) q) room enough l
+
+    file-many : c .edges ≡ case-in s .file-edges
+    file-many = edges-of s (g .answer) q ∙ sym (whole-in s)
+
+    pub loops-ask : Loops-ask (c .vertices) (c .edges) v
+    loops-ask = record { case = case-in s; filed = filed; vertices = vertices-of s (g .answer) q; edges = file-many }
+
+    pub case-laid : (xs : List ℕ) → any-at-or-above (c .workers + c .edges) xs ≡ false → {edges : ℕ} {u : List ℤ} → Loops-say (c .vertices) (c .edges) edges v u → length u ≡ length v → Case-laid s xs c count edges w u
+    unfolding Loops-say
+    case-laid xs e r long =
+        let k = r (case-in s) filed (vertices-of s (g .answer) q) file-many in
+        record {
+          taken = accepts;
+          is = is-taken s (g .answer) q .1;
+          in-range = e;
+          laid = k .0;
+          counted = unfold resting rested accepting-count in (load-counts (sound-in s accepts) (within-in s accepts) (from-rises s accepts) (whole-in s) in-tables (vertices-of s (g .answer) q) (edges-of s (g .answer) q) room l);
+          many = k .1;
+          long = long ∙ l .long;
+        }
 
 -- A RUN OF A CASE IN THE CELLS: what each call on the way asks
-module _ (s xs : List ℕ) (c : Case) (marks : ℕ) (w w₁ : List ℤ) (l : Case-laid s xs c marks w w₁) where
-  vertices : c .vertices ≡ case-in s .graph .vertices
-  vertices = ap (λ (h : Case). h .vertices) (l .is) ∙ (unfold header in refl)
+module _ (s xs : List ℕ) (c : Case) (marks m : ℕ) (w w₁ : List ℤ) (l : Case-laid s xs c marks m w w₁) where
+  vertices : c .vertices ≡ run-case s .graph .vertices
+  vertices = ap (λ (h : Case). h .vertices) (l .is) ∙ (unfold header resting rested in refl)
 
-  edges : c .edges ≡ length (case-in s .graph .edges)
-  edges = ap (λ (h : Case). h .edges) (l .is) ∙ (unfold header in refl)
+  edges : c .edges ≡ case-in s .file-edges
+  edges = ap (λ (h : Case). h .edges) (l .is) ∙ (unfold header in (sym (whole-in s)))
 
-  source : c .source ≡ case-in s .graph .source
-  source = ap (λ (h : Case). h .source) (l .is) ∙ (unfold header in refl)
+  -- act numbers are of the file's edges
+  limit : c .workers + c .edges ≡ c .workers + run-case s .file-edges
+  limit = ap (λ (k : ℕ). c .workers + k) edges ∙ (unfold resting in refl)
 
-  workers : c .workers ≡ case-in s .workers
-  workers = ap (λ (h : Case). h .workers) (l .is) ∙ (unfold header in refl)
+  source : c .source ≡ run-case s .graph .source
+  source = ap (λ (h : Case). h .source) (l .is) ∙ (unfold header resting rested in refl)
 
-  ok : Sound (case-in s)
-  ok = sound-in s (l .taken)
+  workers : c .workers ≡ run-case s .workers
+  workers = ap (λ (h : Case). h .workers) (l .is) ∙ (unfold header resting rested in refl)
+
+  ok : Sound (run-case s)
+  ok = file-sound s (l .taken) .0
 
   pub fresh-asks : Fresh-asks (c .source) marks w₁
-  fresh-asks = record { case = case-in s; laid = l .laid; starts = source; counts = l .counted }
+  fresh-asks = record { case = run-case s; laid = l .laid; starts = source; counts = l .counted }
 
   module _ (k₂ : Run) (w₂ : List ℤ) (b : Fresh-says (c .source) marks k₂ w₁ w₂) where
-    begun : Rep (case-in s) (fresh (case-in s)) k₂ w₂
+    begun : Rep (run-case s) (fresh (run-case s)) k₂ w₂
     unfolding Fresh-says
-    begun = b (case-in s) (l .laid) source (l .counted)
+    begun = b (run-case s) (l .laid) source (l .counted)
 
-    pub rounds-asks : By-rounds-asks (c .workers) (c .vertices) (c .edges) k₂ w₂
-    rounds-asks = record { case = case-in s; rep = begun; workers = workers; vertices = vertices; edges = edges }
+    pub rounds-asks : By-rounds-asks (c .workers) (c .vertices) m k₂ w₂
+    rounds-asks = record { case = run-case s; rep = begun; workers = workers; vertices = vertices; edges = l .many }
 
     pub list-asks : List-asks (c .workers) xs k₂ w₂
-    list-asks = record { case = case-in s; state = fresh (case-in s); rep = begun; moment = moment-fresh (case-in s); workers = workers; below = λ i h. rw (← edges) (all-below (c .workers + c .edges) xs (l .in-range) i h) }
+    list-asks = record { case = run-case s; state = fresh (run-case s); rep = begun; moment = moment-fresh (run-case s); workers = workers; below = λ i h. rw (← limit) (all-below (c .workers + c .edges) xs (l .in-range) i h) }
 
     module _ (k₃ : Run) (w₃ : List ℤ) (o : List ℕ) (enough : (ltb (length o) least-output || ltb (length w) least-work) ≡ false) where
-      list-gone : List-done (c .workers) xs k₂ k₃ w₂ w₃ → Gone (case-in s) (by-list (case-in s) xs) k₃ (c .vertices) (c .source) w₃ o
+      list-gone : List-done (c .workers) xs k₂ k₃ w₂ w₃ → Gone (run-case s) (by-list (run-case s) xs) k₃ (c .vertices) (c .source) w₃ o
       list-gone d = record { rep = rep; moment = record { acts = xs; is = refl }; vertices = vertices; start = source; room = buffers-enough (length o) (length w) enough .0 }
         where
-          rep : Rep (case-in s) (by-list (case-in s) xs) k₃ w₃
-          rep = unfold List-done by-list in (d (case-in s) (fresh (case-in s)) begun (moment-fresh (case-in s)) workers (λ i h. rw (← edges) (all-below (c .workers + c .edges) xs (l .in-range) i h)))
+          rep : Rep (run-case s) (by-list (run-case s) xs) k₃ w₃
+          rep = unfold List-done by-list in (d (run-case s) (fresh (run-case s)) begun (moment-fresh (run-case s)) workers (λ i h. rw (← limit) (all-below (c .workers + c .edges) xs (l .in-range) i h)))
 
-      rounds-gone : By-rounds-says (c .workers) (c .vertices) (c .edges) k₂ k₃ w₂ w₃ → Gone (case-in s) (by-rounds (case-in s)) k₃ (c .vertices) (c .source) w₃ o
+      rounds-gone : By-rounds-says (c .workers) (c .vertices) m k₂ k₃ w₂ w₃ → Gone (run-case s) (by-rounds (run-case s)) k₃ (c .vertices) (c .source) w₃ o
       rounds-gone d = record { rep = rep; moment = record { acts = acts; is = listed }; vertices = vertices; start = source; room = buffers-enough (length o) (length w) enough .0 }
         where
-          rep : Rep (case-in s) (by-rounds (case-in s)) k₃ w₃
-          rep = unfold By-rounds-says in (d (case-in s) begun workers vertices edges)
+          rep : Rep (run-case s) (by-rounds (run-case s)) k₃ w₃
+          rep = unfold By-rounds-says in (d (run-case s) begun workers vertices (l .many))
 
           acts : List ℕ
-          acts = whole-rounds (most-acts (case-in s)) (case-in s)
+          acts = whole-rounds (most-acts (run-case s)) (run-case s)
 
-          listed : by-rounds (case-in s) ≡ by-list (case-in s) acts
-          listed = runs-kept (case-in s) ok .rounds-listed (most-acts (case-in s)) (omega arith)
+          listed : by-rounds (run-case s) ≡ by-list (run-case s) acts
+          listed = runs-kept (run-case s) ok .rounds-listed (most-acts (run-case s)) (omega arith)
 
       pub list-finish : List-done (c .workers) xs k₂ k₃ w₂ w₃ → Finish-asks k₃ (c .workers) (c .vertices) (c .source) w₃ o
-      list-finish d = record { answer = record { case = case-in s; state = by-list (case-in s) xs; gone = list-gone d }; workers = workers }
+      list-finish d = record { answer = record { case = run-case s; state = by-list (run-case s) xs; gone = list-gone d }; workers = workers }
 
-      pub rounds-finish : By-rounds-says (c .workers) (c .vertices) (c .edges) k₂ k₃ w₂ w₃ → Finish-asks k₃ (c .workers) (c .vertices) (c .source) w₃ o
-      rounds-finish d = record { answer = record { case = case-in s; state = by-rounds (case-in s); gone = rounds-gone d }; workers = workers }
+      pub rounds-finish : By-rounds-says (c .workers) (c .vertices) m k₂ k₃ w₂ w₃ → Finish-asks k₃ (c .workers) (c .vertices) (c .source) w₃ o
+      rounds-finish d = record { answer = record { case = run-case s; state = by-rounds (run-case s); gone = rounds-gone d }; workers = workers }
 
       -- the cells' length alone counts in what is said of them
-      as-lent : length w₃ ≡ length w → (b : Bool) (x : State) (r : Outcome) (z : List ℕ) (v : List ℤ) → Run-says 0 b (case-in s) x r o z w₃ v → Run-says 0 b (case-in s) x r o z w v
+      as-lent : length w₃ ≡ length w → (b : Bool) (x : State) (r : Outcome) (z : List ℕ) (v : List ℤ) → Run-says 0 b (run-case s) x r o z w₃ v → Run-says 0 b (run-case s) x r o z w v
       unfolding Run-says zeros
       as-lent long true x r z v t = record { refusal = t .refusal; verdict = t .verdict; acts = t .acts; written = t .written; tallies = t .tallies; output = t .output; work = t .work ∙ ap (λ (j : ℕ). replicate j (pos 0)) long }
       as-lent long false x r z v t = record { refusal = t .refusal; verdict = t .verdict; acts = t .acts; written = t .written; tallies = t .tallies; output = t .output; work = t .work ∙ ap (λ (j : ℕ). replicate j (pos 0)) long }
@@ -259,15 +278,18 @@ module _ (s xs : List ℕ) (c : Case) (marks : ℕ) (w w₁ : List ℤ) (l : Cas
       right : case-refusal s ≡ 0
       right = eqb-true (case-refusal s) 0 (unfold accepted in (l .taken))
 
+      owned : c .workers ≡ case-in s .workers
+      owned = ap (λ (h : Case). h .workers) (l .is) ∙ (unfold header in refl)
+
       in-range : acts-refusal (case-in s) xs ≡ 0
-      in-range = unfold acts-refusal in (rw (rw (workers, edges) at (l .in-range)) (unfold refuse in refl))
+      in-range = unfold acts-refusal in (rw (rw (owned, edges) at (l .in-range)) (unfold refuse in refl))
 
       pub list-says : List-done (c .workers) xs k₂ k₃ w₂ w₃ → {r : Outcome} {z : List ℕ} {v : List ℤ} → Finish-says k₃ (c .workers) (c .vertices) (c .source) r w₃ v o z → length w₃ ≡ length w → List-says s xs r o z w v
       unfolding List-says list-refusal
       list-says d {r} {z} {v} f long =
-          rw (buffers-long (length o) (length w) enough, right, in-range) (unfold first-of in (as-lent long (has-ended (by-list (case-in s) xs)) (by-list (case-in s) xs) r z v (f .says (case-in s) (by-list (case-in s) xs) (list-gone d) workers)))
+          rw (buffers-long (length o) (length w) enough, right, in-range) (unfold first-of in (as-lent long (has-ended (by-list (run-case s) xs)) (by-list (run-case s) xs) r z v (f .says (run-case s) (by-list (run-case s) xs) (list-gone d) workers)))
 
-      pub rounds-say : By-rounds-says (c .workers) (c .vertices) (c .edges) k₂ k₃ w₂ w₃ → {r : Outcome} {z : List ℕ} {v : List ℤ} → Finish-says k₃ (c .workers) (c .vertices) (c .source) r w₃ v o z → length w₃ ≡ length w → Rounds-say s r o z w v
+      pub rounds-say : By-rounds-says (c .workers) (c .vertices) m k₂ k₃ w₂ w₃ → {r : Outcome} {z : List ℕ} {v : List ℤ} → Finish-says k₃ (c .workers) (c .vertices) (c .source) r w₃ v o z → length w₃ ≡ length w → Rounds-say s r o z w v
       unfolding Rounds-say rounds-refusal
       rounds-say d {r} {z} {v} f long =
-          rw (buffers-long (length o) (length w) enough, right) (unfold first-of in (as-lent long (has-ended (by-rounds (case-in s))) (by-rounds (case-in s)) r z v (f .says (case-in s) (by-rounds (case-in s)) (rounds-gone d) workers)))
+          rw (buffers-long (length o) (length w) enough, right) (unfold first-of in (as-lent long (has-ended (by-rounds (run-case s))) (by-rounds (run-case s)) r z v (f .says (run-case s) (by-rounds (run-case s)) (rounds-gone d) workers)))

@@ -14,6 +14,7 @@ use Rattle.model.specs.Case.{Case, most-vertices}
 use Rattle.search.specs.Cells.{Region, Below, Filled, from-at, to-at, distance-at, link-at}
 use Rattle.search.specs.Rep.{Laid}
 use Rattle.search.specs.Show.{Lies, Kept, Written}
+use Rattle.search.proofs.Stores.{laid-same}
 use Rattle.search.proofs.Regions.{same-or}
 
 pub kept-same : (top : ℕ) (w : List ℤ) → Kept top w w
@@ -38,18 +39,7 @@ pub region-kept : {A : Type 0} (enc : A → ℤ) (d : A) (base : ℕ) (l : List 
 region-kept enc d base l top w v k h r = record { each = λ i g. k .same (base + i) (omega arith) ∙ r .each i g }
 
 pub laid-kept : (c : Case) (top : ℕ) (w v : List ℤ) → distance-at ≤ top → Kept top w v → Laid c w → Laid c v
-laid-kept c top w v h k l = record {
-  sound = l .sound;
-  within = l .within;
-  long = omega (arith, k .long, l .long);
-  first = l .first;
-  firsts = l .firsts;
-  mark-cells = region-kept _ _ _ _ top w v k (omega (arith, l .sound .marks, l .within .vertices)) (l .mark-cells);
-  owner-cells = region-kept _ _ _ _ top w v k (omega (arith, l .sound .owned, l .within .vertices)) (l .owner-cells);
-  from-cells = region-kept _ _ _ _ top w v k (omega (arith, l .within .edges)) (l .from-cells);
-  to-cells = region-kept _ _ _ _ top w v k (omega (arith, l .within .edges)) (l .to-cells);
-  first-cells = region-kept _ _ _ _ top w v k (omega (arith, l .firsts .sized, l .within .vertices)) (l .first-cells);
-}
+laid-kept c top w v h k l = laid-same l (k .long) (λ i g. k .same i (omega arith))
 
 pub lies-kept : (c : Case) (ps : List (Option ℕ)) (top : ℕ) (w v : List ℤ) → link-at ≤ top → Kept top w v → Lies c ps w → Lies c ps v
 lies-kept c ps top w v h k l = record {

@@ -5,20 +5,17 @@ use mathlib.Core.List.{List, []}
 use mathlib.Core.Option.{none, some}
 use Prim.Native.Nat.{ℕ, _+_, _<_}
 use native.Mathlib.Omega.{arith}
-use lib.ListN.{length, getD, set, replicate, length-replicate, getD-replicate}
+use lib.ListN.{getD, set, replicate, length-replicate, getD-replicate}
 use lib.IntN.{ℤ, pos}
 use Rattle.model.specs.Graph.{accepting-count}
 use Rattle.model.specs.Case.{Case, owner, most-vertices, most-edges, most-workers}
 use Rattle.model.specs.Run.{State, one-if, member, enqueue, fresh, with-queues}
 use Rattle.model.proofs.Tools.{sum-of-none, one-none, getD-replicate-same}
 use Rattle.search.specs.declared.run.Run.{Run}
-use Rattle.search.specs.Cells.{Region, Filled, far, by-more, distance-at, parent-at, link-at, message-at, head-at, tail-at}
+use Rattle.search.specs.Cells.{Filled, far, by-more, distance-at, parent-at, link-at, message-at, head-at, tail-at}
 use Rattle.search.specs.Rep.{Laid, Table, Lined, Rep}
 use Rattle.search.specs.Asks.{blank, blank-run}
-use Rattle.search.proofs.Stores.{held-depth}
-
-region-same : {A : Type 0} (code : A → ℤ) (d : A) (base : ℕ) (l : List A) (w v : List ℤ) → Region code d base l w → ((i : ℕ) → i < length l → getD v (base + i) (pos 0) ≡ getD w (base + i) (pos 0)) → Region code d base l v
-region-same code d base l w v r f = record { each = λ i h. f i h ∙ r .each i h }
+use Rattle.search.proofs.Stores.{laid-same, held-depth}
 
 -- one item in each place of a table
 table-blank : {A : Type 0} (code : A → ℤ) (d a : A) (base n : ℕ) (w : List ℤ) → ((i : ℕ) → i < n → getD w (base + i) (pos 0) ≡ code a) → Table code d base n (replicate n a) w
@@ -59,21 +56,7 @@ module _ (c : Case) (w w1 w2 w3 w4 w5 w6 : List ℤ) (laid : Laid c w) (f1 : Fil
   kept j h = before-links j (omega arith) ∙ f2 .before j (omega arith) ∙ f1 .before j h
 
   laid-still : Laid c w6
-  laid-still =
-      let s = laid .sound in
-      let l = laid .within in
-      record {
-        sound = s;
-        within = l;
-        long = omega (arith, laid .long, f1 .long, f2 .long, f3 .long, f4 .long, f5 .long, f6 .long);
-        first = laid .first;
-        firsts = laid .firsts;
-        mark-cells = region-same _ _ _ _ w w6 (laid .mark-cells) (λ i h. kept _ (omega (arith, s .marks, l .vertices)));
-        owner-cells = region-same _ _ _ _ w w6 (laid .owner-cells) (λ i h. kept _ (omega (arith, s .owned, l .vertices)));
-        from-cells = region-same _ _ _ _ w w6 (laid .from-cells) (λ i h. kept _ (omega (arith, l .edges)));
-        to-cells = region-same _ _ _ _ w w6 (laid .to-cells) (λ i h. kept _ (omega (arith, l .edges)));
-        first-cells = region-same _ _ _ _ w w6 (laid .first-cells) (λ i h. kept _ (omega (arith, laid .firsts .sized, l .vertices)));
-      }
+  laid-still = laid-same laid (omega (arith, f1 .long, f2 .long, f3 .long, f4 .long, f5 .long, f6 .long)) kept
 
   pub rep-blank : Rep c (blank c) (blank-run (accepting-count (c .graph))) w6
   rep-blank =
@@ -88,13 +71,13 @@ module _ (c : Case) (w w1 w2 w3 w4 w5 w6 : List ℤ) (laid : Laid c w) (f1 : Fil
           depths = table-blank far none none distance-at n w6 (λ i h. before-links _ (omega arith) ∙ f2 .before _ (omega arith) ∙ f1 .inside _ (omega arith) (omega arith));
           parents = table-blank by-more none none parent-at n w6 (λ i h. before-links _ (omega arith) ∙ f2 .inside _ (omega arith) (omega arith));
           links = table-blank pos 0 0 link-at n w6 (λ i h. before-heads _ (omega arith) ∙ f4 .before _ (omega arith) ∙ f3 .inside _ (omega arith) (omega arith));
-          cells = table-blank far none none message-at (length (c .graph .edges)) w6 (λ i h. before-heads _ (omega arith) ∙ f4 .inside _ (omega arith) (omega arith));
+          cells = table-blank far none none message-at (c .file-edges) w6 (λ i h. before-heads _ (omega arith) ∙ f4 .inside _ (omega arith) (omega arith));
           heads = table-blank pos 0 1 head-at (c .workers) w6 (λ i h. f6 .before _ (omega arith) ∙ f5 .inside _ (omega arith) (omega arith));
           tails = table-blank pos 0 0 tail-at (c .workers) w6 (λ i h. f6 .inside _ (omega arith) (omega arith));
         };
         lined = lined-blank c;
         counted = record {
-          full = omega (arith, sum-of-none one-if none (length (c .graph .edges)) one-none);
+          full = omega (arith, sum-of-none one-if none (c .file-edges) one-none);
           acts = refl;
           tallied = refl;
           broke = refl;

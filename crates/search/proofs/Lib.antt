@@ -14,6 +14,7 @@ pub mod Cycles
 pub mod Breadth
 pub mod Search
 pub mod Loads
+pub mod RestLoops
 pub mod Ends
 pub mod Entries
 pub mod Answers

@@ -23,8 +23,8 @@ use Rattle.model.specs.Promise.{Files-sound}
 use Rattle.model.proofs.Accepting.{first-zero, edge-ends, files-sound}
 use Rattle.casefile.specs.Tables.{Holds}
 use Rattle.search.specs.Cells.{Region, Filled, by-from, by-to, accepting-at, owner-at, from-at, to-at, first-at}
-use Rattle.search.specs.Rep.{First-edges, Firsts, no-edge, Laid}
-use Rattle.search.specs.Loading.{Load-asks, Load-says, Rows-ask, Rows-say, Pair-asks, Pair-says, Pairs-ask, Pairs-say}
+use Rattle.search.specs.Rep.{First-edges, Firsts, no-edge}
+use Rattle.search.specs.Loading.{Load-asks, Load-says, Rows-ask, Rows-say, Pair-asks, Pair-says, Pairs-ask, Pairs-say, Filed}
 use Rattle.search.proofs.Regions.{same-or, below-or, fill-start, region-below, region-above, region-none, region-grow, region-whole}
 
 pub sound-in : (s : List ℕ) → accepted s ≡ true → Sound (case-in s)
@@ -34,6 +34,11 @@ sound-in s a = files-sound s a .0
 pub within-in : (s : List ℕ) → accepted s ≡ true → Within (case-in s)
 unfolding Files-sound
 within-in s a = files-sound s a .1
+
+-- all edges of a file's case are the file's
+pub whole-in : (s : List ℕ) → case-in s .file-edges ≡ length (case-in s .graph .edges)
+unfolding case-in
+whole-in s = refl
 
 -- SUMS from a place on
 total-at : (l : List ℕ) (v : ℕ) → v < length l → total (drop v l) ≡ getD l v 0 + total (drop (v + 1) l)
@@ -352,10 +357,10 @@ both-loaded a r p =
       long = p .long ∙ r .long;
     }
 
--- THE CASE: its tables, put in the cells, are the case in the cells
+-- THE CASE: a file's tables, put in the cells, are its case in the cells, without rest loops
 module _ {c : Case} {marks owners froms tos : List ℕ} (ok : Sound c) (in-limits : Within c)
     (rise : (e j : ℕ) → e ≤ j → j < length (c .graph .edges) → edge (c .graph) e .from ≤ edge (c .graph) j .from)
-    (h : Holds c marks owners froms tos) {n m : ℕ} (p : n ≡ c .graph .vertices) (q : m ≡ length (c .graph .edges))
+    (whole : c .file-edges ≡ length (c .graph .edges)) (h : Holds c marks owners froms tos) {n m : ℕ} (p : n ≡ c .graph .vertices) (q : m ≡ length (c .graph .edges))
     (room : (n ≤ length marks) × (n ≤ length owners) × (m ≤ length froms) × (m ≤ length tos)) where
   many-marks : length (take n marks) ≡ n
   many-marks = length-take-le n marks (room .0)
@@ -399,7 +404,7 @@ module _ {c : Case} {marks owners froms tos : List ℕ} (ok : Sound c) (in-limit
           long = long;
         };
         pairs = record {
-          many = omega (arith, many-froms, in-limits .edges);
+          many = omega (arith, many-froms, whole, in-limits .file);
           paired = many-tos ∙ sym many-froms;
           vertices = omega (arith, many-marks, in-limits .vertices);
           from = λ e g. let z : e < m = omega (arith, many-froms) in omega (arith, from-is e z, ok .from e (omega arith), many-marks);
@@ -410,15 +415,15 @@ module _ {c : Case} {marks owners froms tos : List ℕ} (ok : Sound c) (in-limit
       }
 
   -- the first edges of the tables are the case's
-  firsts-are : {F : List ℕ} → First-edges (λ e. getD (take m froms) e 0) (length (take n marks)) (length (take m froms)) F → Firsts (c .graph) F
+  firsts-are : {F : List ℕ} → First-edges (λ e. getD (take m froms) e 0) (length (take n marks)) (length (take m froms)) F → Firsts c F
   firsts-are f =
       let many : length (take n marks) ≡ c .graph .vertices = many-marks ∙ p in
       let low : (v : ℕ) → v ≤ c .graph .vertices → v ≤ length (take n marks) = λ v g. omega (arith, many) in
       record {
         sized = omega (arith, f .sized, many);
-        below = λ v g. omega (arith, f .below v (low v g), many-froms);
+        below = λ v g. omega (arith, f .below v (low v g), many-froms, whole);
         before = λ v e g b. omega (arith, f .before v e (low v g) b, from-is e (omega (arith, f .below v (low v g), many-froms)));
-        after = λ v e g b d. omega (arith, f .after v e (low v g) b (omega (arith, many-froms)), from-is e (omega arith));
+        after = λ v e g b d. omega (arith, f .after v e (low v g) b (omega (arith, many-froms, whole)), from-is e (omega (arith, whole)));
       }
 
   from-there : (e : ℕ) → e < length (c .graph .edges) → pos (getD (take m froms) e 0) ≡ by-from (getD (c .graph .edges) e no-edge)
@@ -429,11 +434,12 @@ module _ {c : Case} {marks owners froms tos : List ℕ} (ok : Sound c) (in-limit
   unfolding edge
   to-there e g = ap pos (to-is e (omega arith))
 
-  pub load-laid : {count : ℕ} {w v : List ℤ} → least-work ≤ length w → Load-says (take n marks) (take n owners) (take m froms) (take m tos) count w v → Laid c v
-  load-laid long s =
+  pub load-filed : {count : ℕ} {w v : List ℤ} → least-work ≤ length w → Load-says (take n marks) (take n owners) (take m froms) (take m tos) count w v → Filed c v
+  load-filed long s =
       record {
         sound = ok;
         within = in-limits;
+        whole = whole;
         long = omega (arith, s .long);
         first = s .first;
         firsts = firsts-are (s .firsts);

@@ -13,11 +13,11 @@ use lib.Dec.{eqb}
 use lib.ListN.{length, getD, set}
 use lib.IntN.{ℤ, pos}
 use Rattle.model.specs.Graph.{edge, edge-depth, mark}
-use Rattle.model.specs.Case.{Case, owner, most-edges}
+use Rattle.model.specs.Case.{Case, owner, most-edges, most-run-edges}
 use Rattle.model.specs.Run.{Tallies, put-one, State, is-some, ended-lasso, with-cells, relax, lower, scan-edge, scan-from, scan}
 use Rattle.search.specs.declared.run.Run.{Run}
-use Rattle.search.specs.Cells.{Below, first-at}
-use Rattle.search.specs.Rep.{Laid, Firsts, Rep}
+use Rattle.search.specs.Cells.{Below, first-at, rest-at}
+use Rattle.search.specs.Rep.{Own, Laid, Rep}
 use Rattle.search.specs.Asks.{Room}
 use Rattle.model.proofs.Few.{relax-tallies}
 use Rattle.search.proofs.Regions.{below-or}
@@ -29,37 +29,24 @@ module _ (c : Case) (w : List ℤ) (v : ℕ) (laid : Laid c w) (below : v ≤ c 
       record {
         number = getD (laid .first) v 0;
         is = laid .first-cells .each v (omega (arith, laid .firsts .sized));
-        less = omega (arith, laid .firsts .below v below, laid .within .edges);
+        less = omega (arith, laid .firsts .below v below, laid .within .file);
       }
 
   pub first-is : (r : ℕ) → getD w (first-at + v) (pos 0) ≡ pos r → getD (laid .first) v 0 ≡ r
   first-is r e = let z : pos (getD (laid .first) v 0) ≡ pos r = sym (laid .first-cells .each v (omega (arith, laid .firsts .sized))) ∙ e in cc
 
--- the edges a to b are those of v
-pub record Own (c : Case) (v a b : ℕ) : Type 0 where
-  pub order : a ≤ b
-  pub below : b ≤ length (c .graph .edges)
-  pub before : (i : ℕ) → i < a → edge (c .graph) i .from ≡ v → ⊥
-  pub after : (i : ℕ) → b ≤ i → i < length (c .graph .edges) → edge (c .graph) i .from ≡ v → ⊥
-  pub inside : (i : ℕ) → a ≤ i → i < b → edge (c .graph) i .from ≡ v
+-- THE EDGES of a vertex that goes on are its file edges; of one that rests, its loop
+module _ {c : Case} {w : List ℤ} (v : ℕ) (laid : Laid c w) (below : v < c .graph .vertices) where
+  pub rest-there : getD (laid .first) (v + 1) 0 ≤ getD (laid .first) v 0 → Below most-run-edges (getD w (rest-at + v) (pos 0))
+  rest-there h =
+      record {
+        number = getD (laid .rest) v 0;
+        is = laid .rest-cells .each v (omega (arith, laid .rests .sized));
+        less = omega (arith, laid .rests .rests v below h .below, laid .within .edges);
+      }
 
-pub own-edges : (c : Case) (F : List ℕ) (v a b : ℕ) → Firsts (c .graph) F → v < c .graph .vertices → getD F v 0 ≡ a → getD F (v + 1) 0 ≡ b → Own c v a b
-own-edges c F v a b f h p q =
-    let m : b ≤ length (c .graph .edges) = rw (← q) (f .below (v + 1) (omega arith)) in
-    record {
-      order = order;
-      below = m;
-      before = λ i l e. omega (arith, f .before v i (omega arith) (omega arith));
-      after = λ i l g e. omega (arith, f .after (v + 1) i (omega arith) (omega arith) g);
-      inside = λ i l g. omega (arith, f .after v i (omega arith) (omega arith) (omega arith), f .before (v + 1) i (omega arith) (omega arith));
-    }
-  where
-    order : a ≤ b
-    order = ordered (below-or b a)
-      where
-        ordered : (b < a) ⊎ (a ≤ b) → a ≤ b
-        ordered (inl l) = absurd (omega (arith, f .before v b (omega arith) (omega arith), f .after (v + 1) b (omega arith) (omega arith) (omega (arith, f .below v (omega arith)))))
-        ordered (inr l) = l
+  pub rest-is : (r : ℕ) → getD w (rest-at + v) (pos 0) ≡ pos r → getD (laid .rest) v 0 ≡ r
+  rest-is r e = let z : pos (getD (laid .rest) v 0) ≡ pos r = sym (laid .rest-cells .each v (omega (arith, laid .rests .sized))) ∙ e in cc
 
 pub own-to : {c : Case} {v a b : ℕ} → Own c v a b → (e : ℕ) → edge (c .graph) e .from ≡ v → e < length (c .graph .edges) → e < b
 own-to {b = b} o e leaves h = go (below-or e b)

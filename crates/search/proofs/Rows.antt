@@ -12,7 +12,7 @@ use Rattle.text.specs.Ascii.{ascii}
 use Rattle.text.specs.Lines.{put-first, fields, joined, text}
 use Rattle.text.specs.Numbers.{digits, decimal, signed-decimal}
 use Rattle.text.proofs.Rows.{text-append}
-use Rattle.model.specs.Case.{known-version}
+use Rattle.model.specs.Case.{answer-version}
 use Rattle.model.specs.Run.{distance}
 use Rattle.model.specs.Answer.{answer-names, lasso-names, empty-names, lasso-word, empty-word, head-row, edge-rows, lasso-text, vertex-rows, empty-text}
 use Rattle.search.specs.Writing.{head-text}
@@ -95,18 +95,18 @@ pub rows-all : (ds : List (Option ℕ)) (v : ℕ) → length ds ≤ v → length
 rows-all ds v h = rw (take-all v ds h) refl
 
 -- THE HEAD
-decimal-one : decimal 1 ≡ 49 ∷ []
+decimal-version : decimal answer-version ≡ 50 ∷ []
 unfolding decimal digits
-decimal-one = refl
+decimal-version = refl
 
 head-joined : (w s a b r t : List ℕ) → w ++ s ++ (a ++ s) ++ (b ++ s) ++ (r ++ t) ≡ (w ++ (s ++ (a ++ (s ++ (b ++ (s ++ r)))))) ++ t
 head-joined w s a b r t = simp append-assoc
 
 pub head-parts : (w : List ℕ) (s k r : ℕ)
-    → ascii "version verdict stem cycle reached\n" ++ (decimal known-version ++ (32 ∷ [])) ++ w ++ (32 ∷ []) ++ (decimal s ++ (32 ∷ [])) ++ (decimal k ++ (32 ∷ [])) ++ (decimal r ++ (10 ∷ [])) ≡ head-text w s k r
+    → ascii "version verdict stem cycle reached\n" ++ (decimal answer-version ++ (32 ∷ [])) ++ w ++ (32 ∷ []) ++ (decimal s ++ (32 ∷ [])) ++ (decimal k ++ (32 ∷ [])) ++ (decimal r ++ (10 ∷ [])) ≡ head-text w s k r
 unfolding head-text text joined fields put-first head-row
 head-parts w s k r =
-    rw decimal-one (ap (λ (l : List ℕ). ascii "version verdict stem cycle reached\n1 " ++ l) (head-joined w (32 ∷ []) (decimal s) (decimal k) (decimal r) (10 ∷ [])))
+    rw decimal-version (ap (λ (l : List ℕ). ascii "version verdict stem cycle reached\n2 " ++ l) (head-joined w (32 ∷ []) (decimal s) (decimal k) (decimal r) (10 ∷ [])))
 
 -- THE ANSWERS
 four : (a b c d : List ℕ) → a ++ b ++ c ++ d ≡ a ++ (b ++ (c ++ d))

@@ -9,17 +9,16 @@ use native.Mathlib.Omega.{arith}
 use lib.ListN.{length, getD, set, replicate, length-append, length-set, length-replicate, getD-replicate}
 use lib.Seq.{append-snoc}
 use lib.IntN.{ℤ, pos}
-use Rattle.model.specs.Case.{Case, Sound, most-vertices, most-edges}
+use Rattle.model.specs.Case.{Case, Sound, most-vertices, most-run-edges}
 use Rattle.model.specs.Graph.{edge, is-walk, walk-end, Reaches, Fewest}
 use Rattle.model.proofs.Walks.{steps, walk-end-snoc}
 use Rattle.model.proofs.Stems.{fewest-one, stem-fewest, stem-short}
 use Rattle.model.specs.Answer.{stem}
-use Rattle.search.specs.Cells.{Region, Below, Filled, from-at, to-at, first-at, found-at, queue-at, stem-at, cycle-at}
-use Rattle.search.specs.Rep.{Laid}
+use Rattle.search.specs.Cells.{Region, Below, Filled, from-at, to-at, found-at, queue-at, stem-at, cycle-at}
+use Rattle.search.specs.Rep.{Own, Laid}
 use Rattle.search.specs.Show.{tip, Made, Tree, by-tip, Stands, Searching, Scanning, Grown, Stemming, Written, Kept, at-source, by-edge}
 use Rattle.search.proofs.Regions.{region-set, region-below, region-above}
-use Rattle.search.proofs.Ranges as Ranges
-use Rattle.search.proofs.Ranges.{first-is, Own, own-edges, own-to}
+use Rattle.search.proofs.Ranges.{own-to}
 use Rattle.search.proofs.Frames.{from-is, to-is, region-snoc, region-kept, kept-set, laid-kept, written-none, written-cons}
 use Rattle.search.proofs.Breadth.{all-found, found-by, getD-front, long-snoc, scanned-grow, scanned-jump, scanned-next, scanned-skip, scanned-start, tree-few, tree-grow, tree-start}
 
@@ -46,7 +45,7 @@ module _ (c : Case) (ts : List (List ℕ)) (ms : List ℕ) (w : List ℤ) (d : L
       go (inl z) = omega (arith, z)
       go (inr x) = by (x .0) (x .2) (s .tree .made (x .0) (x .1))
 
-  pub mark-there : (v : ℕ) → v < c .graph .vertices → Below (most-edges + 2) (getD w (found-at + v) (pos 0))
+  pub mark-there : (v : ℕ) → v < c .graph .vertices → Below (most-run-edges + 2) (getD w (found-at + v) (pos 0))
   mark-there v h = record { number = getD ms v 0; is = s .marks .each v (omega (arith, s .tree .sized)); less = omega (arith, mark-small v, d .within .edges) }
 
   pub mark-is : (v r : ℕ) → v < c .graph .vertices → getD w (found-at + v) (pos 0) ≡ pos r → r ≡ getD ms v 0
@@ -66,7 +65,7 @@ module _ (c : Case) (h v e tail : ℕ) (w : List ℤ) (d : Laid c w) (s : Scanni
   end-is : u ≡ edge (c .graph) e .to
   end-is = to-is c w e d b u a
 
-  pub try-mark : Below (most-edges + 2) (getD w (found-at + u) (pos 0))
+  pub try-mark : Below (most-run-edges + 2) (getD w (found-at + u) (pos 0))
   try-mark = mark-there c (s .search .walks) (s .search .list) w d (s .search .stands) u (rw end-is (d .sound .to e b))
 
   module _ (r : ℕ) (p : getD w (found-at + u) (pos 0) ≡ pos r) where
@@ -120,7 +119,7 @@ module _ (c : Case) (h v e tail : ℕ) (w : List ℤ) (d : Laid c w) (s : Scanni
           at = rw (getD-front (y .walks) new h i) (s .at);
         })
 
--- ONE VERTEX: v is what is loaded as the queue's head, f as its first edge's number, and z as the next vertex's
+-- ONE VERTEX: v is what is loaded as the queue's head, and its edges are f to z
 module _ (c : Case) (head tail : ℕ) (w : List ℤ) (l : Laid c w) (s : Searching c head 0 tail w) (i : head < tail) where
   on : head < length (s .walks)
   on = omega (arith, s .size)
@@ -132,21 +131,10 @@ module _ (c : Case) (head tail : ℕ) (w : List ℤ) (l : Laid c w) (s : Searchi
     vertex-is : tip (c .graph) (getD (s .walks) head []) ≡ v
     vertex-is = queue-is c _ _ w l (s .stands) head v on a
 
-    vertex-low : v < c .graph .vertices
+    pub vertex-low : v < c .graph .vertices
     vertex-low = rw vertex-is at (tip-low c (s .walks) (s .list) w l (s .stands) head on)
 
-    pub first-there : Below (most-edges + 1) (getD w (first-at + v) (pos 0))
-    first-there = Ranges.first-there c w v l (omega (arith, vertex-low))
-
-    pub next-there : Below (most-edges + 1) (getD w (first-at + v + 1) (pos 0))
-    next-there = let e : first-at + v + 1 ≡ first-at + (v + 1) = omega arith in rw e (Ranges.first-there c w (v + 1) l (omega (arith, vertex-low)))
-
-    module _ (f z : ℕ) (p : getD w (first-at + v) (pos 0) ≡ pos f) (q : getD w (first-at + v + 1) (pos 0) ≡ pos z) where
-      own : Own c v f z
-      own =
-          let e : first-at + v + 1 ≡ first-at + (v + 1) = omega arith in
-          own-edges c (l .first) v f z (l .firsts) vertex-low (first-is c w v l (omega (arith, vertex-low)) f p) (first-is c w (v + 1) l (omega (arith, vertex-low)) z (rw e at q))
-
+    module _ (f z : ℕ) (own : Own c v f z) where
       pub scan-start : Scanning c head v f tail w
       scan-start = record {
         search = record {
@@ -202,7 +190,7 @@ module _ (c : Case) (head tail goal : ℕ) (w : List ℤ) (d : Laid c w) (s : Se
   pub search-few : tail ≤ c .graph .vertices
   search-few = omega (arith, s .size, stands-few c _ _ w d (s .stands))
 
-  pub goal-mark : goal < c .graph .vertices → Below (most-edges + 2) (getD w (found-at + goal) (pos 0))
+  pub goal-mark : goal < c .graph .vertices → Below (most-run-edges + 2) (getD w (found-at + goal) (pos 0))
   goal-mark h = mark-there c _ _ w d (s .stands) goal h
 
   grown : (j : ℕ) × (j < length (s .walks)) × (tip (c .graph) (getD (s .walks) j []) ≡ goal) → Grown c goal w
@@ -226,7 +214,7 @@ module _ (c : Case) (goal : ℕ) (w : List ℤ) (d : Laid c w) (r : Grown c goal
   goal-low : goal < c .graph .vertices
   goal-low = rw (r .at) at (tip-low c (r .walks) (r .list) w d (r .stands) (r .number) (r .below))
 
-  pub grown-mark : (goal < most-vertices) × Below (most-edges + 2) (getD w (found-at + goal) (pos 0))
+  pub grown-mark : (goal < most-vertices) × Below (most-run-edges + 2) (getD w (found-at + goal) (pos 0))
   grown-mark = (omega (arith, goal-low, d .within .vertices), mark-there c (r .walks) (r .list) w d (r .stands) goal goal-low)
 
   pub stem-start : (mark : ℕ) → getD w (found-at + goal) (pos 0) ≡ pos mark → Stemming c goal mark cycle-at w
@@ -287,7 +275,7 @@ module _ (c : Case) (goal mark at : ℕ) (w : List ℤ) (s : Stemming c goal mar
       start-low : v < c .graph .vertices
       start-low = rw start-is (tip-low c (s .grown) (s .list) w (s .laid) (s .stands) (last .before) (omega (arith, last .lower, s .below)))
 
-      pub stem-mark : Below (most-edges + 2) (getD w (found-at + v) (pos 0))
+      pub stem-mark : Below (most-run-edges + 2) (getD w (found-at + v) (pos 0))
       stem-mark = mark-there c (s .grown) (s .list) w (s .laid) (s .stands) v start-low
 
       pub stem-step : (k : ℕ) → getD w (found-at + v) (pos 0) ≡ pos k → Stemming c goal k (at - 1) (set w (at - 1) (pos (mark - 2)))

@@ -184,7 +184,7 @@ sent-run b k =
       broken = k .broken;
     }
 
-pub sent-rep : (c : Case) (x : State) (k : Run) (w : List ℤ) (e o : ℕ) (b : Bool) → Rep c x k w → e < length (c .graph .edges) → is-some (getD (x .cells) e none) ≡ b
+pub sent-rep : (c : Case) (x : State) (k : Run) (w : List ℤ) (e o : ℕ) (b : Bool) → Rep c x k w → e < c .file-edges → is-some (getD (x .cells) e none) ≡ b
     → Rep c (send e o x) (sent-run b k) (set w (message-at + e) (far (some (lower (getD (x .cells) e none) o))))
 sent-rep c x k w e o b rep below j =
     let q = rep .counted in

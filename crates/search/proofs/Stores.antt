@@ -5,9 +5,10 @@ use mathlib.Core.Option.{Option}
 use Prim.Native.Nat.{ℕ, _+_, _≤_, _<_}
 use native.Mathlib.Omega.{arith}
 use lib.ListN.{length, getD, set, length-set}
+use lib.Seq.{getD-set-other}
 use lib.IntN.{ℤ, pos}
 use Rattle.model.specs.Case.{Case}
-use Rattle.search.specs.Cells.{far, by-more, distance-at, parent-at, link-at, message-at, head-at, tail-at}
+use Rattle.search.specs.Cells.{Region, far, by-more, distance-at, parent-at, link-at, message-at, head-at, tail-at}
 use Rattle.search.specs.Rep.{Laid, Tables, Table, Held}
 use Rattle.search.proofs.Regions.{region-set, region-below, region-above}
 
@@ -28,23 +29,32 @@ table-store {A} {code} {d} {base} {size} {l} {m} {w} {j} {z} t (behind h) f = re
 table-store {A} {code} {d} {base} {size} {l} {m} {w} {j} {z} t (here i a h p q) f =
     rw (p, q) (record { sized = length-set l i a ∙ t .sized; region = region-set code d base l w i a (t .region) (omega (arith, t .sized)) (omega (arith, t .sized)) })
 
--- the case stays under a store behind it
-laid-kept : {c : Case} {w : List ℤ} → Laid c w → (j : ℕ) (z : ℤ) → distance-at ≤ j → Laid c (set w j z)
-laid-kept {c} {w} r j z h =
+region-same : {A : Type 0} (code : A → ℤ) (d : A) (base : ℕ) (l : List A) (w v : List ℤ) → Region code d base l w → ((i : ℕ) → i < length l → getD v (base + i) (pos 0) ≡ getD w (base + i) (pos 0)) → Region code d base l v
+region-same code d base l w v r f = record { each = λ i h. f i h ∙ r .each i h }
+
+-- the case stays where its cells do; so under a store behind it
+pub laid-same : {c : Case} {w v : List ℤ} → Laid c w → length v ≡ length w → ((i : ℕ) → i < distance-at → getD v i (pos 0) ≡ getD w i (pos 0)) → Laid c v
+laid-same {c} {w} {v} r long kept =
     let s = r .sound in
     let l = r .within in
     record {
       sound = s;
       within = l;
-      long = omega (arith, length-set w j z, r .long);
+      long = omega (arith, long, r .long);
       first = r .first;
       firsts = r .firsts;
-      mark-cells = region-above _ _ _ _ _ j z (r .mark-cells) (omega (arith, s .marks, l .vertices));
-      owner-cells = region-above _ _ _ _ _ j z (r .owner-cells) (omega (arith, s .owned, l .vertices));
-      from-cells = region-above _ _ _ _ _ j z (r .from-cells) (omega (arith, l .edges));
-      to-cells = region-above _ _ _ _ _ j z (r .to-cells) (omega (arith, l .edges));
-      first-cells = region-above _ _ _ _ _ j z (r .first-cells) (omega (arith, r .firsts .sized, l .vertices));
+      rest = r .rest;
+      rests = r .rests;
+      mark-cells = region-same _ _ _ _ w v (r .mark-cells) (λ i h. kept _ (omega (arith, s .marks, l .vertices)));
+      owner-cells = region-same _ _ _ _ w v (r .owner-cells) (λ i h. kept _ (omega (arith, s .owned, l .vertices)));
+      from-cells = region-same _ _ _ _ w v (r .from-cells) (λ i h. kept _ (omega (arith, l .edges)));
+      to-cells = region-same _ _ _ _ w v (r .to-cells) (λ i h. kept _ (omega (arith, l .edges)));
+      first-cells = region-same _ _ _ _ w v (r .first-cells) (λ i h. kept _ (omega (arith, r .firsts .sized, l .vertices)));
+      rest-cells = region-same _ _ _ _ w v (r .rest-cells) (λ i h. kept _ (omega (arith, r .rests .sized, l .vertices)));
     }
+
+laid-kept : {c : Case} {w : List ℤ} → Laid c w → (j : ℕ) (z : ℤ) → distance-at ≤ j → Laid c (set w j z)
+laid-kept {c} {w} r j z h = laid-same r (length-set w j z) (λ i g. let n : i ≡ j → ⊥ = λ e. omega arith in getD-set-other w j i z (pos 0) n)
 
 -- the tables with one item changed
 abbrev pub put-depth : Tables → (i : ℕ) → Option ℕ → Tables
@@ -68,7 +78,7 @@ put-tail t i a = record { depths = t .depths; parents = t .parents; links = t .l
 -- one law for all tables
 held-store : {c : Case} {t : Tables} {w : List ℤ} → Held c t w → (u : Tables) (j : ℕ) (z : ℤ) → distance-at ≤ j → Store far distance-at (c .graph .vertices) (t .depths) j z (u .depths)
     → Store by-more parent-at (c .graph .vertices) (t .parents) j z (u .parents) → Store pos link-at (c .graph .vertices) (t .links) j z (u .links)
-    → Store far message-at (length (c .graph .edges)) (t .cells) j z (u .cells) → Store pos head-at (c .workers) (t .heads) j z (u .heads) → Store pos tail-at (c .workers) (t .tails) j z (u .tails)
+    → Store far message-at (c .file-edges) (t .cells) j z (u .cells) → Store pos head-at (c .workers) (t .heads) j z (u .heads) → Store pos tail-at (c .workers) (t .tails) j z (u .tails)
     → Held c u (set w j z)
 held-store {c} {t} {w} h u j z far-off d p n m b e =
     let l = h .laid .within in
@@ -93,7 +103,7 @@ module _ {c : Case} {t : Tables} {w : List ℤ} (h : Held c t w) (i : ℕ) where
   pub held-link : (a : ℕ) → i < c .graph .vertices → Held c (put-link t i a) (set w (link-at + i) (pos a))
   held-link a g = let l = h .laid .within in held-store h (put-link t i a) (link-at + i) (pos a) (omega arith) (before (omega arith)) (before (omega arith)) (here i a g refl refl) (behind (omega arith)) (behind (omega arith)) (behind (omega arith))
 
-  pub held-cell : (a : Option ℕ) → i < length (c .graph .edges) → Held c (put-cell t i a) (set w (message-at + i) (far a))
+  pub held-cell : (a : Option ℕ) → i < c .file-edges → Held c (put-cell t i a) (set w (message-at + i) (far a))
   held-cell a g = let l = h .laid .within in held-store h (put-cell t i a) (message-at + i) (far a) (omega arith) (before (omega arith)) (before (omega arith)) (before (omega arith)) (here i a g refl refl) (behind (omega arith)) (behind (omega arith))
 
   pub held-head : (a : ℕ) → i < c .workers → Held c (put-head t i a) (set w (head-at + i) (pos a))

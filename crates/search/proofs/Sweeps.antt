@@ -11,7 +11,7 @@ use native.Mathlib.Numerals.{add-one}
 use lib.ListN.{length, getD, set, take}
 use lib.Seq.{getD-set-same, getD-set-other, getD-take, length-take-le}
 use lib.IntN.{ℤ}
-use Rattle.model.specs.Graph.{Graph, edge, edge-depth, accepting-count}
+use Rattle.model.specs.Graph.{edge, edge-depth, accepting-count}
 use Rattle.model.specs.Case.{Case, owner, most-acts, Sound}
 use Rattle.model.specs.Run.{State, has-ended, fresh, with-queues, emptied, scan, no-vertex, no-message, depth-or, delivery, act, acted, range, round-acts, rounds, by-rounds, Moment}
 use Rattle.model.proofs.Tools.{member-first, some-not-none, getD-replicate-same, no-cell, no-cells}
@@ -96,10 +96,10 @@ idle-skip c (suc j) k a y h =
     let r : suc (c .workers + a) ≡ c .workers + suc a = omega arith in
     rw (p, q, step-range c (j + k) (c .workers + a) y, idle c a y (h a (omega arith) (omega arith)), r) (idle-skip c j k (suc a) y (λ f l m. h f (omega arith) (omega arith)))
 
-jump : (c : Case) (a b : ℕ) (y : State) → a ≤ b → b ≤ length (c .graph .edges) → ((f : ℕ) → a ≤ f → f < b → getD (y .cells) f none ≡ none)
-    → acted c (range (length (c .graph .edges) - a) (c .workers + a)) y ≡ acted c (range (length (c .graph .edges) - b) (c .workers + b)) y
+jump : (c : Case) (a b : ℕ) (y : State) → a ≤ b → b ≤ c .file-edges → ((f : ℕ) → a ≤ f → f < b → getD (y .cells) f none ≡ none)
+    → acted c (range (c .file-edges - a) (c .workers + a)) y ≡ acted c (range (c .file-edges - b) (c .workers + b)) y
 jump c a b y h g f =
-    let m = length (c .graph .edges) in
+    let m = c .file-edges in
     let p : (b - a) + (m - b) ≡ m - a = omega arith in
     let q : a + (b - a) ≡ b = omega arith in
     rw (p, q) at (idle-skip c (b - a) (m - b) a y (λ i l k. f i l (omega arith)))
@@ -145,10 +145,10 @@ module _ (c : Case) (e : ℕ) (y : State) (l : e < length (y .cells)) where
       go false o (inr n) = sym (others-kept f n) ∙ subst (λ (z : State). getD (z .cells) f none ≡ some d) (delivered o) h
 
 module _ (c : Case) (ok : Sound c) where
-  cells-many : (y : State) → Moment c y → length (y .cells) ≡ length (c .graph .edges)
+  cells-many : (y : State) → Moment c y → length (y .cells) ≡ c .file-edges
   cells-many y m = moment-known c ok y m .paid .shape .cells
 
-  acts-left : (k e : ℕ) (y : State) → Moment c y → e + k ≤ length (c .graph .edges) → (f d : ℕ)
+  acts-left : (k e : ℕ) (y : State) → Moment c y → e + k ≤ c .file-edges → (f d : ℕ)
       → getD (acted c (range k (c .workers + e)) y .cells) f none ≡ some d → getD (y .cells) f none ≡ some d
   acts-left zero e y p h f d g = subst (λ (z : State). getD (z .cells) f none ≡ some d) (none-range c (c .workers + e) y) g
   acts-left (suc k) e y p h f d g =
@@ -157,9 +157,9 @@ module _ (c : Case) (ok : Sound c) where
       (acts-left k (suc e) (act c (c .workers + e) y) (moment-act c (c .workers + e) y p) (omega arith) f d
       (subst (λ (z : State). getD (z .cells) f none ≡ some d) (next-delivery c k e y) g))
 
-  round-is : (x : State) → acted c (round-acts c) x ≡ acted c (range (length (c .graph .edges)) (c .workers)) (acted c (range (c .workers) 0) x)
+  round-is : (x : State) → acted c (round-acts c) x ≡ acted c (range (c .file-edges) (c .workers)) (acted c (range (c .workers) 0) x)
   unfolding round-acts
-  round-is x = split-range c (c .workers) (length (c .graph .edges)) 0 x ∙ rw (zero-add (c .workers))
+  round-is x = split-range c (c .workers) (c .file-edges) 0 x ∙ rw (zero-add (c .workers))
 
 -- TURNS
 scan-leaves : (c : Case) (v d : ℕ) (z : State) (f : ℕ) → (edge (c .graph) f .from ≡ v → ⊥) → getD (scan c v d z .cells) f none ≡ getD (z .cells) f none
@@ -290,17 +290,17 @@ module _ (H : List ℕ) (k : ℕ) (h : k ≤ length H) where
       record { place = a .place; below = omega (arith, a .below, length-take-le k H h); is = getD-take k H (a .place) 0 (a .below) ∙ a .is }
 
 -- FIRST EDGES: they rise, and there is one table of them
-firsts-le : (g : Graph) (F G : List ℕ) (u v : ℕ) → Firsts g F → Firsts g G → u ≤ v → v ≤ g .vertices → getD F u 0 ≤ getD G v 0
-firsts-le g F G u v f k h l = go (below-or (getD G v 0) (getD F u 0))
+firsts-le : (c : Case) (F G : List ℕ) (u v : ℕ) → Firsts c F → Firsts c G → u ≤ v → v ≤ c .graph .vertices → getD F u 0 ≤ getD G v 0
+firsts-le c F G u v f k h l = go (below-or (getD G v 0) (getD F u 0))
   where
     go : (getD G v 0 < getD F u 0) ⊎ (getD F u 0 ≤ getD G v 0) → getD F u 0 ≤ getD G v 0
     go (inl b) =
-        let n : u ≤ g .vertices = omega arith in
+        let n : u ≤ c .graph .vertices = omega arith in
         absurd (omega (arith, f .before u (getD G v 0) n b, k .after v (getD G v 0) l (omega arith) (omega (arith, f .below u n))))
     go (inr b) = b
 
-pub first-same : (g : Graph) (F G : List ℕ) (v : ℕ) → Firsts g F → Firsts g G → v ≤ g .vertices → getD F v 0 ≡ getD G v 0
-first-same g F G v f k l = omega (arith, firsts-le g F G v v f k (omega arith) l, firsts-le g G F v v k f (omega arith) l)
+pub first-same : (c : Case) (F G : List ℕ) (v : ℕ) → Firsts c F → Firsts c G → v ≤ c .graph .vertices → getD F v 0 ≡ getD G v 0
+first-same c F G v f k l = omega (arith, firsts-le c F G v v f k (omega arith) l, firsts-le c G F v v k f (omega arith) l)
 
 -- deliveries on the edges a to b, by their acts' numbers
 pub edges-rep : (c : Case) (x : State) (k : Run) (w : List ℤ) (p a b a′ b′ : ℕ) → p ≡ c .workers → a ≡ a′ → b ≡ b′ → Rep c (acted c (range ((p + b) - (p + a)) (p + a)) x) k w
@@ -321,10 +321,10 @@ pub record Swept (c : Case) (x : State) (F H : List ℕ) (i : ℕ) (k : Run) (w 
   pub top : at ≤ c .graph .vertices + 2
   pub done : (j : ℕ) → j < i → getD H j 0 < at
   pub left : (j : ℕ) → i ≤ j → j < length H → at ≤ getD H j 0
-  pub rest : acted c (range (length (c .graph .edges) - getD F (at - 2) 0) (c .workers + getD F (at - 2) 0)) state ≡ acted c (range (length (c .graph .edges)) (c .workers)) x
+  pub rest : acted c (range (c .file-edges - getD F (at - 2) 0) (c .workers + getD F (at - 2) 0)) state ≡ acted c (range (c .file-edges) (c .workers)) x
 
-module _ (c : Case) (ok : Sound c) (F H : List ℕ) (f : Firsts (c .graph) F) (l : Listed (c .graph .vertices) H (length H)) where
-  only-left : (k e : ℕ) (y : State) → Moment c y → e + k ≤ length (c .graph .edges) → Only c H (length H) y → Only c H (length H) (acted c (range k (c .workers + e)) y)
+module _ (c : Case) (ok : Sound c) (F H : List ℕ) (f : Firsts c F) (l : Listed (c .graph .vertices) H (length H)) where
+  only-left : (k e : ℕ) (y : State) → Moment c y → e + k ≤ c .file-edges → Only c H (length H) y → Only c H (length H) (acted c (range k (c .workers + e)) y)
   unfolding Only
   only-left k e y p h only i d g = only i d (acts-left c ok k e y p h i d g)
 
@@ -337,7 +337,7 @@ module _ (c : Case) (ok : Sound c) (F H : List ℕ) (f : Firsts (c .graph) F) (l
 
   pub sweep-start : (x : State) (k : Run) (w : List ℤ) → Rep c x k w → Moment c x → Only c H (length H) x → Swept c x F H 0 k w
   sweep-start x k w rep p only =
-      let m = length (c .graph .edges) in
+      let m = c .file-edges in
       let i : 2 - 2 ≡ 0 = omega arith in
       let z : m - 0 ≡ m = omega arith in
       record {
@@ -355,7 +355,7 @@ module _ (c : Case) (ok : Sound c) (F H : List ℕ) (f : Firsts (c .graph) F) (l
 
   module _ {x : State} {i : ℕ} {k : Run} {w : List ℤ} (s : Swept c x F H i k w) where
     -- a message that is left stands on an edge of a vertex in the list from i on
-    later : (e d : ℕ) → getD (s .state .cells) e none ≡ some d → getD F (s .at - 2) 0 ≤ e → e < length (c .graph .edges) → (j : ℕ) × (i ≤ j) × (j < length H) × (getD H j 0 ≡ edge (c .graph) e .from + 2)
+    later : (e d : ℕ) → getD (s .state .cells) e none ≡ some d → getD F (s .at - 2) 0 ≤ e → e < c .file-edges → (j : ℕ) × (i ≤ j) × (j < length H) × (getD H j 0 ≡ edge (c .graph) e .from + 2)
     unfolding Only
     later e d q b m =
         let a = s .only e d q in
@@ -388,15 +388,15 @@ module _ (c : Case) (ok : Sound c) (F H : List ℕ) (f : Firsts (c .graph) F) (l
     pub sweep-step : i < length H → {k′ : Run} {w′ : List ℤ}
         → Rep c (acted c (range (getD F (getD H i 0 - 2 + 1) 0 - getD F (getD H i 0 - 2) 0) (c .workers + getD F (getD H i 0 - 2) 0)) (s .state)) k′ w′ → Swept c x F H (i + 1) k′ w′
     sweep-step h rep =
-        let m = length (c .graph .edges) in
+        let m = c .file-edges in
         let v = getD H i 0 - 2 in
         let a = getD F v 0 in
         let b = getD F (v + 1) 0 in
         let y = acted c (range (b - a) (c .workers + a)) (s .state) in
         let two : 2 ≤ getD H i 0 = l .low i h in
         let n : v + 1 ≤ c .graph .vertices = omega (arith, l .high i h) in
-        let start : getD F (s .at - 2) 0 ≤ a = firsts-le (c .graph) F F (s .at - 2) v f f (omega (arith, s .left i (omega arith) h)) (omega arith) in
-        let order : a ≤ b = firsts-le (c .graph) F F v (v + 1) f f (omega arith) n in
+        let start : getD F (s .at - 2) 0 ≤ a = firsts-le c F F (s .at - 2) v f f (omega (arith, s .left i (omega arith) h)) (omega arith) in
+        let order : a ≤ b = firsts-le c F F v (v + 1) f f (omega arith) n in
         let bm : b ≤ m = f .below (v + 1) n in
         let p : (b - a) + (m - b) ≡ m - a = omega arith in
         let q : (c .workers + a) + (b - a) ≡ c .workers + b = omega arith in
@@ -422,9 +422,9 @@ module _ (c : Case) (ok : Sound c) (F H : List ℕ) (f : Firsts (c .graph) F) (l
         past j g (inr e) = omega (arith, l .rising j i (omega (arith, e)) h)
 
     -- what is left is idle
-    sweep-ends : ((e : ℕ) → getD F (s .at - 2) 0 ≤ e → e < length (c .graph .edges) → getD (s .state .cells) e none ≡ none) → Rep c (acted c (range (length (c .graph .edges)) (c .workers)) x) k w
+    sweep-ends : ((e : ℕ) → getD F (s .at - 2) 0 ≤ e → e < c .file-edges → getD (s .state .cells) e none ≡ none) → Rep c (acted c (range (c .file-edges) (c .workers)) x) k w
     sweep-ends g =
-        let m = length (c .graph .edges) in
+        let m = c .file-edges in
         let a = getD F (s .at - 2) 0 in
         let z : m - m ≡ 0 = omega arith in
         let r : s .state ≡ acted c (range m (c .workers)) x =
@@ -432,17 +432,17 @@ module _ (c : Case) (ok : Sound c) (F H : List ℕ) (f : Firsts (c .graph) F) (l
         in
         subst (λ (y : State). Rep c y k w) r (s .rep)
 
-    pub sweep-empty : none-waits k ≡ true → Rep c (acted c (range (length (c .graph .edges)) (c .workers)) x) k w
+    pub sweep-empty : none-waits k ≡ true → Rep c (acted c (range (c .file-edges) (c .workers)) x) k w
     sweep-empty e = sweep-ends (λ j _ _. no-cell (s .state .cells) (none-full c (s .state) k w (s .rep) e) j)
 
-    pub sweep-done : length H ≤ i → Rep c (acted c (range (length (c .graph .edges)) (c .workers)) x) k w
+    pub sweep-done : length H ≤ i → Rep c (acted c (range (c .file-edges) (c .workers)) x) k w
     sweep-done h = sweep-ends (λ e b m. go e b m (getD (s .state .cells) e none) refl)
       where
-        go : (e : ℕ) → getD F (s .at - 2) 0 ≤ e → e < length (c .graph .edges) → (o : Option ℕ) → getD (s .state .cells) e none ≡ o → getD (s .state .cells) e none ≡ none
+        go : (e : ℕ) → getD F (s .at - 2) 0 ≤ e → e < c .file-edges → (o : Option ℕ) → getD (s .state .cells) e none ≡ o → getD (s .state .cells) e none ≡ none
         go e b m none q = q
         go e b m (some d) q = let t = later e d q b m in absurd (omega (arith, t .1, t .2))
 
-pub round-rep : (c : Case) (x : State) (k : Run) (w : List ℤ) → Sound c → Rep c (acted c (range (length (c .graph .edges)) (c .workers)) (acted c (range (c .workers) 0) x)) k w → Rep c (acted c (round-acts c) x) k w
+pub round-rep : (c : Case) (x : State) (k : Run) (w : List ℤ) → Sound c → Rep c (acted c (range (c .file-edges) (c .workers)) (acted c (range (c .workers) 0) x)) k w → Rep c (acted c (round-acts c) x) k w
 round-rep c x k w ok rep = subst (λ (y : State). Rep c y k w) (sym (round-is c ok x)) rep
 
 -- a round that scanned nothing finds nothing that waits
@@ -452,7 +452,7 @@ unfolding Only
 round-ended c ok x H m only empty =
     let y = acted c (range (c .workers) 0) x in
     let o = rules-kept c ok y (moment-acted c (range (c .workers) 0) x m) .empty-always (record { queues = empty; cells = no-cells (y .cells) (λ e. no-one e (getD (y .cells) e none) refl) }) in
-    subst (λ (z : State). has-ended z ≡ true) (sym (round-is c ok x ∙ acted-over c (range (length (c .graph .edges)) (c .workers)) y o)) o
+    subst (λ (z : State). has-ended z ≡ true) (sym (round-is c ok x ∙ acted-over c (range (c .file-edges) (c .workers)) y o)) o
   where
     no-one : (e : ℕ) (s : Option ℕ) → getD (acted c (range (c .workers) 0) x .cells) e none ≡ s → getD (acted c (range (c .workers) 0) x .cells) e none ≡ none
     no-one e none h = h
@@ -521,7 +521,7 @@ module _ (c : Case) (x : State) (many : ℕ) where
       subst (λ (y : State). Rep c y k w) (sym (rounds-none c (u .at)) ∙ ap (λ (j : ℕ). rounds j c (u .at)) (sym i) ∙ u .rest) (u .rep)
 
 pub fresh-empty : (c : Case) → no-message (fresh c .cells) ≡ true
-fresh-empty c = no-cells (fresh c .cells) (λ e. unfold fresh in (getD-replicate-same (length (c .graph .edges)) e none))
+fresh-empty c = no-cells (fresh c .cells) (λ e. unfold fresh in (getD-replicate-same (c .file-edges) e none))
 
 pub by-rounds-rep : (c : Case) (k : Run) (w : List ℤ) (many : ℕ) → many ≡ most-acts c → Rep c (rounds many c (fresh c)) k w → Rep c (by-rounds c) k w
 unfolding by-rounds

@@ -12,9 +12,10 @@ use Rattle.model.specs.Graph.{Graph, edge, mark, edge-depth, edge-length, accep
 use Rattle.model.specs.Case.{Case, owner, most-vertices}
 use Rattle.model.specs.Run.{no-tallies, State, has-ended, is-some, fresh, with-queues, enqueue, lower, send, relax, scan-edge, scan, no-vertex, no-message, turn, delivery, act, acted, range, round-acts, rounds, by-rounds, Moment}
 use Rattle.search.specs.declared.run.Run.{Run}
+use Rattle.search.specs.declared.edges.Range.{Range}
 use Rattle.search.specs.declared.rounds.Turned.{Turned}
 use Rattle.search.specs.Cells.{far, message-at}
-use Rattle.search.specs.Rep.{Firsts, Laid, coded, Rep}
+use Rattle.search.specs.Rep.{Firsts, Own, Laid, coded, Rep}
 
 -- PUSH: a vertex joins the tail of its owner's queue unless it is there
 pub record Push-asks (v : ℕ) (w : List ℤ) : Type 0 where
@@ -77,7 +78,7 @@ pub record Send-asks (e : ℕ) (d : ℤ) (k : Run) (w : List ℤ) : Type 0 where
   pub room : Room 1 k
 
 unfoldable pub Send-says : (e : ℕ) → (d : ℤ) → (k k′ : Run) → (w w′ : List ℤ) → Type 0
-Send-says e d k k′ w w′ = (c : Case) (x : State) (o : ℕ) → Rep c x k w → e < length (c .graph .edges) → d ≡ negℤ (pos o) → Rep c (send e o x) k′ w′
+Send-says e d k k′ w w′ = (c : Case) (x : State) (o : ℕ) → Rep c x k w → e < c .file-edges → d ≡ negℤ (pos o) → Rep c (send e o x) k′ w′
 
 unfoldable pub Relax-says : (e : ℕ) → (d : ℤ) → (k k′ : Run) → (w w′ : List ℤ) → Type 0
 Relax-says e d k k′ w w′ =
@@ -88,6 +89,15 @@ unfoldable pub Edge-says : (e own : ℕ) → (d : ℤ) → (k k′ : Run) → (w
 Edge-says e own d k k′ w w′ =
     (c : Case) (x : State) (v o : ℕ) → Rep c x k w → x .broken ≡ none → e < length (c .graph .edges) → edge (c .graph) e .from ≡ v → owner c v ≡ own →
     d ≡ negℤ (pos (o + edge-depth (c .graph) e)) → Rep c (scan-edge c v o e x) k′ w′
+
+-- THE EDGES of v, as a range of numbers
+pub record Range-asks (v : ℕ) (w : List ℤ) : Type 0 where
+  pub case : Case
+  pub laid : Laid case w
+  pub below : v < case .graph .vertices
+
+unfoldable pub Range-says : (v : ℕ) → (r : Range) → (w : List ℤ) → Type 0
+Range-says v r w = (c : Case) → Laid c w → v < c .graph .vertices → Own c v (r .first) (r .end)
 
 -- A SCAN of v at the distance d
 pub record Scan-asks (v : ℕ) (d : ℤ) (k : Run) (w : List ℤ) : Type 0 where
@@ -134,10 +144,10 @@ pub record Deliver-asks (e : ℕ) (k : Run) (w : List ℤ) : Type 0 where
   pub rep : Rep case state k w
   pub moment : Moment case state
   pub whole : state .broken ≡ none
-  pub below : e < length (case .graph .edges)
+  pub below : e < case .file-edges
 
 unfoldable pub Deliver-says : (e : ℕ) → (k k′ : Run) → (w w′ : List ℤ) → Type 0
-Deliver-says e k k′ w w′ = (c : Case) (x : State) → Rep c x k w → x .broken ≡ none → e < length (c .graph .edges) → Rep c (delivery c e x) k′ w′
+Deliver-says e k k′ w w′ = (c : Case) (x : State) → Rep c x k w → x .broken ≡ none → e < c .file-edges → Rep c (delivery c e x) k′ w′
 
 pub record Act-asks (a p : ℕ) (k : Run) (w : List ℤ) : Type 0 where
   pub case : Case
@@ -145,11 +155,11 @@ pub record Act-asks (a p : ℕ) (k : Run) (w : List ℤ) : Type 0 where
   pub rep : Rep case state k w
   pub moment : Moment case state
   pub workers : p ≡ case .workers
-  pub below : a < p + length (case .graph .edges)
+  pub below : a < p + case .file-edges
 
 unfoldable pub Act-says : (a p : ℕ) → (k k′ : Run) → (w w′ : List ℤ) → Type 0
 Act-says a p k k′ w w′ =
-    (c : Case) (x : State) → Rep c x k w → Moment c x → p ≡ c .workers → a < p + length (c .graph .edges) → Rep c (act c a x) k′ w′
+    (c : Case) (x : State) → Rep c x k w → Moment c x → p ≡ c .workers → a < p + c .file-edges → Rep c (act c a x) k′ w′
 
 -- LENGTHS: r is the length of each edge that leaves a vertex of this mark
 unfoldable pub Length-is : (mark : ℕ) → (r : ℤ) → Type 0
@@ -175,7 +185,7 @@ blank c =
       depths = replicate (c .graph .vertices) none;
       parents = replicate (c .graph .vertices) none;
       queues = replicate (c .workers) [];
-      cells = replicate (length (c .graph .edges)) none;
+      cells = replicate (c .file-edges) none;
       broken = none;
       ended-empty = false;
       count = 0;
@@ -204,11 +214,11 @@ pub record List-asks (p : ℕ) (acts : List ℕ) (k : Run) (w : List ℤ) : Type
   pub rep : Rep case state k w
   pub moment : Moment case state
   pub workers : p ≡ case .workers
-  pub below : (i : ℕ) → i < length acts → getD acts i 0 < p + length (case .graph .edges)
+  pub below : (i : ℕ) → i < length acts → getD acts i 0 < p + case .file-edges
 
 unfoldable pub List-done : (p : ℕ) → (acts : List ℕ) → (k k′ : Run) → (w w′ : List ℤ) → Type 0
 List-done p acts k k′ w w′ =
-    (c : Case) (x : State) → Rep c x k w → Moment c x → p ≡ c .workers → ((i : ℕ) → i < length acts → getD acts i 0 < p + length (c .graph .edges)) → Rep c (acted c acts x) k′ w′
+    (c : Case) (x : State) → Rep c x k w → Moment c x → p ≡ c .workers → ((i : ℕ) → i < length acts → getD acts i 0 < p + c .file-edges) → Rep c (acted c acts x) k′ w′
 
 -- ROUNDS. A number goes to its place among the first of a list, and those from there on move up by one
 pub record Inserted (many h : ℕ) (l l′ : List ℕ) : Type 0 where
@@ -268,7 +278,7 @@ pub record Edges-ask (v p : ℕ) (k : Run) (w : List ℤ) : Type 0 where
 
 unfoldable pub Edges-say : (v p : ℕ) → (k k′ : Run) → (w w′ : List ℤ) → Type 0
 Edges-say v p k k′ w w′ =
-    (c : Case) (x : State) (F : List ℕ) → Rep c x k w → Moment c x → p ≡ c .workers → v < c .graph .vertices → Firsts (c .graph) F →
+    (c : Case) (x : State) (F : List ℕ) → Rep c x k w → Moment c x → p ≡ c .workers → v < c .graph .vertices → Firsts c F →
     Rep c (acted c (range (getD F (v + 1) 0 - getD F v 0) (c .workers + getD F v 0)) x) k′ w′
 
 pub record Sweep-asks (p : ℕ) (heads : List ℕ) (k : Run) (w : List ℤ) : Type 0 where
@@ -283,7 +293,7 @@ pub record Sweep-asks (p : ℕ) (heads : List ℕ) (k : Run) (w : List ℤ) : Ty
 unfoldable pub Sweep-says : (p : ℕ) → (heads : List ℕ) → (k k′ : Run) → (w w′ : List ℤ) → Type 0
 Sweep-says p H k k′ w w′ =
     (c : Case) (x : State) → Rep c x k w → Moment c x → p ≡ c .workers → Listed (c .graph .vertices) H (length H) → Only c H (length H) x →
-    Rep c (acted c (range (length (c .graph .edges)) (c .workers)) x) k′ w′
+    Rep c (acted c (range (c .file-edges) (c .workers)) x) k′ w′
 
 -- the run y after a round; where nothing was scanned it has ended
 pub record Round-leaves (c : Case) (y : State) (t : Turned) (w : List ℤ) : Type 0 where

@@ -7,7 +7,7 @@ use Prim.Native.Nat.{ℕ, suc, _+_, _≤_, _<_}
 use lib.ListN.{length, getD}
 use lib.IntN.{ℤ, pos, negℤ}
 use Rattle.model.specs.Graph.{Edge}
-use Rattle.model.specs.Case.{most-vertices, most-edges, most-workers}
+use Rattle.model.specs.Case.{most-vertices, most-edges, most-run-edges, most-workers}
 
 -- WHERE each table stands, one after the other, as in src/cells.rt
 abbrev pub accepting-at : ℕ
@@ -20,13 +20,16 @@ abbrev pub from-at : ℕ
 from-at = owner-at + most-vertices
 
 abbrev pub to-at : ℕ
-to-at = from-at + most-edges
+to-at = from-at + most-run-edges
 
 abbrev pub first-at : ℕ
-first-at = to-at + most-edges
+first-at = to-at + most-run-edges
+
+abbrev pub rest-at : ℕ
+rest-at = first-at + most-vertices + 1
 
 abbrev pub distance-at : ℕ
-distance-at = first-at + most-vertices + 1
+distance-at = rest-at + most-vertices
 
 abbrev pub parent-at : ℕ
 parent-at = distance-at + most-vertices

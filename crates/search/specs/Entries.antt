@@ -6,7 +6,7 @@ use Prim.Native.Nat.{ℕ, _+_, _<_}
 use lib.ListN.{length}
 use lib.IntN.{ℤ}
 use Rattle.model.specs.Graph.{accepting-count}
-use Rattle.model.specs.CaseFile.{first-of, case-refusal, accepted, case-in}
+use Rattle.model.specs.CaseFile.{first-of, case-refusal, accepted, case-in, run-case}
 use Rattle.model.specs.Answer.{no-verdict}
 use Rattle.model.specs.Entry.{any-at-or-above, acts-refusal}
 use Rattle.model.specs.declared.Outcome.{Outcome}
@@ -24,15 +24,16 @@ refused-by k = record { refusal = k; verdict = no-verdict; acts = 0; written = 0
 unfoldable pub load-refusal : (case acts : List ℕ) → ℕ
 load-refusal bs xs = first-of (case-refusal bs ∷ acts-refusal (case-in bs) xs ∷ [])
 
--- or the text's case stands in the cells, and count of its vertices accept
-pub record Case-laid (bs xs : List ℕ) (c : Case) (count : ℕ) (w v : List ℤ) : Type 0 where
+-- or the case of the text's runs stands in the cells: count of its vertices accept, and it has so many edges
+pub record Case-laid (bs xs : List ℕ) (c : Case) (count edges : ℕ) (w v : List ℤ) : Type 0 where
   pub taken : accepted bs ≡ true
   pub is : c ≡ header bs
   pub in-range : any-at-or-above (c .workers + c .edges) xs ≡ false
-  pub laid : rep.Laid (case-in bs) v
-  pub counted : count ≡ accepting-count (case-in bs .graph)
+  pub laid : rep.Laid (run-case bs) v
+  pub counted : count ≡ accepting-count (run-case bs .graph)
+  pub many : edges ≡ length (run-case bs .graph .edges)
   pub long : length v ≡ length w
 
 abbrev pub Loads : (case acts : List ℕ) → Loaded → (work work-now : List ℤ) → Type 0
 Loads bs xs (Refused k) w v = (load-refusal bs xs ≡ k) × (0 < k) × (v ≡ w)
-Loads bs xs (Laid c n) w v = Case-laid bs xs c n w v
+Loads bs xs (Laid c n m) w v = Case-laid bs xs c n m w v

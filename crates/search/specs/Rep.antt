@@ -7,18 +7,18 @@ use mathlib.Core.Option.{Option, none}
 use Prim.Native.Nat.{ℕ, _+_, _≤_, _<_}
 use lib.ListN.{length, getD}
 use lib.IntN.{ℤ, pos}
-use Rattle.model.specs.Graph.{Edge, Graph, edge, accepting-count}
+use Rattle.model.specs.Graph.{Edge, edge, accepting-count}
 use Rattle.model.specs.Case.{Case, owner, least-work, Sound, Within}
 use Rattle.model.specs.Run.{Tallies, State, member, full-cells}
 use Rattle.model.specs.Promise.{Balanced}
 use Rattle.search.specs.declared.run.Run.{Run}
-use Rattle.search.specs.Cells.{Region, far, more, by-more, by-from, by-to, accepting-at, owner-at, from-at, to-at, first-at, distance-at, parent-at, link-at, message-at, head-at, tail-at}
+use Rattle.search.specs.Cells.{Region, far, more, by-more, by-from, by-to, accepting-at, owner-at, from-at, to-at, first-at, rest-at, distance-at, parent-at, link-at, message-at, head-at, tail-at}
 
 -- THE CASE. An edge that stands past the last one
 abbrev pub no-edge : Edge
 no-edge = record { from = 0; to = 0 }
 
--- edges are sorted by from, and F v is the number of the first edge from v or a later vertex: v's own edges are F v to
+-- file edges are sorted by from, and F v is the number of the first one from v or a later vertex: v's own are F v to
 -- F (v + 1)
 pub record First-edges (from : ℕ → ℕ) (n m : ℕ) (F : List ℕ) : Type 0 where
   pub sized : length F ≡ n + 1
@@ -26,8 +26,22 @@ pub record First-edges (from : ℕ → ℕ) (n m : ℕ) (F : List ℕ) : Type 0 
   pub before : (v e : ℕ) → v ≤ n → e < getD F v 0 → from e < v
   pub after : (v e : ℕ) → v ≤ n → getD F v 0 ≤ e → e < m → v ≤ from e
 
-abbrev pub Firsts : Graph → (F : List ℕ) → Type 0
-Firsts g F = First-edges (λ e. edge g e .from) (g .vertices) (length (g .edges)) F
+abbrev pub Firsts : Case → (F : List ℕ) → Type 0
+Firsts c F = First-edges (λ e. edge (c .graph) e .from) (c .graph .vertices) (c .file-edges) F
+
+-- the edges a to b are those of v
+pub record Own (c : Case) (v a b : ℕ) : Type 0 where
+  pub order : a ≤ b
+  pub below : b ≤ length (c .graph .edges)
+  pub before : (i : ℕ) → i < a → edge (c .graph) i .from ≡ v → ⊥
+  pub after : (i : ℕ) → b ≤ i → i < length (c .graph .edges) → edge (c .graph) i .from ≡ v → ⊥
+  pub inside : (i : ℕ) → a ≤ i → i < b → edge (c .graph) i .from ≡ v
+
+-- a vertex has its file edges, or the one rest loop R v where it has none
+pub record Rests (c : Case) (F R : List ℕ) : Type 0 where
+  pub sized : length R ≡ c .graph .vertices
+  pub goes-on : (v : ℕ) → v < c .graph .vertices → getD F v 0 < getD F (v + 1) 0 → Own c v (getD F v 0) (getD F (v + 1) 0)
+  pub rests : (v : ℕ) → v < c .graph .vertices → getD F (v + 1) 0 ≤ getD F v 0 → Own c v (getD R v 0) (getD R v 0 + 1)
 
 -- a case stands in the cells
 pub record Laid (c : Case) (w : List ℤ) : Type 0 where
@@ -35,12 +49,15 @@ pub record Laid (c : Case) (w : List ℤ) : Type 0 where
   pub within : Within c
   pub long : least-work ≤ length w
   pub first : List ℕ
-  pub firsts : Firsts (c .graph) first
+  pub firsts : Firsts c first
+  pub rest : List ℕ
+  pub rests : Rests c first rest
   pub mark-cells : Region pos 0 accepting-at (c .graph .accepting) w
   pub owner-cells : Region pos 0 owner-at (c .owners) w
   pub from-cells : Region by-from no-edge from-at (c .graph .edges) w
   pub to-cells : Region by-to no-edge to-at (c .graph .edges) w
   pub first-cells : Region pos 0 first-at first w
+  pub rest-cells : Region pos 0 rest-at rest w
 
 -- THE RUN'S TABLES
 pub record Tables : Type 0 where
@@ -62,7 +79,7 @@ pub record Held (c : Case) (t : Tables) (w : List ℤ) : Type 0 where
   pub depths : Table far none distance-at (c .graph .vertices) (t .depths) w
   pub parents : Table by-more none parent-at (c .graph .vertices) (t .parents) w
   pub links : Table pos 0 link-at (c .graph .vertices) (t .links) w
-  pub cells : Table far none message-at (length (c .graph .edges)) (t .cells) w
+  pub cells : Table far none message-at (c .file-edges) (t .cells) w
   pub heads : Table pos 0 head-at (c .workers) (t .heads) w
   pub tails : Table pos 0 tail-at (c .workers) (t .tails) w
 

@@ -8,7 +8,7 @@ use lib.ListN.{length, getD}
 use lib.IntN.{ℤ, pos}
 use Rattle.text.specs.Lines.{fields, text}
 use Rattle.text.specs.Writing.{Puts}
-use Rattle.model.specs.Case.{most-vertices, most-edges}
+use Rattle.model.specs.Case.{most-vertices, most-run-edges}
 use Rattle.model.specs.Answer.{answer-names, head-row, edge-rows, lasso-text, vertex-rows, empty-text}
 use Rattle.model.specs.Entry.{in-front}
 use Rattle.search.specs.Cells.{Region, Below, far, distance-at}
@@ -20,7 +20,7 @@ head-text w s k r = text (fields answer-names ∷ head-row w s k r ∷ [])
 -- EDGES: a number in each of count cells from base on, and the lines of these numbers
 pub record Edges-at (base count : ℕ) (w : List ℤ) : Type 0 where
   pub inside : base + count ≤ length w
-  pub each : (i : ℕ) → i < count → Below most-edges (getD w (base + i) (pos 0))
+  pub each : (i : ℕ) → i < count → Below most-run-edges (getD w (base + i) (pos 0))
 
 pub record Edges-say (at base count r : ℕ) (w : List ℤ) (o z : List ℕ) : Type 0 where
   pub lines : (es : List ℕ) → Region pos 0 base es w → length es ≡ count → Puts at (text (edge-rows es)) r o z

@@ -29,7 +29,7 @@ fn write_head(output: &mut [u8], verdict: &[u8], stem: usize, cycle: usize, reac
     ensures { λ r. ⌜ Puts 0 (head-text (now (verdict .entry)) stem cycle reached) r (now (output .entry)) (now (output .exit)) ⌝ }
 {
     let mut at = write_bytes(output, 0, b"version verdict stem cycle reached\n");
-    at = write_field(output, at, Case::VERSION as usize, b' ');
+    at = write_field(output, at, Case::ANSWER_VERSION as usize, b' ');
     at = write_bytes(output, at, verdict);
     at = write_byte(output, at, b' ');
     at = write_field(output, at, stem, b' ');
@@ -45,7 +45,7 @@ fn write_edges(output: &mut [u8], at: usize, work: &[i32], base: usize, count: u
     let mut here = at;
     let mut i: usize = 0;
     while i < count {
-        let e = load_below(work, base + i, Case::MOST_EDGES);
+        let e = load_below(work, base + i, Case::MOST_RUN_EDGES);
         here = write_field(output, here, e, b'\n');
         i += 1;
     }

@@ -11,19 +11,22 @@ use casefile::Case;
 pub(crate) struct Cells {}
 
 impl Cells {
-    // The case, written once: by vertex its mark and owner; by edge its ends; by vertex its first edge, and one more
-    // for the end.
+    // The case, written once: by vertex its mark and owner; by edge its ends, rest loops included; by vertex its first file
+    // edge, and one more for the end; by vertex the number of its rest loop, if it has one.
     pub const ACCEPTING: usize = 0;
 
     pub const OWNER: usize = Cells::ACCEPTING + Case::MOST_VERTICES;
 
     pub const FROM: usize = Cells::OWNER + Case::MOST_VERTICES;
 
-    pub const TO: usize = Cells::FROM + Case::MOST_EDGES;
+    pub const TO: usize = Cells::FROM + Case::MOST_RUN_EDGES;
 
-    pub const FIRST: usize = Cells::TO + Case::MOST_EDGES;
-    // The run: by vertex its distance, parent edge and queue link; by edge its message; by worker its queue's head and tail.
-    pub const DISTANCE: usize = Cells::FIRST + Case::MOST_VERTICES + 1;
+    pub const FIRST: usize = Cells::TO + Case::MOST_RUN_EDGES;
+
+    pub const REST: usize = Cells::FIRST + Case::MOST_VERTICES + 1;
+    // The run: by vertex its distance, parent edge and queue link; by file edge its message; by worker its queue's head and
+    // tail.
+    pub const DISTANCE: usize = Cells::REST + Case::MOST_VERTICES;
 
     pub const PARENT: usize = Cells::DISTANCE + Case::MOST_VERTICES;
 

@@ -2,6 +2,7 @@
 // `model`'s Entry definitions.
 mod answer;
 mod cells;
+mod edges;
 mod finish;
 mod load;
 mod queue;
@@ -22,6 +23,7 @@ use casefile::Judged;
 use casefile::read_case;
 use finish::finish;
 use load::load_case;
+use load::load_loops;
 use model::Outcome;
 use rounds::run_by_rounds;
 use run::Run;
@@ -67,11 +69,11 @@ fn out_of_range(acts: &[u32], limit: usize) -> bool
     false
 }
 
-// What came of loading: the refusal, with the cells as they were; or the case, which stands in the cells, and how many of
-// its vertices accept.
+// What came of loading: the refusal, with the cells as they were; or the case, which stands in the cells with its rest loops,
+// how many of its vertices accept, and how many edges there are.
 enum Loaded {
     Refused(u32),
-    Laid(Case, usize),
+    Laid(Case, usize, usize),
 }
 
 // Reads a case, tests the acts against it, and loads it into the cells. The tables keep what was read until it is known
@@ -93,7 +95,8 @@ fn load_text(text: &[u8], acts: &[u32], work: &mut [i32]) -> Loaded
             let n = c.vertices;
             let m = c.edges;
             let count = load_case(work, &marks[..n], &owners[..n], &froms[..m], &tos[..m]);
-            Loaded::Laid(c, count)
+            let edges = load_loops(work, n, m);
+            Loaded::Laid(c, count, edges)
         }
     }
 }
@@ -107,7 +110,7 @@ pub fn run_list(case: &[u8], acts: &[u32], output: &mut [u8], work: &mut [i32]) 
     }
     match load_text(case, acts, work) {
         Loaded::Refused(k) => refused(k),
-        Loaded::Laid(c, marks) => {
+        Loaded::Laid(c, marks, _) => {
             let fresh = Run::fresh(work, c.source, marks);
             let run = act_list(work, fresh, acts, c.workers);
             finish(output, work, run, c.workers, c.vertices, c.source)
@@ -124,9 +127,9 @@ pub fn run_rounds(case: &[u8], output: &mut [u8], work: &mut [i32]) -> Outcome
     }
     match load_text(case, &[], work) {
         Loaded::Refused(k) => refused(k),
-        Loaded::Laid(c, marks) => {
+        Loaded::Laid(c, marks, edges) => {
             let fresh = Run::fresh(work, c.source, marks);
-            let run = run_by_rounds(work, fresh, c.workers, c.vertices, c.edges);
+            let run = run_by_rounds(work, fresh, c.workers, c.vertices, edges);
             finish(output, work, run, c.workers, c.vertices, c.source)
         }
     }

@@ -1,8 +1,10 @@
-// Loads a case from its tables into the cells: marks, owners, ends, and each vertex's first edge.
-ghost use Rattle.search.specs.Loading.{Load-asks, Load-says, Rows-ask, Rows-say, Pair-asks, Pair-says, Pairs-ask, Pairs-say};
+// Loads a case from its tables into the cells: marks, owners, ends, each vertex's first edge, and then the rest loops.
+ghost use Rattle.search.specs.Loading.{Load-asks, Load-says, Rows-ask, Rows-say, Pair-asks, Pair-says, Pairs-ask, Pairs-say, Loop-asks, Loop-says, Loops-ask, Loops-say};
 use super::cells::Cells;
 use super::cells::fill_number;
+use super::cells::load_below;
 use super::cells::store_number;
+use casefile::Case;
 
 // Stores the marks and the owners of the vertices, and counts the accepting ones.
 fn load_vertices(work: &mut [i32], marks: &[u32], owners: &[u32]) -> usize
@@ -64,4 +66,34 @@ pub(crate) fn load_case(
     let count = load_vertices(work, marks, owners);
     load_edges(work, froms, tos, marks.len());
     count
+}
+
+// The next rest loop, number k, is vertex v's if it has no file edge: its ends are loaded. Gives the number of the one after.
+fn load_loop(work: &mut [i32], v: usize, k: usize) -> usize
+    requires { ⌜ Loop-asks v k (now work) ⌝ }
+    ensures { λ r. ⌜ Loop-says v k r (now (work .entry)) (now (work .exit)) ⌝ }
+{
+    let first = load_below(work, Cells::FIRST + v, Case::MOST_EDGES + 1);
+    let end = load_below(work, Cells::FIRST + (v + 1), Case::MOST_EDGES + 1);
+    store_number(work, Cells::REST + v, k);
+    if first < end {
+        return k;
+    }
+    store_number(work, Cells::FROM + k, v);
+    store_number(work, Cells::TO + k, v);
+    k + 1
+}
+
+// Loads the rest loops of a case of n vertices and m file edges that stands in the cells. Gives how many edges there are then.
+pub(crate) fn load_loops(work: &mut [i32], n: usize, m: usize) -> usize
+    requires { ⌜ Loops-ask n m (now work) ⌝ }
+    ensures { λ r. ⌜ Loops-say n m r (now (work .entry)) (now (work .exit)) ⌝ }
+{
+    let mut k = m;
+    let mut v: usize = 0;
+    while v < n {
+        k = load_loop(work, v, k);
+        v += 1;
+    }
+    k
 }

@@ -22,6 +22,7 @@ use super::cells::load;
 use super::cells::load_below;
 use super::cells::store;
 use super::cells::store_number;
+use super::edges::edges_of;
 use super::queue::none_queued;
 use super::queue::pop;
 use super::queue::push;
@@ -196,8 +197,9 @@ pub(crate) fn scan(work: &mut [i32], run: Run, v: usize, d: i32) -> Run
 {
     let own = load_below(work, Cells::OWNER + v, Case::MOST_WORKERS);
     let offer = offered(work, v, d);
-    let end = load_below(work, Cells::FIRST + (v + 1), Case::MOST_EDGES + 1);
-    let mut e = load_below(work, Cells::FIRST + v, Case::MOST_EDGES + 1);
+    let edges = edges_of(work, v);
+    let end = edges.end;
+    let mut e = edges.first;
     let mut r = run;
     while e < end {
         if r.broken != NONE {

@@ -12,6 +12,7 @@ use crate::cells::SOME;
 use crate::cells::fill_number;
 use crate::cells::load_below;
 use crate::cells::store_number;
+use crate::edges::edges_of;
 use casefile::Case;
 
 // The parent edge of a vertex that has one.
@@ -19,7 +20,7 @@ pub(crate) fn parent_edge(work: &[i32], v: usize) -> usize
     requires { ⌜ Backable v (now work) ⌝ }
     ensures { λ r. ⌜ Parent-is v r (now (work .entry)) ⌝ }
 {
-    let code = load_below(work, Cells::PARENT + v, Case::MOST_EDGES + SOME);
+    let code = load_below(work, Cells::PARENT + v, Case::MOST_RUN_EDGES + SOME);
     code - SOME
 }
 
@@ -74,7 +75,7 @@ pub(crate) fn try_edge(work: &mut [i32], e: usize, tail: usize) -> usize
     ensures { λ r. ⌜ Tried e tail r (now (work .entry)) (now (work .exit)) ⌝ }
 {
     let v = load_below(work, Cells::TO + e, Case::MOST_VERTICES);
-    let found = load_below(work, Cells::FOUND + v, Case::MOST_EDGES + BY_EDGE);
+    let found = load_below(work, Cells::FOUND + v, Case::MOST_RUN_EDGES + BY_EDGE);
     if found != NOT_FOUND {
         return tail;
     }
@@ -89,8 +90,9 @@ pub(crate) fn scan_head(work: &mut [i32], head: usize, tail: usize) -> usize
     ensures { λ r. ⌜ Scans head tail r (now (work .entry)) (now (work .exit)) ⌝ }
 {
     let v = load_below(work, Cells::QUEUE + head, Case::MOST_VERTICES);
-    let end = load_below(work, Cells::FIRST + v + 1, Case::MOST_EDGES + 1);
-    let mut e = load_below(work, Cells::FIRST + v, Case::MOST_EDGES + 1);
+    let edges = edges_of(work, v);
+    let end = edges.end;
+    let mut e = edges.first;
     let mut last = tail;
     while e < end {
         last = try_edge(work, e, last);
@@ -118,7 +120,7 @@ pub(crate) fn find_stem(work: &mut [i32], source: usize, goal: usize, n: usize)
     let mut head: usize = 0;
     let mut tail: usize = 1;
     while head < tail {
-        if load_below(work, Cells::FOUND + goal, Case::MOST_EDGES + BY_EDGE) != NOT_FOUND {
+        if load_below(work, Cells::FOUND + goal, Case::MOST_RUN_EDGES + BY_EDGE) != NOT_FOUND {
             return;
         }
         tail = scan_head(work, head, tail);
@@ -133,11 +135,11 @@ pub(crate) fn take_stem(work: &mut [i32], goal: usize) -> usize
     ensures { λ r. ⌜ Stem-taken goal r (now (work .entry)) (now (work .exit)) ⌝ }
 {
     let mut at: usize = Cells::CYCLE;
-    let mut found = load_below(work, Cells::FOUND + goal, Case::MOST_EDGES + BY_EDGE);
+    let mut found = load_below(work, Cells::FOUND + goal, Case::MOST_RUN_EDGES + BY_EDGE);
     while found > AT_SOURCE {
         let e = found - BY_EDGE;
         let v = load_below(work, Cells::FROM + e, Case::MOST_VERTICES);
-        found = load_below(work, Cells::FOUND + v, Case::MOST_EDGES + BY_EDGE);
+        found = load_below(work, Cells::FOUND + v, Case::MOST_RUN_EDGES + BY_EDGE);
         at -= 1;
         store_number(work, at, e);
     }

@@ -2,6 +2,7 @@
 use mathlib.Core.Path.{refl, sym, _∙_}
 use Rattle.text.proofs.Tests.{refuted, upheld}
 use Rattle.text.proofs.Reading.{Line-named, named-read, named-other, row5-read, row5-fault}
+use Rattle.model.specs.Case.{known-version}
 use Rattle.model.specs.CaseFile.{head-names, vertex-names}
 use Rattle.casefile.proofs.Whole.{Opened, head-1, head-2, head-3, head-unnamed, head-torn, head-miscounted, head-untitled, head-whole}
 use borrow.Author.Needs.{needs}
@@ -9,7 +10,7 @@ use Rattle.casefile.proofs.read_head.Statement.{statement}
 use Rattle.casefile.proofs.read_head.Tie as tie
 
 -- what is known where line 1's names are to be read, and once they are
-opened : (c : tie.Else3) → Opened (c .before .before .before .before .before .before .before .args .text .now)
+opened : (c : tie.Else3) → Opened known-version (c .before .before .before .before .before .before .before .args .text .now)
 opened c = record { short = c .before .before .before .before .before .if1 .left; begun = sym (c .before .before .before .begins-at .ensures) ∙ upheld _ _ (c .before .before .if2 .left) refl; version = sym (c .before .other-version .ensures) ∙ c .if3 .left }
 
 named : (c : tie.After-second) → Line-named (c .before .before .before .before .before .before .before .before .before .before .before .args .text .now) 0 head-names (c .second .given .0 .0)

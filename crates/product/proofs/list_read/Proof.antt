@@ -1,11 +1,11 @@
 -- `list_read` meets its contract: the case file is written, or 21, and the answer checked.
-use mathlib.Core.Path.{sym}
+use mathlib.Core.Path.{sym, _∙_}
 use Prim.Native.Nat.{ℕ}
 use native.Mathlib.Omega.{arith}
 use lib.ListN.{length-replicate}
 use lib.Seq.{length-take-le}
-use Rattle.model.specs.Case.{longest-file}
-use Rattle.product.proofs.Judged.{list-many, file-fits, check-asked}
+use Rattle.model.specs.Case.{longest-file, most-edges}
+use Rattle.product.proofs.Judged.{list-many, file-fits, edges-fit, check-asked}
 use borrow.Author.Needs.{needs}
 use Rattle.product.proofs.list_read.Statement.{statement}
 use Rattle.product.proofs.list_read.Tie as tie
@@ -37,11 +37,14 @@ array-share-prefix-case c = omega (arith, file-fits (c .before .before .before .
 slice-aggregate-list-checked : tie.Need-slice-aggregate-list-checked
 slice-aggregate-list-checked c = sym (length-take-le _ _ (omega (arith, file-fits (c .before .before .before .before .before .before .before .before .before .before .before .before .before .before .before .before .before .pre) (c .before .before .before .before .before .before .before .write-product .ensures) (c .before .before .n .given .1) (length-replicate {A = ℕ} longest-file 0), c .before .before .before .before .before .before .before .write-product .kept .0, (length-replicate {A = ℕ} longest-file 0))))
 
+array-share-prefix-tos : tie.Need-array-share-prefix-tos
+array-share-prefix-tos c = omega (arith, edges-fit (c .before .before .before .before .before .before .before .before .before .before .before .before .before .before .before .before .before .pre) (c .before .before .before .before .before .before .before .write-product .ensures) (c .before .before .n .given .1) (length-replicate {A = ℕ} longest-file 0), c .before .before .before .before .before .before .before .write-product .kept .1 .1 .1 .1 .1 .1 .0, (length-replicate {A = ℕ} most-edges 0))
+
 slice-aggregate-list-checked-2 : tie.Need-slice-aggregate-list-checked-2
-slice-aggregate-list-checked-2 c = search needs
+slice-aggregate-list-checked-2 c = sym (length-take-le _ _ (omega (arith, edges-fit (c .before .before .before .before .before .before .before .before .before .before .before .before .before .before .before .before .before .before .pre) (c .before .before .before .before .before .before .before .before .write-product .ensures) (c .before .before .before .n .given .1) (length-replicate {A = ℕ} longest-file 0), c .before .before .before .before .before .before .before .before .write-product .kept .1 .1 .1 .1 .1 .1 .0, (length-replicate {A = ℕ} most-edges 0))))
 
 list-checked-requires : tie.Need-list-checked-requires
-list-checked-requires c κs = check-asked (c .before .before .before .before .before .before .before .before .before .before .before .before .before .before .before .before .before .before .before .pre) (c .before .before .before .before .before .before .before .before .before .write-product .ensures) (c .before .before .before .before .n .given .1) (length-replicate {A = ℕ} longest-file 0)
+list-checked-requires c κs = check-asked (c .before .before .before .before .before .before .before .before .before .before .before .before .before .before .before .before .before .before .before .pre) (c .before .before .before .before .before .before .before .before .before .write-product .ensures) (c .before .before .before .before .n .given .1) (length-replicate {A = ℕ} longest-file 0) (c .before .before .before .before .before .before .before .before .before .write-product .kept .1 .1 .1 .1 .1 .1 .0 ∙ length-replicate {A = ℕ} most-edges 0)
 
 returns : tie.Need-returns
 returns c = rw (c .refused .ensures) (list-many (c .before .before .before .before .before .before .before .before .before .before .before .before .before .before .before .before .pre) (c .before .before .before .before .before .before .write-product .ensures) _ (c .before .enum-told .given .1))
@@ -65,6 +68,7 @@ list-read-spec =
     enum-known-n
     array-share-prefix-case
     slice-aggregate-list-checked
+    array-share-prefix-tos
     slice-aggregate-list-checked-2
     list-checked-requires
     returns

@@ -2,7 +2,7 @@
 use mathlib.Core.Path.{sym, _∙_}
 use native.Mathlib.Omega.{arith}
 use lib.Seq.{length-take-le}
-use Rattle.search.proofs.Entries.{text-refused, counts-few, acts-refused, tables-ask, case-laid}
+use Rattle.search.proofs.Entries.{text-refused, counts-few, acts-refused, tables-ask, loops-ask, case-laid}
 use borrow.Author.Needs.{needs}
 use Rattle.search.proofs.load_text.Statement.{statement}
 use Rattle.search.proofs.load_text.Tie as tie
@@ -93,7 +93,17 @@ load-case-requires c κs =
     let accepted = c .before .before .before .before .before .before .before .before .before in
     let read = accepted .before .before .before .before .before .before in
     let s = read .before .before .before .before .before .before .before .pre in
-    tables-ask _ (read .read-case .ensures) (accepted .c .given .1) (omega arith, omega arith) (omega arith, omega arith) (read .read-case .kept .1 .0, read .read-case .kept .1 .1 .0, read .read-case .kept .1 .1 .1 .0, read .read-case .kept .1 .1 .1 .1 .0) s
+    let k = read .read-case .kept .1 in
+    tables-ask _ (read .read-case .ensures) (accepted .c .given .1) (omega arith, omega arith) (omega arith, omega arith) (k .0, k .1 .0, k .1 .1 .0, k .1 .1 .1 .0) s
+
+load-loops-requires : tie.Need-load-loops-requires
+load-loops-requires c κs =
+    let loaded = c .before .before in
+    let accepted = loaded .before .before .before .before .before .before .before .before .before .before in
+    let read = accepted .before .before .before .before .before .before in
+    let s = read .before .before .before .before .before .before .before .pre in
+    let k = read .read-case .kept .1 in
+    loops-ask _ (read .read-case .ensures) (accepted .c .given .1) (omega arith, omega arith) (omega arith, omega arith) (k .0, k .1 .0, k .1 .1 .0, k .1 .1 .1 .0) s (loaded .load-case .ensures)
 
 returns-2 : tie.Need-returns-2
 returns-2 c = text-refused _ (c .before .before .before .before .before .before .before .read-case .ensures .answer) _ _ (c .before .k .given .1)
@@ -103,12 +113,15 @@ same-length c = search needs
 
 returns-3 : tie.Need-returns-3
 returns-3 c =
-    let inside = c .before .before .before .before .before .before .before in
+    let looped = c .before in
+    let loaded = looped .before .before .before in
+    let inside = loaded .before .before .before .before .before .before in
     let ranged = inside .before in
     let accepted = ranged .before .before .before in
     let read = accepted .before .before .before .before .before .before in
     let s = read .before .before .before .before .before .before .before .pre in
-    case-laid _ (read .read-case .ensures) (accepted .c .given .1) (omega arith, omega arith) (omega arith, omega arith) (read .read-case .kept .1 .0, read .read-case .kept .1 .1 .0, read .read-case .kept .1 .1 .1 .0, read .read-case .kept .1 .1 .1 .1 .0) _ (sym (ranged .out-of-range .ensures) ∙ inside .if1 .left) s (c .before .load-case .ensures)
+    let k = read .read-case .kept .1 in
+    case-laid _ (read .read-case .ensures) (accepted .c .given .1) (omega arith, omega arith) (omega arith, omega arith) (k .0, k .1 .0, k .1 .1 .0, k .1 .1 .1 .0) s (loaded .load-case .ensures) _ (sym (ranged .out-of-range .ensures) ∙ inside .if1 .left) (looped .load-loops .ensures) (looped .load-loops .kept .0)
 
 pub load-text-spec : {M : Type 1} → statement M
 load-text-spec =
@@ -133,6 +146,7 @@ load-text-spec =
     array-share-prefix-tos
     slice-aggregate-load-case-4
     load-case-requires
+    load-loops-requires
     returns-2
     same-length
     returns-3)

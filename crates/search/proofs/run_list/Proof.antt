@@ -32,14 +32,14 @@ fresh-requires : tie.Need-fresh-requires
 fresh-requires c κs =
     let laid = c .before .before in
     let loaded = laid .before .before .before in
-    fresh-asks _ _ _ _ _ _ (loads-laid (loaded .load-text .ensures) (laid .c .given .1))
+    fresh-asks _ _ _ _ _ _ _ (loads-laid (loaded .load-text .ensures) (laid .c .given .1))
 
 act-list-requires : tie.Need-act-list-requires
 act-list-requires c κs =
     let begun = c .before .before in
     let laid = begun .before .before .before in
     let loaded = laid .before .before .before in
-    list-asks _ _ _ _ _ _ (loads-laid (loaded .load-text .ensures) (laid .c .given .1)) _ _ (begun .fresh .ensures)
+    list-asks _ _ _ _ _ _ _ (loads-laid (loaded .load-text .ensures) (laid .c .given .1)) _ _ (begun .fresh .ensures)
 
 finish-requires : tie.Need-finish-requires
 finish-requires c κs =
@@ -48,7 +48,7 @@ finish-requires c κs =
     let laid = begun .before .before .before in
     let loaded = laid .before .before .before in
     let roomy = loaded .before .before in
-    list-finish _ _ _ _ _ _ (loads-laid (loaded .load-text .ensures) (laid .c .given .1)) _ _ (begun .fresh .ensures) _ _ _ (sym (roomy .before .too-short .ensures) ∙ roomy .if1 .left) (acted .act-list .ensures)
+    list-finish _ _ _ _ _ _ _ (loads-laid (loaded .load-text .ensures) (laid .c .given .1)) _ _ (begun .fresh .ensures) _ _ _ (sym (roomy .before .too-short .ensures) ∙ roomy .if1 .left) (acted .act-list .ensures)
 
 same-length : tie.Need-same-length
 same-length c = search needs
@@ -74,7 +74,7 @@ returns-3 c =
     let laid = begun .before .before .before in
     let loaded = laid .before .before .before in
     let roomy = loaded .before .before in
-    list-says _ _ _ _ _ _ (loads-laid (loaded .load-text .ensures) (laid .c .given .1)) _ _ (begun .fresh .ensures) _ _ _ (sym (roomy .before .too-short .ensures) ∙ roomy .if1 .left) (acted .act-list .ensures) (finished .finish .ensures) (omega (arith, acted .act-list .kept .0, begun .fresh .kept .0, loaded .load-text .kept .1 .1 .0))
+    list-says _ _ _ _ _ _ _ (loads-laid (loaded .load-text .ensures) (laid .c .given .1)) _ _ (begun .fresh .ensures) _ _ _ (sym (roomy .before .too-short .ensures) ∙ roomy .if1 .left) (acted .act-list .ensures) (finished .finish .ensures) (omega (arith, acted .act-list .kept .0, begun .fresh .kept .0, loaded .load-text .kept .1 .1 .0))
 
 pub run-list-spec : {M : Type 1} → statement M
 run-list-spec =

@@ -40,14 +40,14 @@ fresh-requires : tie.Need-fresh-requires
 fresh-requires c κs =
     let laid = c .before .before in
     let loaded = laid .before .before .before in
-    fresh-asks _ _ _ _ _ _ (loads-laid (loaded .load-text .ensures) (laid .c .given .1))
+    fresh-asks _ _ _ _ _ _ _ (loads-laid (loaded .load-text .ensures) (laid .c .given .1))
 
 run-by-rounds-requires : tie.Need-run-by-rounds-requires
 run-by-rounds-requires c κs =
     let begun = c .before .before in
     let laid = begun .before .before .before in
     let loaded = laid .before .before .before in
-    rounds-asks _ _ _ _ _ _ (loads-laid (loaded .load-text .ensures) (laid .c .given .1)) _ _ (begun .fresh .ensures)
+    rounds-asks _ _ _ _ _ _ _ (loads-laid (loaded .load-text .ensures) (laid .c .given .1)) _ _ (begun .fresh .ensures)
 
 finish-requires : tie.Need-finish-requires
 finish-requires c κs =
@@ -56,7 +56,7 @@ finish-requires c κs =
     let laid = begun .before .before .before in
     let loaded = laid .before .before .before in
     let roomy = loaded .before .before .before in
-    rounds-finish _ _ _ _ _ _ (loads-laid (loaded .load-text .ensures) (laid .c .given .1)) _ _ (begun .fresh .ensures) _ _ _ (sym (roomy .before .too-short .ensures) ∙ roomy .if1 .left) (ran .run-by-rounds .ensures)
+    rounds-finish _ _ _ _ _ _ _ (loads-laid (loaded .load-text .ensures) (laid .c .given .1)) _ _ (begun .fresh .ensures) _ _ _ (sym (roomy .before .too-short .ensures) ∙ roomy .if1 .left) (ran .run-by-rounds .ensures)
 
 same-length : tie.Need-same-length
 same-length c = search needs
@@ -82,7 +82,7 @@ returns-3 c =
     let laid = begun .before .before .before in
     let loaded = laid .before .before .before in
     let roomy = loaded .before .before .before in
-    rounds-say _ _ _ _ _ _ (loads-laid (loaded .load-text .ensures) (laid .c .given .1)) _ _ (begun .fresh .ensures) _ _ _ (sym (roomy .before .too-short .ensures) ∙ roomy .if1 .left) (ran .run-by-rounds .ensures) (finished .finish .ensures) (omega (arith, ran .run-by-rounds .kept .0, begun .fresh .kept .0, loaded .load-text .kept .1 .1 .0))
+    rounds-say _ _ _ _ _ _ _ (loads-laid (loaded .load-text .ensures) (laid .c .given .1)) _ _ (begun .fresh .ensures) _ _ _ (sym (roomy .before .too-short .ensures) ∙ roomy .if1 .left) (ran .run-by-rounds .ensures) (finished .finish .ensures) (omega (arith, ran .run-by-rounds .kept .0, begun .fresh .kept .0, loaded .load-text .kept .1 .1 .0))
 
 pub run-rounds-spec : {M : Type 1} → statement M
 run-rounds-spec =

@@ -15,10 +15,7 @@ enum-told : tie.Need-enum-told
 enum-told c = search needs
 
 returns : tie.Need-returns
-returns c = counts-none _ (row3-fault _ _ (c .before .before .row-of-3 .ensures) (c .enum-told .given .1))
-
-cast-t10 : tie.Need-cast-t10
-cast-t10 c = search needs
+returns c = counts-none _ _ (row3-fault _ _ (c .before .before .row-of-3 .ensures) (c .enum-told .given .1))
 
 cast-t11 : tie.Need-cast-t11
 cast-t11 c = search needs
@@ -26,8 +23,11 @@ cast-t11 c = search needs
 cast-t12 : tie.Need-cast-t12
 cast-t12 c = search needs
 
+cast-t13 : tie.Need-cast-t13
+cast-t13 c = search needs
+
 returns-2 : tie.Need-returns-2
-returns-2 c = counts-some _ (row3-read (c .before .before .before .row-of-3 .ensures) (c .before .stem .given .1))
+returns-2 c = counts-some _ _ (row3-read (c .before .before .before .row-of-3 .ensures) (c .before .stem .given .1))
 
 pub read-counts-spec : {M : Type 1} → statement M
 read-counts-spec =
@@ -37,7 +37,7 @@ read-counts-spec =
     enum-known-stem
     enum-told
     returns
-    cast-t10
     cast-t11
     cast-t12
+    cast-t13
     returns-2)

@@ -15,8 +15,8 @@ use Rattle.checker.proofs.opening.read_head.Tie as tie
 leading-number-requires : tie.Need-leading-number-requires
 leading-number-requires c κs = search needs
 
-enum-known-p : tie.Need-enum-known-p
-enum-known-p c = search needs
+enum-known-version : tie.Need-enum-known-version
+enum-known-version c = search needs
 
 enum-told : tie.Need-enum-told
 enum-told c = search needs
@@ -28,7 +28,7 @@ field-requires : tie.Need-field-requires
 field-requires c κs = search needs
 
 add-end : tie.Need-add-end
-add-end c = omega (arith, ap length (c .field .ensures .bytes), field-low (c .before .before .before .before .before .before .args .text .now) (c .before .before .p .given .0 .1 .0) 18446744073709551615 (omega arith) (omega arith))
+add-end c = omega (arith, ap length (c .field .ensures .bytes), field-low (c .before .before .before .before .before .before .args .text .now) (c .before .before .version .given .0 .1 .0) 18446744073709551615 (omega arith) (omega arith))
 
 slice-aggregate-begins-at : tie.Need-slice-aggregate-begins-at
 slice-aggregate-begins-at c = search needs
@@ -39,7 +39,7 @@ begins-at-requires c κs = search needs
 returns-2 : tie.Need-returns-2
 returns-2 c =
     let word = c .before .before .before in
-    head-unspaced (leading-read (word .before .before .before .before .leading-number .ensures) (word .before .before .p .given .1)) (word .field .ensures .bytes) (sym (c .before .begins-at .ensures) ∙ refuted _ _ (c .if1 .taken) refl)
+    head-unspaced (leading-read (word .before .before .before .before .leading-number .ensures) (word .before .before .version .given .1)) (word .field .ensures .bytes) (sym (c .before .begins-at .ensures) ∙ refuted _ _ (c .if1 .taken) refl)
 
 slice-aggregate-same : tie.Need-slice-aggregate-same
 slice-aggregate-same c = search needs
@@ -50,7 +50,7 @@ same-requires c κs = search needs
 add-read-counts : tie.Need-add-read-counts
 add-read-counts c =
     let word = c .before .before .before .before .before .before in
-    omega (arith, named-end (c .before .before .before .before .before .before .before .before .before .before .before .before .args .text .now) (word .before .before .p .given .0 .1 .0 + length (word .field .result .now)) (ascii " ") (sym (sym (c .before .before .before .before .begins-at .ensures) ∙ upheld _ _ (c .before .before .before .if1 .left) refl)))
+    omega (arith, named-end (c .before .before .before .before .before .before .before .before .before .before .before .before .args .text .now) (word .before .before .version .given .0 .1 .0 + length (word .field .result .now)) (ascii " ") (sym (sym (c .before .before .before .before .begins-at .ensures) ∙ upheld _ _ (c .before .before .before .if1 .left) refl)))
 
 read-counts-requires : tie.Need-read-counts-requires
 read-counts-requires c κs = search needs
@@ -58,7 +58,7 @@ read-counts-requires c κs = search needs
 returns-3 : tie.Need-returns-3
 returns-3 c =
     let word = c .before .before .before .before .before .before .before in
-    c .read-counts .ensures ∙ head-lasso (leading-read (word .before .before .before .before .leading-number .ensures) (word .before .before .p .given .1)) (word .field .ensures .bytes) (sym (c .before .before .before .before .before .begins-at .ensures) ∙ upheld _ _ (c .before .before .before .before .if1 .left) refl) (sym (c .before .before .same .ensures) ∙ c .before .if2 .taken)
+    c .read-counts .ensures ∙ head-lasso (leading-read (word .before .before .before .before .leading-number .ensures) (word .before .before .version .given .1)) (word .field .ensures .bytes) (sym (c .before .before .before .before .before .begins-at .ensures) ∙ upheld _ _ (c .before .before .before .before .if1 .left) refl) (sym (c .before .before .same .ensures) ∙ c .before .if2 .taken)
 
 slice-aggregate-same-2 : tie.Need-slice-aggregate-same-2
 slice-aggregate-same-2 c = search needs
@@ -69,7 +69,7 @@ same-requires-2 c κs = search needs
 add-read-counts-2 : tie.Need-add-read-counts-2
 add-read-counts-2 c =
     let word = c .before .before .before .before .before .before .before .before .before in
-    omega (arith, named-end (c .before .before .before .before .before .before .before .before .before .before .before .before .before .before .before .args .text .now) (word .before .before .p .given .0 .1 .0 + length (word .field .result .now)) (ascii " ") (sym (sym (c .before .before .before .before .before .before .before .begins-at .ensures) ∙ upheld _ _ (c .before .before .before .before .before .before .if1 .left) refl)))
+    omega (arith, named-end (c .before .before .before .before .before .before .before .before .before .before .before .before .before .before .before .args .text .now) (word .before .before .version .given .0 .1 .0 + length (word .field .result .now)) (ascii " ") (sym (sym (c .before .before .before .before .before .before .before .begins-at .ensures) ∙ upheld _ _ (c .before .before .before .before .before .before .if1 .left) refl)))
 
 read-counts-requires-2 : tie.Need-read-counts-requires-2
 read-counts-requires-2 c κs = search needs
@@ -77,19 +77,19 @@ read-counts-requires-2 c κs = search needs
 returns-4 : tie.Need-returns-4
 returns-4 c =
     let word = c .before .before .before .before .before .before .before .before .before .before in
-    c .read-counts2 .ensures ∙ head-empty (leading-read (word .before .before .before .before .leading-number .ensures) (word .before .before .p .given .1)) (word .field .ensures .bytes) (sym (c .before .before .before .before .before .before .before .before .begins-at .ensures) ∙ upheld _ _ (c .before .before .before .before .before .before .before .if1 .left) refl) (sym (c .before .before .before .before .before .same .ensures) ∙ c .before .before .before .before .if2 .left) (sym (c .before .before .same2 .ensures) ∙ c .before .if3 .taken)
+    c .read-counts2 .ensures ∙ head-empty (leading-read (word .before .before .before .before .leading-number .ensures) (word .before .before .version .given .1)) (word .field .ensures .bytes) (sym (c .before .before .before .before .before .before .before .before .begins-at .ensures) ∙ upheld _ _ (c .before .before .before .before .before .before .before .if1 .left) refl) (sym (c .before .before .before .before .before .same .ensures) ∙ c .before .before .before .before .if2 .left) (sym (c .before .before .same2 .ensures) ∙ c .before .if3 .taken)
 
 returns-5 : tie.Need-returns-5
 returns-5 c =
     let word = c .before .before .before .before .before .before .before .before .before in
-    head-neither (leading-read (word .before .before .before .before .leading-number .ensures) (word .before .before .p .given .1)) (word .field .ensures .bytes) (sym (c .before .before .before .before .same .ensures) ∙ c .before .before .before .if2 .left) (sym (c .before .same2 .ensures) ∙ c .if3 .left)
+    head-neither (leading-read (word .before .before .before .before .leading-number .ensures) (word .before .before .version .given .1)) (word .field .ensures .bytes) (sym (c .before .before .before .before .same .ensures) ∙ c .before .before .before .if2 .left) (sym (c .before .same2 .ensures) ∙ c .if3 .left)
 
 pub read-head-spec : {M : Type 1} → statement M
 read-head-spec =
     tie.close
     (tie.spec
     leading-number-requires
-    enum-known-p
+    enum-known-version
     enum-told
     returns
     field-requires

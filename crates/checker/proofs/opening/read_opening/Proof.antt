@@ -3,6 +3,7 @@ use mathlib.Core.Path.{refl, sym, _∙_}
 use Rattle.text.proofs.Tests.{refuted, upheld}
 use Rattle.text.proofs.Reading.{Line-named, named-read, named-other}
 use Rattle.casefile.proofs.Whole.{Opened}
+use Rattle.model.specs.Case.{answer-version}
 use Rattle.model.specs.Answer.{answer-names}
 use Rattle.checker.proofs.Openings.{headed, no-head, too-long, no-version, another-version, unnamed, unheaded, miscounted, says-a-lasso, says-none}
 use borrow.Author.Needs.{needs}
@@ -10,7 +11,7 @@ use Rattle.checker.proofs.opening.read_opening.Statement.{statement}
 use Rattle.checker.proofs.opening.read_opening.Tie as tie
 
 -- what is known where line 1's names are to be read, and once they are
-opened : (c : tie.Else3) → Opened (c .before .before .before .before .before .before .before .args .text .now)
+opened : (c : tie.Else3) → Opened answer-version (c .before .before .before .before .before .before .before .args .text .now)
 opened c = record { short = c .before .before .before .before .before .if1 .left; begun = sym (c .before .before .before .begins-at .ensures) ∙ upheld _ _ (c .before .before .if2 .left) refl; version = sym (c .before .other-version .ensures) ∙ c .if3 .left }
 
 named : (c : tie.After-second) → Line-named (c .before .before .before .before .before .before .before .before .before .before .before .args .text .now) 0 answer-names (c .second .given .0 .0)

@@ -36,17 +36,17 @@ returns c = steps-torn (c .before .before .before .before .loop .inv) (c .before
 write-step-requires : tie.Need-write-step-requires Inv-loop μ-loop
 write-step-requires c κs = search needs
 
-cast-cell : tie.Need-cast-cell Inv-loop μ-loop
-cast-cell c = search needs
+cast-end-of : tie.Need-cast-end-of Inv-loop μ-loop
+cast-end-of c = search needs
 
-cell-requires : tie.Need-cell-requires Inv-loop μ-loop
-cell-requires c κs = search needs
+end-of-requires : tie.Need-end-of-requires Inv-loop μ-loop
+end-of-requires c κs = search needs
 
 loop-less : tie.Need-loop-less Inv-loop μ-loop
 loop-less c = steps-less (c .before .before .before .before .before .before .before .before .before .loop-test .taken) (row1-read (c .before .before .before .before .before .before .before .before .row-of-1 .ensures) (c .before .before .before .before .before .before .e .given .1))
 
 loop-again : tie.Need-loop-again Inv-loop μ-loop
-loop-again c = steps-on (c .before .before .before .before .before .before .before .before .before .before .loop .inv) (c .before .before .before .before .before .before .before .before .before .loop-test .taken) (row1-read (c .before .before .before .before .before .before .before .before .row-of-1 .ensures) (c .before .before .before .before .before .before .e .given .1)) (c .before .before .before .write-step .ensures) (c .before .before .before .write-step .kept .0) (c .cell .ensures)
+loop-again c = steps-on (c .before .before .before .before .before .before .before .before .before .before .loop .inv) (c .before .before .before .before .before .before .before .before .before .loop-test .taken) (row1-read (c .before .before .before .before .before .before .before .before .row-of-1 .ensures) (c .before .before .before .before .before .before .e .given .1)) (c .before .before .before .write-step .ensures) (c .before .before .before .write-step .kept .0) (c .end-of .ensures)
 
 same-length-2 : tie.Need-same-length-2 Inv-loop μ-loop
 same-length-2 c = c .before .loop .inv .kept
@@ -67,8 +67,8 @@ write-steps-spec =
     same-length
     returns
     write-step-requires
-    cast-cell
-    cell-requires
+    cast-end-of
+    end-of-requires
     loop-less
     loop-again
     same-length-2

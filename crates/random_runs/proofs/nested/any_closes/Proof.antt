@@ -5,10 +5,10 @@ use Rattle.random_runs.proofs.nested.any_closes.Statement.{statement}
 use Rattle.random_runs.proofs.nested.any_closes.Tie as tie
 
 abbrev Inv-loop : tie.InvT-loop
-Inv-loop edges marks seen n v₀ v = Unit
+Inv-loop edges marks seen n resting v₀ v = Unit
 
 abbrev μ-loop : tie.MeasureT-loop
-μ-loop edges marks seen n v₀ v = n - v
+μ-loop edges marks seen n resting v₀ v = n - v
 
 loop-holds : tie.Need-loop-holds Inv-loop μ-loop
 loop-holds c = tt

@@ -20,26 +20,26 @@ use Rattle.search.proofs.run.deliver.Reads as deliver-reads
 
 abbrev Inv-loop : tie.InvT-loop
 Inv-loop work₀ v p end e₀ r₀ work e r = (length work ≡ length work₀)
-    × ((c : Case) (x : State) → Rep c x r₀ work₀ → Moment c x → p ≡ c .workers → end ≤ length (c .graph .edges) → Along c x (p + e₀) (p + end) (p + e) r work)
+    × ((c : Case) (x : State) → Rep c x r₀ work₀ → Moment c x → p ≡ c .workers → end ≤ c .file-edges → Along c x (p + e₀) (p + end) (p + e) r work)
 
 abbrev μ-loop : tie.MeasureT-loop
 μ-loop work₀ v p end e₀ r₀ work e r = end - e
 
 -- the numbers that were loaded are the vertex's first edge and the next vertex's
 start-is : (c : tie.After-load-below2 Inv-loop μ-loop) (q : Case) (F : List ℕ) → let a = c .before .before .before .before .args in
-    Laid q (a .work .now) → a .v < q .graph .vertices → Firsts (q .graph) F → c .load-below2 .result ≡ getD F (a .v) 0
+    Laid q (a .work .now) → a .v < q .graph .vertices → Firsts q F → c .load-below2 .result ≡ getD F (a .v) 0
 start-is c q F laid h f =
     let v = c .before .before .before .before .args .v in
     let l : v ≤ q .graph .vertices = omega arith in
-    sym (first-is q _ v laid l _ (c .load-below2 .ensures .0)) ∙ first-same (q .graph) (laid .first) F v (laid .firsts) f l
+    sym (first-is q _ v laid l _ (c .load-below2 .ensures .0)) ∙ first-same q (laid .first) F v (laid .firsts) f l
 
-end-is : (c : tie.After-load-below Inv-loop μ-loop) (q : Case) (F : List ℕ) → Laid q (c .before .before .args .work .now) → c .before .before .args .v < q .graph .vertices → Firsts (q .graph) F → c .load-below .result ≡ getD F (c .before .before .args .v + 1) 0
+end-is : (c : tie.After-load-below Inv-loop μ-loop) (q : Case) (F : List ℕ) → Laid q (c .before .before .args .work .now) → c .before .before .args .v < q .graph .vertices → Firsts q F → c .load-below .result ≡ getD F (c .before .before .args .v + 1) 0
 end-is c q F laid h f =
     let v = c .before .before .args .v in
     let l : v + 1 ≤ q .graph .vertices = omega arith in
-    sym (first-is q _ (v + 1) laid l _ (c .load-below .ensures .0)) ∙ first-same (q .graph) (laid .first) F (v + 1) (laid .firsts) f l
+    sym (first-is q _ (v + 1) laid l _ (c .load-below .ensures .0)) ∙ first-same q (laid .first) F (v + 1) (laid .firsts) f l
 
-end-low : (c : tie.After-load-below Inv-loop μ-loop) (q : Case) → Laid q (c .before .before .args .work .now) → c .before .before .args .v < q .graph .vertices → c .load-below .result ≤ length (q .graph .edges)
+end-low : (c : tie.After-load-below Inv-loop μ-loop) (q : Case) → Laid q (c .before .before .args .work .now) → c .before .before .args .v < q .graph .vertices → c .load-below .result ≤ (q .file-edges)
 end-low c q laid h = omega (arith, end-is c q (laid .first) laid h (laid .firsts), laid .firsts .below (c .before .before .args .v + 1) (omega arith))
 
 add-load-below : tie.Need-add-load-below Inv-loop μ-loop

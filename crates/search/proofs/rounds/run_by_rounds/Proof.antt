@@ -1,4 +1,4 @@
-use Rattle.model.specs.Case.{most-vertices, most-edges}
+use Rattle.model.specs.Case.{most-vertices, most-run-edges}
 use Rattle.model.proofs.ActRules.{moment-fresh}
 use Rattle.model.proofs.Bounds.{most-acts-within}
 use native.Mathlib.Omega.{arith}
@@ -27,7 +27,7 @@ mul-many : tie.Need-mul-many
 mul-many c = let s = c .before .pre in
     let l = s .rep .held .laid in
     rw (many-is (s .case) (c .before .args .n) (c .before .args .m) (c .before .args .run .marks) (s .vertices) (s .edges) (s .rep .counted .marks))
-    (record { fits = omega (arith, most-acts-within (s .case) most-vertices most-edges (l .sound) (l .within .vertices) (l .within .edges)) })
+    (record { fits = omega (arith, most-acts-within (s .case) most-vertices most-run-edges (l .sound) (l .within .vertices) (l .within .edges)) })
 
 rounds-requires : tie.Need-rounds-requires
 rounds-requires c κs = let s = c .before .before .pre in

@@ -16,7 +16,7 @@ use Rattle.search.proofs.rounds.sweep.Tie as tie
 
 abbrev Inv-loop : tie.InvT-loop
 Inv-loop work₀ p heads r₀ i₀ work r i = (i ≤ length heads) × (length work ≡ length work₀)
-    × ((c : Case) (x : State) (F : List ℕ) → Rep c x r₀ work₀ → Moment c x → p ≡ c .workers → Listed (c .graph .vertices) heads (length heads) → Only c heads (length heads) x → Firsts (c .graph) F → Swept c x F heads i r work)
+    × ((c : Case) (x : State) (F : List ℕ) → Rep c x r₀ work₀ → Moment c x → p ≡ c .workers → Listed (c .graph .vertices) heads (length heads) → Only c heads (length heads) x → Firsts c F → Swept c x F heads i r work)
 
 abbrev μ-loop : tie.MeasureT-loop
 μ-loop work₀ p heads r₀ i₀ work r i = length heads - i

@@ -16,7 +16,7 @@ use Rattle.search.proofs.run.act.Reads as act-reads
 
 abbrev Inv-loop : tie.InvT-loop
 Inv-loop work₀ acts p r₀ i₀ work r i = (i ≤ length acts) × (length work ≡ length work₀)
-    × ((c : Case) (x : State) → Rep c x r₀ work₀ → Moment c x → p ≡ c .workers → ((j : ℕ) → j < length acts → getD acts j 0 < p + length (c .graph .edges)) → Onward c x acts i r work)
+    × ((c : Case) (x : State) → Rep c x r₀ work₀ → Moment c x → p ≡ c .workers → ((j : ℕ) → j < length acts → getD acts j 0 < p + c .file-edges) → Onward c x acts i r work)
 
 abbrev μ-loop : tie.MeasureT-loop
 μ-loop work₀ acts p r₀ i₀ work r i = length acts - i

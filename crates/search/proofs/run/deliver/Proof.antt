@@ -2,7 +2,7 @@ use mathlib.Core.Path.{_≡_, sym, ap, _∙_}
 use mathlib.Core.Option.{none, some}
 use Prim.Native.Nat.{ℕ, _<_}
 use native.Mathlib.Omega.{arith}
-use lib.ListN.{length, getD}
+use lib.ListN.{getD}
 use lib.IntN.{pos, negℤ}
 use lib.Signed.{ltZ}
 use mir.Syntax.{w32}
@@ -10,6 +10,7 @@ use mir.Val.{SFits, toZ, ofZ}
 use mir.Facts.{toZ-ofZ}
 use Rattle.model.specs.Case.{Case}
 use Rattle.model.specs.Run.{State, relax}
+use Rattle.model.proofs.Shapes.{file-in}
 use Rattle.search.specs.Asks.{Relax-says, Deliver-says}
 use Rattle.search.specs.Cells.{far}
 use Rattle.search.specs.Rep.{Rep}
@@ -26,24 +27,24 @@ use Rattle.search.proofs.cells.store.Reads as store-reads
 use Rattle.search.proofs.run.missing.Reads as missing-reads
 use Rattle.search.proofs.run.relax.Reads as relax-reads
 
-loaded : (c : tie.After-load) (q : Case) (x : State) → Rep q x (c .before .before .args .run) (c .before .before .args .work .now) → c .before .before .args .e < length (q .graph .edges)
+loaded : (c : tie.After-load) (q : Case) (x : State) → Rep q x (c .before .before .args .run) (c .before .before .args .work .now) → c .before .before .args .e < q .file-edges
     → c .load .result ≡ far (getD (x .cells) (c .before .before .args .e) none)
 loaded c q x rep h = c .load .ensures ∙ there (rep .held .cells) (c .before .before .args .e) h
 
 empty : (c : tie.After-missing) (q : Case) (x : State) → let a = c .before .before .before .args in
-    Rep q x (a .run) (a .work .now) → a .e < length (q .graph .edges)
+    Rep q x (a .run) (a .work .now) → a .e < q .file-edges
     → c .missing .result ≡ ltZ (pos 0) (far (getD (x .cells) (a .e) none))
 empty c q x rep h =
     none-test (c .missing .result) (c .before .load .result) (getD (x .cells) (c .before .before .before .args .e) none) (record { sfits = c .before .load .ok }) (c .missing .ensures) (loaded (c .before) q x rep h)
 
 -- a message waits
 waits : (c : tie.Else1) (q : Case) (x : State) → let a = c .before .before .before .before .args in
-    Rep q x (a .run) (a .work .now) → a .e < length (q .graph .edges)
+    Rep q x (a .run) (a .work .now) → a .e < q .file-edges
     → (o : ℕ) × (getD (x .cells) (a .e) none ≡ some o)
 waits c q x rep h = some-there (getD (x .cells) (c .before .before .before .before .args .e) none) (sym (empty (c .before) q x rep h) ∙ c .if1 .left)
 
 offer-is : (c : tie.Else1) (q : Case) (x : State) → let read = c .before .before in let a = read .before .before .args in
-    (rep : Rep q x (a .run) (a .work .now)) → (h : a .e < length (q .graph .edges))
+    (rep : Rep q x (a .run) (a .work .now)) → (h : a .e < q .file-edges)
     → toZ w32 (ofZ w32 (read .load .result)) ≡ negℤ (pos (waits c q x rep h .0))
 offer-is c q x rep h =
     let f : SFits w32 (c .before .before .load .result) = record { sfits = c .before .before .load .ok } in
@@ -51,7 +52,7 @@ offer-is c q x rep h =
 
 -- the cells once it is emptied
 left : (c : tie.After-store) (q : Case) (x : State) → let a = c .before .before .before .before .before .before .args in
-    (rep : Rep q x (a .run) (a .work .now)) → (h : a .e < length (q .graph .edges))
+    (rep : Rep q x (a .run) (a .work .now)) → (h : a .e < q .file-edges)
     → Rep q (emptied-counted (a .e) x) (emptied-run (a .run)) (c .store .last .0)
 left c q x rep h =
     let waiting = c .before .before in
@@ -61,14 +62,14 @@ left c q x rep h =
 
 -- and the offer relaxed
 relaxed : (c : tie.After-relax) (q : Case) (x : State) → let waiting = c .before .before .before .before .before .before in let a = waiting .before .before .before .before .args in
-    (rep : Rep q x (a .run) (a .work .now)) → x .broken ≡ none → (h : a .e < length (q .graph .edges))
+    (rep : Rep q x (a .run) (a .work .now)) → x .broken ≡ none → (h : a .e < q .file-edges)
     → let e = a .e in Rep q (relax q e (waits waiting q x rep h .0) (emptied-counted e x)) (c .relax .result) (c .relax .last .0)
 unfolding Relax-says
 relaxed c q x rep whole h =
     let stored = c .before .before .before .before in
     let waiting = stored .before .before in
     let a = waiting .before .before .before .before .args in
-    c .relax .ensures q (emptied-counted (a .e) x) (waits waiting q x rep h .0) (left stored q x rep h) whole h (offer-is waiting q x rep h)
+    c .relax .ensures q (emptied-counted (a .e) x) (waits waiting q x rep h .0) (left stored q x rep h) whole (file-in q (rep .held .laid .sound) (a .e) h) (offer-is waiting q x rep h)
 
 add-load : tie.Need-add-load
 add-load c = search needs
@@ -112,7 +113,7 @@ relax-requires c κs =
       state = emptied-counted (start .args .e) (s .state);
       offer = waits waiting (s .case) (s .state) (s .rep) (s .below) .0;
       rep = left stored (s .case) (s .state) (s .rep) (s .below);
-      below = s .below;
+      below = file-in (s .case) (s .rep .held .laid .sound) (start .args .e) (s .below);
       is = offer-is waiting (s .case) (s .state) (s .rep) (s .below);
     }
 

@@ -9,9 +9,9 @@ use mir.Facts.{toZ-ofZ}
 use Rattle.model.specs.Graph.{mark}
 use Rattle.model.specs.Case.{Case, owner}
 use Rattle.model.specs.Run.{State, scan-edge}
-use Rattle.search.specs.Asks.{Room, Offered-is, Edge-says, Scan-says}
-use Rattle.search.specs.Rep.{Laid, Rep}
-use Rattle.search.proofs.Ranges.{first-there, first-is, Own, own-edges, Halfway, half-start, half-step, half-broken, half-done, depth-is, room-step}
+use Rattle.search.specs.Asks.{Room, Range-says, Offered-is, Edge-says, Scan-says}
+use Rattle.search.specs.Rep.{Own, Laid, Rep}
+use Rattle.search.proofs.Ranges.{Halfway, half-start, half-step, half-broken, half-done, depth-is, room-step}
 use Rattle.search.proofs.Steps.{owner-there, owner-is, is-broken, not-broken}
 use borrow.Author.Needs.{needs}
 use Rattle.search.proofs.run.scan.Statement.{statement}
@@ -26,11 +26,10 @@ abbrev μ-loop : tie.MeasureT-loop
 μ-loop work₀ v d own offer end e₀ r₀ work e r = end - e
 
 -- the edges are v's own
-ranged : (c : tie.After-load-below3 Inv-loop μ-loop) (q : Case) → let a = c .before .before .before .before .before .before .before .before .args in
-    Laid q (a .work .now) → a .v < q .graph .vertices → Own q (a .v) (c .load-below3 .result) (c .before .before .load-below2 .result)
-ranged c q laid h =
-    let v = c .before .before .before .before .before .before .before .before .args .v in
-    own-edges q (laid .first) v _ _ (laid .firsts) h (first-is q _ _ laid (omega arith) _ (c .load-below3 .ensures .0)) (first-is q _ _ laid (omega arith) _ (c .before .before .load-below2 .ensures .0))
+ranged : (c : tie.After-edges-of Inv-loop μ-loop) (q : Case) → let a = c .before .before .before .before .before .before .args in
+    Laid q (a .work .now) → a .v < q .graph .vertices → Own q (a .v) (c .edges-of .result .first) (c .edges-of .result .end)
+unfolding Range-says
+ranged c q laid h = c .edges-of .ensures q laid h
 
 -- the offer is the distance and the length of v's edges
 offer-is : (c : tie.After-offered Inv-loop μ-loop) (q : Case) (o : ℕ) → let a = c .before .before .before .before .args in
@@ -42,15 +41,15 @@ fits : (c : tie.After-offered Inv-loop μ-loop) → SFits w32 (c .offered .resul
 fits c = record { sfits = c .offered .ok }
 
 -- what the loop's invariant says of a run
-so-far : (c : tie.At-loop Inv-loop μ-loop) (q : Case) (x : State) (o : ℕ) → let a = c .before .before .before .before .before .before .before .before .before .args in
+so-far : (c : tie.At-loop Inv-loop μ-loop) (q : Case) (x : State) (o : ℕ) → let a = c .before .before .before .before .before .before .before .args in
     Rep q x (a .run) (a .work .now) → a .v < q .graph .vertices → a .d ≡ negℤ (pos o) → Halfway q x (a .v) o (c .loop .e) (c .loop .r) (c .loop .work)
 so-far c q x o rep h d =
-    let read = c .before .before .before .before .before in
+    let read = c .before .before .before in
     c .loop .inv .2 q x o rep (ranged (c .before) q (rep .held .laid) h) (owner-is q _ _ (rep .held .laid) h _ (read .before .before .load-below .ensures .0)) (toZ-ofZ (fits read) ∙ offer-is read q o (rep .held .laid) h d)
 
 -- one edge more
-stepped : (c : tie.After-scan-edge Inv-loop μ-loop) → let loop = c .before .before .before .before .before in let end = loop .before .before .before in let read = end .before .before in let start = read .before .before .before .before in
-    let v = start .args .v in (q : Case) (x : State) (o : ℕ) → (u : Halfway q x v o (loop .loop .e) (loop .loop .r) (loop .loop .work)) → Own q v (loop .before .load-below3 .result) (end .load-below2 .result)
+stepped : (c : tie.After-scan-edge Inv-loop μ-loop) → let loop = c .before .before .before .before .before in let range = loop .before in let read = range .before .before in let start = read .before .before .before .before in
+    let v = start .args .v in (q : Case) (x : State) (o : ℕ) → (u : Halfway q x v o (loop .loop .e) (loop .loop .r) (loop .loop .work)) → Own q v (range .edges-of .result .first) (range .edges-of .result .end)
     → owner q v ≡ read .before .before .load-below .result → toZ w32 (ofZ w32 (read .offered .result)) ≡ negℤ (pos (o + mark (q .graph) v)) → Rep q (scan-edge q v o (loop .loop .e) (u .at)) (c .scan-edge .result) (c .scan-edge .last .0)
 unfolding Edge-says
 stepped c q x o u own p i =
@@ -62,19 +61,19 @@ stepped c q x o u own p i =
     (i ∙ ap (λ (n : ℕ). negℤ (pos (o + n))) (sym (depth-is q _ e from)))
 
 -- and room for the offers of those that are left
-room-left : (c : tie.After-scan-edge Inv-loop μ-loop) → let loop = c .before .before .before .before .before in Room (loop .before .before .before .load-below2 .result - (loop .loop .e + 1)) (c .scan-edge .result)
+room-left : (c : tie.After-scan-edge Inv-loop μ-loop) → let loop = c .before .before .before .before .before in Room (loop .before .edges-of .result .end - (loop .loop .e + 1)) (c .scan-edge .result)
 room-left c =
     let loop = c .before .before .before .before .before in
-    let end = loop .before .before .before in
-    let read = end .before .before in
+    let range = loop .before in
+    let read = range .before .before in
     let start = read .before .before .before .before in
     let s = start .pre in
     let v = start .args .v in
     let laid = s .rep .held .laid in
     let test = c .before .before .before .before .loop-test .taken in
     let u = so-far loop (s .case) (s .state) (s .depth) (s .rep) (s .below) (s .is) in
-    let n = end .load-below2 .result - (loop .loop .e + 1) in
-    let z : end .load-below2 .result - loop .loop .e ≡ n + 1 = omega (arith, test) in
+    let n = range .edges-of .result .end - (loop .loop .e + 1) in
+    let z : range .edges-of .result .end - loop .loop .e ≡ n + 1 = omega (arith, test) in
     room-step v (s .depth) (loop .loop .e) n (u .rep)
     (stepped c (s .case) (s .state) (s .depth) u (ranged (loop .before) (s .case) laid (s .below)) (owner-is (s .case) _ _ laid (s .below) _ (read .before .before .load-below .ensures .0))
     (toZ-ofZ (fits read) ∙ offer-is read (s .case) (s .depth) laid (s .below) (s .is)))
@@ -92,29 +91,11 @@ offered-requires c κs =
     let s = a .pre in
     record { case = s .case; depth = s .depth; laid = s .rep .held .laid; below = s .below; is = toZ-ofZ (a .fits .d) ∙ s .is; low = s .low }
 
-add-load-below-2 : tie.Need-add-load-below-2 Inv-loop μ-loop
-add-load-below-2 c = search needs
-
-add-load-below-3 : tie.Need-add-load-below-3 Inv-loop μ-loop
-add-load-below-3 c = search needs
-
-add-load-below-4 : tie.Need-add-load-below-4 Inv-loop μ-loop
-add-load-below-4 c = search needs
-
-load-below-requires-2 : tie.Need-load-below-requires-2 Inv-loop μ-loop
-load-below-requires-2 c κs = let s = c .before .before .before .before .before .pre in (omega arith, first-there (s .case) _ _ (s .rep .held .laid) (omega (arith, s .below)))
-
-add-load-below-5 : tie.Need-add-load-below-5 Inv-loop μ-loop
-add-load-below-5 c = search needs
-
-add-load-below-6 : tie.Need-add-load-below-6 Inv-loop μ-loop
-add-load-below-6 c = search needs
-
-load-below-requires-3 : tie.Need-load-below-requires-3 Inv-loop μ-loop
-load-below-requires-3 c κs = let s = c .before .before .before .before .before .before .before .pre in (omega arith, first-there (s .case) _ _ (s .rep .held .laid) (omega (arith, s .below)))
+edges-of-requires : tie.Need-edges-of-requires Inv-loop μ-loop
+edges-of-requires c κs = let s = c .before .before .before .before .before .pre in record { case = s .case; laid = s .rep .held .laid; below = s .below }
 
 loop-holds : tie.Need-loop-holds Inv-loop μ-loop
-loop-holds c = let s = c .before .before .before .before .before .before .before .before .pre in
+loop-holds c = let s = c .before .before .before .before .before .before .pre in
     let own = ranged c (s .case) (s .rep .held .laid) (s .below) in
     (own .order, refl, λ q x o rep own p i. half-start q x _ o _ _ own _ _ rep, omega arith, record { sent = omega (arith, own .below, s .room .sent); joined = omega (arith, own .below, s .room .joined) })
 
@@ -130,7 +111,7 @@ returns c = λ q x o rep h d.
 scan-edge-requires : tie.Need-scan-edge-requires Inv-loop μ-loop
 scan-edge-requires c κs =
     let loop = c .before .before .before .before in
-    let read = loop .before .before .before .before .before in
+    let read = loop .before .before .before in
     let start = read .before .before .before .before in
     let s = start .pre in
     let u = so-far loop (s .case) (s .state) (s .depth) (s .rep) (s .below) (s .is) in
@@ -181,13 +162,7 @@ scan-spec =
     add-load-below
     load-below-requires
     offered-requires
-    add-load-below-2
-    add-load-below-3
-    add-load-below-4
-    load-below-requires-2
-    add-load-below-5
-    add-load-below-6
-    load-below-requires-3
+    edges-of-requires
     loop-holds
     same-length
     returns

@@ -6,6 +6,7 @@ use mir.Facts.{toZ-ofZ}
 use Rattle.model.specs.Graph.{edge, edge-depth}
 use Rattle.model.specs.Case.{Case, owner}
 use Rattle.model.specs.Run.{State}
+use Rattle.model.proofs.Shapes.{sent-in}
 use Rattle.search.specs.Asks.{Send-says, Relax-says, Edge-says}
 use Rattle.search.specs.Rep.{Rep}
 use Rattle.search.proofs.Steps.{owner-there, owner-is, target-there, target-is, target-below, edge-own, edge-other}
@@ -79,7 +80,7 @@ returns-2 c = λ q x v o rep whole h from own d.
     let start = owned .before .before .before .before in
     let e = start .args .e in
     rw (edge-other q x e v o whole from (λ i. apart .if1 .left (sym (other-is owned q x rep h) ∙ i ∙ own)))
-    (c .before .send .ensures q x (o + edge-depth (q .graph) e) rep h (toZ-ofZ (start .fits .d) ∙ d))
+    (c .before .send .ensures q x (o + edge-depth (q .graph) e) rep (sent-in q (rep .held .laid .sound) v e h from (λ i. apart .if1 .left (sym (other-is owned q x rep h) ∙ i ∙ own))) (toZ-ofZ (start .fits .d) ∙ d))
 
 pub scan-edge-spec : {M : Type 1} → statement M
 scan-edge-spec =

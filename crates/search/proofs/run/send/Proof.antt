@@ -3,7 +3,7 @@ use mathlib.Core.Bool.{Bool, true, false}
 use mathlib.Core.Option.{none, some}
 use Prim.Native.Nat.{ℕ, _+_, _<_}
 use native.Mathlib.Omega.{arith}
-use lib.ListN.{length, getD, set}
+use lib.ListN.{getD, set}
 use lib.IntN.{pos, negℤ}
 use mir.Facts.{toZ-ofZ}
 use Rattle.model.specs.Case.{Case}
@@ -22,7 +22,7 @@ use Rattle.search.proofs.run.put_offer.Reads as put-offer-reads
 
 -- the offer stands in its cell, and it is known whether it joined
 put : (c : tie.After-put-offer) (q : Case) (x : State) (o : ℕ) → let a = c .before .before .args in
-    Rep q x (a .run) (a .work .now) → a .e < length (q .graph .edges) → a .d ≡ negℤ (pos o)
+    Rep q x (a .run) (a .work .now) → a .e < q .file-edges → a .d ≡ negℤ (pos o)
     → let waiting = getD (x .cells) (a .e) none in (c .put-offer .result ≡ is-some waiting) × (c .put-offer .last .0 ≡ set (a .work .now) (message-at + a .e) (far (some (lower waiting o))))
 unfolding Put-says
 put c q x o rep h d =
@@ -32,7 +32,7 @@ put c q x o rep h d =
 
 -- and is counted
 counted : (c : tie.After-put-offer) (b : Bool) → c .put-offer .result ≡ b → (q : Case) (x : State) (o : ℕ) → let a = c .before .before .args in
-    Rep q x (a .run) (a .work .now) → a .e < length (q .graph .edges) → a .d ≡ negℤ (pos o)
+    Rep q x (a .run) (a .work .now) → a .e < q .file-edges → a .d ≡ negℤ (pos o)
     → Rep q (send (a .e) o x) (sent-run b (a .run)) (c .put-offer .last .0)
 counted c b j q x o rep h d = let p = put c q x o rep h d in
     rw (p .1) (sent-rep q x _ _ (c .before .before .args .e) o b rep h (sym (p .0) ∙ j))

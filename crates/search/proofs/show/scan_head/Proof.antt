@@ -2,15 +2,15 @@
 use mathlib.Core.Path.{_≡_}
 use Prim.Native.Nat.{_-_, _≤_, _<_}
 use native.Mathlib.Omega.{arith}
-use borrow.Author.Needs.{needs}
 use lib.ListN.{length}
 use Rattle.model.specs.Graph.{edge as edge-of}
 use Rattle.model.specs.Case.{Case}
 use Rattle.search.specs.Cells.{found-at}
-use Rattle.search.specs.Rep.{Laid}
+use Rattle.search.specs.Rep.{Own, Laid}
+use Rattle.search.specs.Asks.{Range-says}
 use Rattle.search.specs.Show.{Kept, Searching, Scanning, Tried, Scans}
 use Rattle.search.proofs.Frames.{kept-same, kept-more, laid-kept}
-use Rattle.search.proofs.Search.{head-there, first-there, next-there, scan-start, scan-edge, scan-done}
+use Rattle.search.proofs.Search.{head-there, vertex-low, scan-start, scan-edge, scan-done}
 use Rattle.search.proofs.show.scan_head.Statement.{statement}
 use Rattle.search.proofs.show.scan_head.Tie as tie
 
@@ -30,51 +30,32 @@ load-below-requires c κs =
     let h = head-there _ _ _ _ (s .laid) (s .search) (s .on) in
     (omega (arith, h .0, s .laid .long), h .1)
 
-add-load-below-2 : tie.Need-add-load-below-2 Inv-loop μ-loop
-add-load-below-2 c = omega (arith, c .before .load-below .ensures .1)
+-- v is a vertex
+vertex : (c : tie.After-load-below Inv-loop μ-loop) → let a = c .before .before .args in
+    (q : Case) → Laid q (a .work .now) → Searching q (a .head) 0 (a .tail) (a .work .now) → a .head < a .tail → c .load-below .result < q .graph .vertices
+vertex c q l s i = vertex-low q _ _ _ l s i _ (c .load-below .ensures .0)
 
-add-load-below-3 : tie.Need-add-load-below-3 Inv-loop μ-loop
-add-load-below-3 c = omega (arith, c .before .load-below .ensures .1)
+edges-of-requires : tie.Need-edges-of-requires Inv-loop μ-loop
+edges-of-requires c κs = let s = c .before .before .before .pre in record { case = s .case; laid = s .laid; below = vertex (c .before) (s .case) (s .laid) (s .search) (s .on) }
 
-add-load-below-4 : tie.Need-add-load-below-4 Inv-loop μ-loop
-add-load-below-4 c = search needs
-
-load-below-requires-2 : tie.Need-load-below-requires-2 Inv-loop μ-loop
-load-below-requires-2 c κs =
-    let s = c .before .before .before .pre in
-    let a = c .before .load-below .ensures in
-    (omega (arith, a .1, s .laid .long), next-there _ _ _ _ (s .laid) (s .search) (s .on) _ (a .0))
-
-add-load-below-5 : tie.Need-add-load-below-5 Inv-loop μ-loop
-add-load-below-5 c = omega (arith, c .before .before .before .load-below .ensures .1)
-
-add-load-below-6 : tie.Need-add-load-below-6 Inv-loop μ-loop
-add-load-below-6 c = search needs
-
-load-below-requires-3 : tie.Need-load-below-requires-3 Inv-loop μ-loop
-load-below-requires-3 c κs =
-    let vertex = c .before .before .before in
-    let s = vertex .before .before .pre in
-    let a = vertex .load-below .ensures in
-    (omega (arith, a .1, s .laid .long), first-there _ _ _ _ (s .laid) (s .search) (s .on) _ (a .0))
+own : (c : tie.After-edges-of Inv-loop μ-loop) → let v = c .before .before in let a = v .before .before .args in
+    (q : Case) → Laid q (a .work .now) → Searching q (a .head) 0 (a .tail) (a .work .now) → a .head < a .tail → Own q (v .load-below .result) (c .edges-of .result .first) (c .edges-of .result .end)
+unfolding Range-says
+own c q l s i = c .edges-of .ensures q l (vertex (c .before .before) q l s i)
 
 loop-holds : tie.Need-loop-holds Inv-loop μ-loop
-loop-holds c =
-    let a = c .before .before .before .before .load-below .ensures in
-    (omega arith, kept-same _ _, λ q l s i. scan-start q _ _ _ l s i _ (a .0) _ _ (c .load-below3 .ensures .0) (c .before .before .load-below2 .ensures .0))
+loop-holds c = (omega arith, kept-same _ _, λ q l s i. scan-start q _ _ _ l s i _ (c .before .before .load-below .ensures .0) _ _ (own c q l s i))
 
-edge : (c : tie.In-loop Inv-loop μ-loop) → let vertex = c .before .before .before .before .before .before in let a = vertex .before .before .args in
+edge : (c : tie.In-loop Inv-loop μ-loop) → let v = c .before .before .before .before in let a = v .before .before .args in
     (q : Case) → Laid q (a .work .now) → Searching q (a .head) 0 (a .tail) (a .work .now) → a .head < a .tail →
-    (c .before .loop .e < length (q .graph .edges)) × (edge-of (q .graph) (c .before .loop .e) .from ≡ vertex .load-below .result)
+    (c .before .loop .e < length (q .graph .edges)) × (edge-of (q .graph) (c .before .loop .e) .from ≡ v .load-below .result)
 edge c q l s i =
-    let first = c .before .before in
-    let end = first .before .before in
-    let a = end .before .before .load-below .ensures in
-    scan-edge q _ _ _ l s i _ (a .0) _ _ (first .load-below3 .ensures .0) (end .load-below2 .ensures .0) _ (c .before .loop .inv .0) (c .loop-test .taken)
+    let range = c .before .before in
+    scan-edge q _ _ _ l s i _ (range .before .before .load-below .ensures .0) _ _ (own range q l s i) _ (c .before .loop .inv .0) (c .loop-test .taken)
 
 try-edge-requires : tie.Need-try-edge-requires Inv-loop μ-loop
 try-edge-requires c κs =
-    let s = c .before .before .before .before .before .before .before .before .before .pre in
+    let s = c .before .before .before .before .before .before .before .pre in
     let i = c .before .before .loop .inv in
     let b = edge (c .before) (s .case) (s .laid) (s .search) (s .on) in
     record {
@@ -107,11 +88,9 @@ same-length c = c .before .loop .inv .1 .long
 returns : tie.Need-returns Inv-loop μ-loop
 unfolding Scans
 returns c =
-    let first = c .before .before in
-    let end = first .before .before in
-    let a = end .before .before .load-below .ensures in
+    let range = c .before .before in
     let i = c .before .loop .inv in
-    (i .1, λ q l s h. scan-done q _ _ _ l s h _ (a .0) _ _ (first .load-below3 .ensures .0) (end .load-below2 .ensures .0) _ _ _ (i .2 q l s h) (omega arith))
+    (i .1, λ q l s h. scan-done q _ _ _ l s h _ (range .before .before .load-below .ensures .0) _ _ (own range q l s h) _ _ _ (i .2 q l s h) (omega arith))
 
 pub scan-head-spec : {M : Type 1} → statement M
 scan-head-spec =
@@ -121,13 +100,7 @@ scan-head-spec =
     μ-loop
     add-load-below
     load-below-requires
-    add-load-below-2
-    add-load-below-3
-    add-load-below-4
-    load-below-requires-2
-    add-load-below-5
-    add-load-below-6
-    load-below-requires-3
+    edges-of-requires
     loop-holds
     try-edge-requires
     add-e
