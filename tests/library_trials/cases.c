@@ -27,6 +27,8 @@ static int is_edge(enum shape shape, int from, int to)
         return ahead == 1;
     case KNOT:
         return ahead < 4;
+    case FAN:
+        return from < 4;
     default:
         /* 1,990 edges of up to four ahead, and 10 of five ahead. */
         return to > from && (to - from <= 4 || (to - from == 5 && from < 10));
@@ -34,7 +36,19 @@ static int is_edge(enum shape shape, int from, int to)
 }
 
 /* A lap breaks the floor where it leaves the accepting vertex for the second time, so that one stands before the last. */
-static int is_accepting(enum shape shape, int vertex) { return shape != LAP || vertex == VERTICES - 2; }
+static int is_accepting(enum shape shape, int vertex)
+{
+    switch (shape) {
+    case LAP:
+        return vertex == VERTICES - 2;
+    case FAN:
+        return vertex == VERTICES - 1;
+    case LADDER:
+        return vertex != VERTICES - 1;
+    default:
+        return 1;
+    }
+}
 
 static void write_vertices(struct text *to, enum shape shape)
 {
@@ -63,7 +77,7 @@ void write_case(struct text *to, enum shape shape)
 void write_longest_lasso(struct text *to, int edge)
 {
     to->size = 0;
-    append(to, "version verdict stem cycle reached\n1 lasso %d %d 0\nedge\n", MOST_LISTED, MOST_LISTED);
+    append(to, "version verdict stem cycle reached\n2 lasso %d %d 0\nedge\n", MOST_LISTED, MOST_LISTED);
     for (int line = 0; line < 2 * MOST_LISTED; line++)
         append(to, "%d\n", edge);
 }

@@ -18,8 +18,10 @@ struct text {
 
 /* LAP: a ring of one edge each, one accepting vertex, so that the stem has 499 and the cycle 500 edges.
  * KNOT: four edges from each vertex, one to itself; all accepting, the source last.
- * LADDER: 2,000 edges that only rise, all vertices accepting: empty, with distances down to -499. */
-enum shape { LAP, KNOT, LADDER, SHAPES };
+ * LADDER: 2,000 edges that only rise, all vertices accepting but the last, which rests: empty, with distances down to -499.
+ * FAN: four vertices with an edge to each, and 496 that rest: with their loops 2,496 edges. The last one accepts, by the last
+ * loop. */
+enum shape { LAP, KNOT, LADDER, FAN, SHAPES };
 
 void write_case(struct text *to, enum shape shape);
 

@@ -12,7 +12,7 @@ static const uint32_t acts[] = {0, 2, 1, 3, 0, 4, 1, 3};
 static const char chart[] = "version modes start flags\n1 1 0 1\nname\nHold\nmode care value next\n0 0 0 0\n";
 static const char claim[] = "HOA: v1 States: 1 Start: 0 AP: 1 \"p\" Acceptance: 1 Inf(0) "
                             "--BODY-- State: 0 {0} [t] 0 --END--";
-static const char lasso[] = "version verdict stem cycle reached\n1 lasso 0 1 0\nedge\n0\n";
+static const char lasso[] = "version verdict stem cycle reached\n2 lasso 0 1 0\nedge\n0\n";
 static uint8_t output[REZKUNDO_LEAST_OUTPUT], file[REZKUNDO_LEAST_CASE], steps[REZKUNDO_LEAST_STEPS];
 static int32_t work[REZKUNDO_LEAST_WORK];
 static int trials, faults;

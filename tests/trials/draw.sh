@@ -33,7 +33,20 @@ ends 0 'loopdraw, empty' "$(drawing 'empty: no lasso; below each vertex its dist
     "0 [label=\"0\\n0\" shape=doublecircle $first tooltip=\"vertex 0, owner 0\"]" \
     "1 [label=\"1\\n-1\" $first tooltip=\"vertex 1, owner 0\"]" \
     "2 [label=\"2\" style=\"filled,dashed\" $first tooltip=\"vertex 2, owner 0\"]" \
-    '0 -> 1 [label="0"]' '2 -> 1 [label="1"]')"$'\n' '' "$draw" partly partly.answer
+    '0 -> 1 [label="0"]' '2 -> 1 [label="1"]' '1 -> 1 [label="2" style=dashed]')"$'\n' '' "$draw" partly partly.answer
+file rests "$names"$'1 2 1 0 1\nvertex accepting owner\n0 0 0\n1 1 0\nfrom to\n0 1\n'
+"$find" rests >rests.answer
+landed=(
+    "0 [label=\"0\" $first tooltip=\"vertex 0, owner 0\"]"
+    "1 [label=\"1\" shape=doublecircle $first tooltip=\"vertex 1, owner 0\"]"
+)
+ends 0 'loopdraw, a lasso by a rest loop' "$(drawing 'lasso: stem blue, cycle red' "${landed[@]}" \
+    "0 -> 1 [label=\"0\" $blue]" "1 -> 1 [label=\"1\" $red style=dashed]")"$'\n' '' "$draw" rests rests.answer
+file rests.1 $'version verdict stem cycle reached\n1 empty 0 0 2\nvertex distance\n0 0\n1 0\n'
+ends 0 'loopdraw, an answer of version 1 has no rest loop' "$(drawing 'empty: no lasso; below each vertex its distance' \
+    "0 [label=\"0\\n0\" $first tooltip=\"vertex 0, owner 0\"]" \
+    "1 [label=\"1\\n0\" shape=doublecircle $first tooltip=\"vertex 1, owner 0\"]" \
+    '0 -> 1 [label="0"]')"$'\n' '' "$draw" rests rests.1
 ends 1 'loopdraw, a bad case' '' "loopdraw: case: $twice" "$draw" k11
 ends 1 'loopdraw, a bad case with an answer' '' "loopdraw: case: $twice" "$draw" k11 a1
 ends 1 'loopdraw, a false answer' '' "loopdraw: answer: $(rule 13)"$'\n' "$draw" k2 a1

@@ -66,12 +66,13 @@ steps_fail() { # NAME ERRORS ARGUMENT...
 find_in K1 "$lasso_1" k1
 find_in K2 "$empty_2" k2
 find_in K3 "$lasso_3" k3
-find_in K4 "$source_only" k4
+find_in K4 "$lasso_3" k4
 find_in K5 "$source_only" k5
 find_in K6 "$source_only" k6
 find_in K8 "$lasso_1" k8
 find_in 'K10, of a newer version' $'refused 3\n' k10
 find_in K11 $'refused 8\n' k11
+find_in 'D, three vertices that rest' "$lasso_d" d
 
 # ---- loopfind: files that are cut, too long or at a limit
 
@@ -108,9 +109,13 @@ sized 500 0 1 >vertices.500
 sized 501 0 1 >vertices.501
 sized 500 2001 1 >edges.2001
 sized 500 2000 17 >workers.17
-all_reached=$answers$'1 empty 0 0 500\nvertex distance\n'$(awk 'BEGIN { for (v = 0; v < 500; v++) print v, 0 }')$'\n'
+all_reached=$answers$'2 empty 0 0 500\nvertex distance\n'$(awk 'BEGIN { for (v = 0; v < 500; v++) print v, 0 }')$'\n'
 find_in '500 vertices, 2,000 edges, 16 workers' "$all_reached" full
 find_in '500 vertices, no edge' "$source_only" vertices.500
+sed 's/^499 0 3$/499 1 3/' full >edited
+find_in '2,000 edges and 496 that rest, the last one accepting' "$answers"$'2 lasso 1 1 0\nedge\n499\n2495\n' edited
+sed 's/^0 0 0$/0 1 0/' vertices.500 >edited
+find_in '500 vertices that rest, the source accepting' "$lasso_3" edited
 find_in '501 vertices' $'refused 5\n' vertices.501
 find_in '2,001 edges' $'refused 5\n' edges.2001
 find_in '17 workers' $'refused 5\n' workers.17
@@ -137,8 +142,8 @@ file a3 "$lasso_3"
 check_of 'K1 and its answer' $'pass lasso\n' k1 a1
 check_of 'K2 and its answer' $'pass empty\n' k2 a2
 check_of 'K3 and its answer' $'pass lasso\n' k3 a3
-file longer "$answers"$'1 lasso 3 4 0\nedge\n0\n1\n2\n1\n2\n1\n2\n'
-file raised "$answers"$'1 empty 0 0 3\nvertex distance\n0 7\n1 6\n2 6\n'
+file longer "$answers"$'2 lasso 3 4 0\nedge\n0\n1\n2\n1\n2\n1\n2\n'
+file raised "$answers"$'2 empty 0 0 3\nvertex distance\n0 7\n1 6\n2 6\n'
 check_of 'a longer lasso of another tool' $'pass lasso\n' k1 longer
 check_of 'numbers of another tool' $'pass empty\n' k2 raised
 
@@ -156,8 +161,6 @@ head -c -1 a1 >edited
 check_of 'a torn answer' $'refused 12\n' k1 edited
 { cat a1; echo; } >edited
 check_of 'an empty line at the end' $'refused 12\n' k1 edited
-sed 's/^1 lasso/2 lasso/' a1 >edited
-check_of 'an answer of a newer version' $'refused 3\n' k1 edited
 check_of 'the answer to another case' $'refused 13\n' k2 a1
 check_of 'an empty answer' $'refused 12\n' k1 torn.0
 { cat a1; head -c 65537 /dev/zero; } >edited
@@ -166,7 +169,48 @@ head -c 65536 edited >edited.front
 check_of 'an answer of 65,536 bytes' $'refused 12\n' k1 edited.front
 check_of 'a case too long' $'refused 1\n' long.65537 a1
 check_of 'a bad case before a bad answer' $'refused 8\n' k11 torn.0
-check_of 'the two files swapped' $'refused 4\n' a1 k1
+check_of 'the two files swapped' $'refused 3\n' a1 k1
+
+# ---- loopcheck: versions of answers, and rest loops
+
+in_version() { # VERSION ANSWER: the answer in the file, as one of another version
+    sed "2s/^2 /$1 /" "$2" >edited
+}
+for version in 1 2; do
+    in_version "$version" a1
+    check_of "K1 and its answer of version $version" $'pass lasso\n' k1 edited
+    in_version "$version" a2
+    check_of "K2 and its answer of version $version" $'pass empty\n' k2 edited
+done
+in_version 1 a1
+check_of 'the two files swapped, version 1' $'refused 4\n' edited k1
+for version in 0 3 10 999999999; do
+    in_version "$version" a1
+    check_of "version $version" $'refused 3\n' k1 edited
+done
+for version in 01 02 1000000002 -2 2x ''; do
+    in_version "$version" a1
+    check_of "version '$version', which is no number" $'refused 12\n' k1 edited
+done
+in_both() { # NAME FIRST SECOND CASE COUNTS LINES: what is said of an answer of version 1, and of version 2
+    file edited "${answers}1 $5"$'\n'"$6"
+    check_of "$1, version 1" "$2"$'\n' "$4" edited
+    file edited "${answers}2 $5"$'\n'"$6"
+    check_of "$1, version 2" "$3"$'\n' "$4" edited
+}
+in_both 'K4 and its rest loop' 'refused 13' 'pass lasso' k4 'lasso 0 1 0' $'edge\n0\n'
+in_both 'K4 without its rest loop' 'pass empty' 'refused 13' k4 'empty 0 0 1' $'vertex distance\n0 0\n'
+in_both 'K6, whose source rests' 'pass empty' 'pass empty' k6 'empty 0 0 1' $'vertex distance\n0 0\n'
+in_both 'K6 and a loop that does not accept' 'refused 13' 'refused 13' k6 'lasso 0 1 0' $'edge\n1\n'
+in_both 'D and its answer' 'refused 13' 'pass lasso' d 'lasso 1 1 0' $'edge\n0\n2\n'
+in_both 'D and another loop' 'refused 13' 'refused 13' d 'lasso 1 1 0' $'edge\n0\n3\n'
+in_both 'D and an edge past its loops' 'refused 13' 'refused 13' d 'lasso 1 1 0' $'edge\n0\n4\n'
+in_both 'D and a loop, torn' 'refused 13' 'refused 12' d 'lasso 1 1 0' $'edge\n0\n2\n0'
+in_both 'D without its rest loop' 'pass empty' 'refused 13' d 'empty 0 0 2' $'vertex distance\n1 0\n2 0\n'
+file far.rest "$names"$'1 2 1 0 1\nvertex accepting owner\n0 0 0\n1 1 0\nfrom to\n0 0\n'
+find_in 'one that rests out of reach' "$source_only" far.rest
+in_both 'one that rests out of reach' 'pass empty' 'pass empty' far.rest 'empty 0 0 1' $'vertex distance\n0 0\n'
+in_both 'the same, listed' 'pass empty' 'refused 13' far.rest 'empty 0 0 2' $'vertex distance\n0 0\n1 0\n'
 
 usage=$'usage: loopcheck CASE ANSWER\n'
 check_fails 'no argument' "$usage"
@@ -194,6 +238,8 @@ acts 999999999 >far
 acts 0 1 2 3 4 0 1 2 3 4 0 1 2 3 4 >rounds
 acts 0 >first
 acts 0 3 1 5 0 >joining
+acts 0 0 0 >turns
+acts 0 0 1 >past.k4
 
 done_1=$'refusal 0\nverdict lasso\nacts 8\nsent 4\ndelivered 4\njoined 0\n'$lasso_1
 # What follows the refusal where no act was done.
@@ -205,6 +251,11 @@ list_of 'K2, three rounds' $'refusal 0\nverdict empty\nacts 6\nsent 3\ndelivered
 list_of 'K1, one act too few' $'refusal 10\nverdict none\nacts 7\nsent 4\ndelivered 3\njoined 0\n' k1 short
 list_of 'K1, a message that waits' $'refusal 10\nverdict none\nacts 1\nsent 1\ndelivered 0\njoined 0\n' k1 first
 list_of 'J, an offer that joins' $'refusal 10\nverdict none\nacts 5\nsent 6\ndelivered 2\njoined 1\n' j joining
+list_of 'D, three turns' $'refusal 0\nverdict lasso\nacts 3\nsent 0\ndelivered 0\njoined 0\n'"$lasso_d" d turns
+list_of 'D, one turn' $'refusal 10\nverdict none\nacts 1\nsent 0\ndelivered 0\njoined 0\n' d first
+list_of 'D, a delivery on a rest loop' $'refusal 9\n'"$undone" d k9
+list_of 'K4, two turns' $'refusal 0\nverdict lasso\nacts 2\nsent 0\ndelivered 0\njoined 0\n'"$lasso_3" k4 turns
+list_of 'K4, a delivery on its rest loop' $'refusal 9\n'"$undone" k4 past.k4
 list_of 'K7, no acts' $'refusal 10\n'"$undone" k1 torn.0
 list_of 'K9, one idle act' $'refusal 10\n'"$undone" k1 k9
 list_of 'K1, an act out of range after the end' $'refusal 9\n'"$undone" k1 out
@@ -477,7 +528,7 @@ from to\n0 2\n1 2\n1 3\n2 4\n3 3\n3 4\n4 0\n5 0\n5 5\n' trio waiting 4
 file one "${modes}1 1 0 1"$'\nname\na\n'"$rules"$'0 0 0 0\n'
 for edges in '' '[f] 0' '[0 & !0] 0'; do
     hoa 1 0 1 "State: 0 {0} $edges"$'\n' >dead
-    build_of "a state with '$edges' alone" "${names}1 1 0 0 1"$'\n'"$marks"$'0 1 0\nfrom to\n' one dead 1
+    build_of "a state with '$edges' alone" "${names}1 1 0 0 1"$'\n'"$marks"$'0 0 0\nfrom to\n' one dead 1
 done
 hoa 1 0 1 $'State: 0 [!0] 0 [0] 0 [t] 0 [t] 0\n' >often
 build_of 'an edge that is allowed often' "${names}1 1 1 0 1"$'\n'"$marks"$'0 0 0\nfrom to\n0 0\n' one often 1
@@ -547,7 +598,7 @@ most_vertices=$(awk 'BEGIN {
     for (v = 0; v < 480; v++) print v, (int(v / 15) + 1) % 32 * 15
 }')
 in_reach=$(awk 'BEGIN { for (q = 0; q < 32; q++) print q * 15, 0; print 479, 0 }')$'\n'
-most_reached=$answers$'1 empty 0 0 33\nvertex distance\n'$in_reach
+most_reached=$answers$'2 empty 0 0 33\nvertex distance\n'$in_reach
 build_of '32 × 15 = 480 vertices' "$names$most_vertices"$'\n' ring.32 states.15 16
 "$programs/casebuild" ring.32 states.15 16 >ring.case
 find_in 'a case of 480 vertices' "$most_reached" ring.case
@@ -558,14 +609,16 @@ from to\n0 1\n0 2\n0 3\n1 1\n1 3\n2 1\n2 2\n2 3\n3 1\n3 3\n' duo spaced.16384 1
 # ---- loopsteps: what is listed
 
 lasso_of() { # STEM CYCLE EDGE...: an answer on standard output
-    printf '%s1 lasso %d %d 0\nedge\n' "$answers" "$1" "$2"
+    printf '%s2 lasso %d %d 0\nedge\n' "$answers" "$1" "$2"
     printf '%d\n' "${@:3}"
 }
 file duo.case "$built_2"
-file duo.answer "$answers"$'1 lasso 1 1 0\nedge\n1\n4\n'
-find_in 'the case of an example' "$answers"$'1 lasso 1 1 0\nedge\n1\n4\n' duo.case
+file duo.answer "$answers"$'2 lasso 1 1 0\nedge\n1\n4\n'
+find_in 'the case of an example' "$answers"$'2 lasso 1 1 0\nedge\n1\n4\n' duo.case
 duo_steps=$'Hold watch\nHold 1\n'
 steps_of 'an example' "$duo_steps" duo watch duo.answer
+in_version 1 duo.answer
+steps_of 'an answer of version 1' "$duo_steps" duo watch edited
 lasso_of 3 2 0 0 1 4 4 >edited
 steps_of 'edges that come again' $'Hold watch\nHold watch\nHold watch\nHold 1\nHold 1\n' duo watch edited
 lasso_of 2 2 2 9 10 5 >edited
@@ -575,17 +628,33 @@ steps_of 'starts that are not 0' $'C wait\nA on\nB on\nC on\n' trio waiting edit
 
 # From accepting states the claim goes on to one that is not, and stays there.
 hoa 2 0 2 $'State: 0 {0} [!1] 1\nState: 1 [t] 1\n' >passing
-passed=$answers$'1 empty 0 0 3\nvertex distance\n0 0\n1 -1\n3 -1\n'
+passed=$answers$'2 empty 0 0 3\nvertex distance\n0 0\n1 -1\n3 -1\n'
 file passing.answer "$passed"
 build_of 'a case without a lasso' "${names}1 4 8 0 2"$'\n'"$marks"$'0 1 0\n1 0 1\n2 1 0\n3 0 1
 from to\n0 1\n0 3\n1 1\n1 3\n2 1\n2 3\n3 1\n3 3\n' duo passing 2
 "$programs/casebuild" duo passing 2 >passing.case
 find_in 'the same' "$passed" passing.case
 steps_of 'an empty that passes' '' duo passing passing.answer
-file edited "$answers"$'1 empty 0 0 3\nvertex distance\n0 500\n1 -500\n3 -500\n'
+file edited "$answers"$'2 empty 0 0 3\nvertex distance\n0 500\n1 -500\n3 -500\n'
 steps_of 'numbers of another tool' '' duo passing edited
 file most.reached "$most_reached"
 steps_of 'an empty of 480 vertices' '' ring.32 states.15 most.reached
+
+# State 1 accepts, but there the claim stops: vertices 1 and 3 rest, by edges 8 and 9, and do not accept.
+hoa 2 0 2 $'State: 0 [t] 0 [!1] 1\nState: 1 {0}\n' >stops
+stopped=$answers$'2 empty 0 0 4\nvertex distance\n0 0\n1 0\n2 0\n3 0\n'
+build_of 'a claim that stops' "${names}1 4 8 0 2"$'\n'"$marks"$'0 0 0\n1 0 1\n2 0 0\n3 0 1
+from to\n0 0\n0 1\n0 2\n0 3\n2 0\n2 1\n2 2\n2 3\n' duo stops 2
+"$programs/casebuild" duo stops 2 >stops.case
+find_in 'the same' "$stopped" stops.case
+file stopped "$stopped"
+for version in 1 2; do
+    in_version "$version" stopped
+    steps_of "the same, version $version" '' duo stops edited
+    lasso_of 1 1 1 8 >stopping
+    in_version "$version" stopping
+    steps_of "a loop where the claim stops, version $version" $'refused 13\n' duo stops edited
+done
 
 by_state() { # NAME OUTPUT STATE: what is listed of a, and of a claim of one state with this between its number and its mark
     hoa 1 0 1 "State: 0 $3 {0} [t] 0"$'\n' >stated
@@ -609,9 +678,9 @@ lasso_of 0 15 {0..14} >edited
 steps_of '15 states without names' "$(printf 'a %d\n' {0..14})"$'\n' one numbers edited
 ring 1 1 >wide
 hoa 1 0 1 "State: 0 \"$long_name\" {0} [t] 0"$'\n' >stated
-{ printf '%s1 lasso 500 500 0\nedge\n' "$answers"; same 1000 0; } >edited
+{ printf '%s2 lasso 500 500 0\nedge\n' "$answers"; same 1000 0; } >edited
 steps_of '50,000 bytes' "$(same 1000 "$(printf '%016d' 0) $long_name")"$'\n' wide stated edited
-{ printf '%s1 lasso 501 500 0\nedge\n' "$answers"; same 1001 0; } >edited
+{ printf '%s2 lasso 501 500 0\nedge\n' "$answers"; same 1001 0; } >edited
 steps_of '1,001 edges' $'refused 12\n' wide stated edited
 lasso_of 0 2 9 360 >edited
 steps_of '2,000 edges' $'M0 0\nM0 9\n' next.20 edges.100 edited
@@ -619,7 +688,7 @@ steps_of '2,000 edges' $'M0 0\nM0 9\n' next.20 edges.100 edited
 # ---- casebuild and loopsteps: the examples, as a dealer uses them
 
 photo=$root/examples/photo.chart gusts=$root/examples/claim-gusts-no-photo.hoa
-photo_answer=$answers$'1 lasso 1 2 0\nedge\n2\n10\n5\n'
+photo_answer=$answers$'2 lasso 1 2 0\nedge\n2\n10\n5\n'
 photo_steps=$'Hold watch\nClimb after calm\nHold after wind\n'
 build_and_find() { "$programs/casebuild" "$@" | "$programs/loopfind"; }
 build_of 'the example of docs/FORMATS.md' "$(cat "$root/examples/photo-gusts.case")"$'\n' "$photo" "$gusts" 4
@@ -643,7 +712,7 @@ neither() { # NAME OUTPUT CHART CLAIM
     done
 }
 { cat duo.answer; head -c 65537 /dev/zero; } | head -c 65537 >answer.long
-sed 's/^1 lasso/2 lasso/' duo.answer >answer.newer
+sed 's/^2 lasso/3 lasso/' duo.answer >answer.newer
 sed 's/^4$/5/' duo.answer >answer.false
 
 duo_rules=$'0 1 1 1\n0 1 0 0\n1 1 0 0\n'
@@ -721,17 +790,17 @@ steps_of 'an empty answer' $'refused 12\n' duo watch torn.0
 steps_of '65,537 bytes' $'refused 1\n' duo watch answer.long
 steps_of 'a newer version' $'refused 3\n' duo watch answer.newer
 steps_of 'a cycle that does not come back' $'refused 13\n' duo watch answer.false
-sed 's/^1 lasso/2 lasso/' answer.long >edited
+sed 's/^2 lasso/3 lasso/' answer.long >edited
 answer_of '65,537 bytes of a newer version' 1
 head -c 65536 answer.long >edited
 answer_of '65,536 bytes' 12
-sed 's/^1 lasso/2 lasso/' answer.false >edited
+sed 's/^2 lasso/3 lasso/' answer.false >edited
 answer_of 'a newer version, and a cycle that does not come back' 3
 sed 's/lasso/loop/' answer.newer >edited
 answer_of 'a newer version, and another word' 3
 sed 1s/version/Version/ answer.newer >edited
 answer_of 'a newer version, and other names' 12
-sed 's/^2 lasso/02 lasso/' answer.newer >edited
+sed 's/^3 lasso/02 lasso/' answer.newer >edited
 answer_of 'a version that is no number' 12
 { cat answer.false; echo; } >edited
 answer_of 'a cycle that does not come back, and an empty line' 12
@@ -747,7 +816,7 @@ lasso_of 1 1 4 4 >edited
 answer_of 'a walk from elsewhere' 13
 lasso_of 1 1 0 0 >edited
 answer_of 'a cycle of a state that is not accepting' 13
-file edited "$answers"$'1 empty 0 0 4\nvertex distance\n0 0\n1 0\n2 0\n3 0\n'
+file edited "$answers"$'2 empty 0 0 4\nvertex distance\n0 0\n1 0\n2 0\n3 0\n'
 answer_of 'an empty where there is a lasso' 13
 steps_of 'an empty that leaves a vertex out' $'refused 13\n' duo passing a2
 steps_of 'the answer to another chart' $'refused 13\n' duo passing duo.answer

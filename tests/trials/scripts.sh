@@ -47,8 +47,8 @@ done
 twice=$'the edges do not rise strictly by "from", then by "to"\n'
 ends 1 'bin/loopcheck, the case' $'refused 8\n' "loopcheck: case: $twice" "$check" k11 a1
 ends 1 'bin/looplist, the case' $'refusal 8\n'"$undone" "looplist: case: $twice" "$list" k11 whole
-version=$'the file is of another version than 1, the only one that this tool knows\n'
-sed 's/^1 lasso/2 lasso/' a1 >newer
+version=$(rule 3)$'\n'
+sed 's/^2 lasso/3 lasso/' a1 >newer
 ends 1 'bin/loopcheck, a newer case' $'refused 3\n' "loopcheck: case: $version" "$check" k10 a1
 ends 1 'bin/loopcheck, a newer answer' $'refused 3\n' "loopcheck: answer: $version" "$check" k1 newer
 ends 1 'bin/loopcheck, a newer case and answer' $'refused 3\n' "loopcheck: case: $version" "$check" k10 newer
@@ -340,6 +340,9 @@ ends 0 'examples, its check' $'pass lasso\n' '' "$check" "$example.case" "$examp
 ends 0 'examples, its acts' "$done_1" '' "$list" "$example.case" "$example.acts"
 landed=$root/examples/survey-and-land
 ends 0 'examples, empty' "$(cat "$landed.answer")"$'\n' '' "$find" "$landed.case"
+resting=$root/examples/land-and-rest
+ends 0 'examples, a rest loop' "$(cat "$resting.answer")"$'\n' '' "$find" "$resting.case"
+ends 0 'examples, its check' $'pass lasso\n' '' "$check" "$resting.case" "$resting.answer"
 ends 1 'examples, refused' $'refused 8\n' "loopfind: case: $twice" "$find" "$root/examples/edge-twice.case"
 "$root/examples/large" >field.case
 "$find" field.case >field.answer

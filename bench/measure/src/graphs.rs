@@ -16,6 +16,15 @@ const LONG_RING: usize = MOST_VERTICES / 2;
 
 type Edges = Vec<(usize, usize)>;
 
+/// Edges, how many vertices can be reached by them, the first ones, and which
+/// may accept: by whether no edge leaves them, and whether they can be reached.
+struct Shape {
+    name: &'static str,
+    edges: Edges,
+    reachable: usize,
+    may_accept: fn(bool, bool) -> bool,
+}
+
 /// A case with a name for the table.
 pub struct Example {
     pub name: &'static str,
@@ -25,26 +34,13 @@ pub struct Example {
 /// Every example, each with few and many workers.
 pub fn examples() -> Vec<Example> {
     let mut rng = Rng::new(SEED);
-    let shapes = [
-        ("sparse, lasso", ring_with_chords(&mut rng), MOST_VERTICES),
-        ("sparse, empty", rising_line(&mut rng), MOST_VERTICES),
-        (
-            "dense, lasso",
-            first_pairs(DENSE_CYCLIC, |_, _| true),
-            DENSE_CYCLIC,
-        ),
-        (
-            "dense, empty",
-            first_pairs(DENSE_RISING, |from, to| from < to),
-            DENSE_RISING,
-        ),
-    ];
     let mut examples = Vec::new();
-    for (name, edges, reachable) in shapes {
+    for shape in shapes(&mut rng) {
         for accepting in [1, 50, MOST_VERTICES] {
-            let marks = marks(&mut rng, accepting, reachable);
+            let marks = marks(&mut rng, accepting, &shape);
             for workers in [1, 16] {
-                examples.push(example(name, edges.clone(), marks.clone(), workers));
+                let edges = shape.edges.clone();
+                examples.push(example(shape.name, edges, marks.clone(), workers));
             }
         }
     }
@@ -52,6 +48,29 @@ pub fn examples() -> Vec<Example> {
         examples.push(long_laps(workers));
     }
     examples
+}
+
+/// In an empty one no vertex that can be reached rests accepting; in the last one
+/// only those that rest accept, so that the lasso is a rest loop.
+fn shapes(rng: &mut Rng) -> [Shape; 5] {
+    let shape = |name, edges, reachable, may_accept| Shape {
+        name,
+        edges,
+        reachable,
+        may_accept,
+    };
+    let dense = first_pairs(DENSE_CYCLIC, |_, _| true);
+    let dense_rising = first_pairs(DENSE_RISING, |from, to| from < to);
+    let fan = first_pairs(MOST_VERTICES, |_, _| true);
+    let any: fn(bool, bool) -> bool = |_, _| true;
+    let no_lasso: fn(bool, bool) -> bool = |rests, reached| !(rests && reached);
+    [
+        shape("sparse, lasso", ring_with_chords(rng), MOST_VERTICES, any),
+        shape("sparse, empty", rising_line(rng), MOST_VERTICES, no_lasso),
+        shape("dense, lasso", dense, DENSE_CYCLIC, any),
+        shape("dense, empty", dense_rising, DENSE_RISING, no_lasso),
+        shape("fan, lasso", fan, MOST_VERTICES, |rests, _| rests),
+    ]
 }
 
 fn example(name: &'static str, edges: Edges, accepting: Vec<bool>, workers: usize) -> Example {
@@ -69,23 +88,28 @@ fn example(name: &'static str, edges: Edges, accepting: Vec<bool>, workers: usiz
 }
 
 /// So many accepting vertices, as many of them as can be among those that can
-/// be reached, and none of them the source unless all are.
-fn marks(rng: &mut Rng, accepting: usize, reachable: usize) -> Vec<bool> {
+/// be reached, and none of them the source; or all that may accept.
+fn marks(rng: &mut Rng, accepting: usize, shape: &Shape) -> Vec<bool> {
+    let may_accept = |vertex| {
+        let rests = shape.edges.iter().all(|&(from, _)| from != vertex);
+        (shape.may_accept)(rests, vertex < shape.reachable)
+    };
+    if accepting == MOST_VERTICES {
+        return (0..MOST_VERTICES).map(may_accept).collect();
+    }
+    let in_reach = (1..shape.reachable).filter(|&v| may_accept(v)).count();
     let mut marks = vec![false; MOST_VERTICES];
-    let mut left = accepting;
-    while left > 0 {
-        let marked = accepting - left;
-        let limit = if marked + 1 < reachable {
-            reachable
+    for marked in 0..accepting {
+        let limit = if marked < in_reach {
+            shape.reachable
         } else {
             MOST_VERTICES
         };
-        let vertex = rng.below(limit);
-        let allowed = vertex != 0 || accepting == MOST_VERTICES;
-        if allowed && !marks[vertex] {
-            marks[vertex] = true;
-            left -= 1;
+        let mut vertex = 0;
+        while vertex == 0 || marks[vertex] || !may_accept(vertex) {
+            vertex = rng.below(limit);
         }
+        marks[vertex] = true;
     }
     marks
 }

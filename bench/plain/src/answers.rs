@@ -18,11 +18,25 @@ const FALSE: u32 = 13;
 const NONE: i32 = i32::MAX;
 
 /// What an answer is about.
+#[derive(Clone)]
 pub struct Graph {
     pub source: usize,
     pub accepting: Vec<bool>,
     /// From and to.
     pub edges: Vec<(u16, u16)>,
+}
+
+impl Graph {
+    /// Gives each vertex that no edge leaves a loop.
+    fn rest(&mut self) {
+        let mut left = vec![false; self.accepting.len()];
+        for &(from, _) in &self.edges {
+            left[usize::from(from)] = true;
+        }
+        let resting = (0..left.len()).filter(|&vertex| !left[vertex]);
+        self.edges
+            .extend(resting.map(|vertex| (vertex as u16, vertex as u16)));
+    }
 }
 
 /// What a passing answer shows.
@@ -33,25 +47,33 @@ pub enum Shown {
     Empty,
 }
 
+/// The newest version, which is about the graph with its rest loops.
+const NEWEST: u8 = b'2';
+
 /// The numbers of line 2, which suit the verdict.
 enum Counts {
     Lasso { stem: usize, cycle: usize },
     Empty { reached: usize },
 }
 
-/// Checks an answer to a graph: what it shows, or the number of its refusal.
-pub fn check(graph: &Graph, text: &[u8]) -> Result<Shown, u32> {
+/// Checks an answer to a graph of a file: what it shows, or the number of its
+/// refusal. The graph is left with its rest loops if the answer is about them.
+pub fn check(graph: &mut Graph, text: &[u8]) -> Result<Shown, u32> {
     if text.len() > LONGEST_FILE {
         return Err(TOO_LONG);
     }
     if !text.starts_with(VERSION_WORD) {
         return Err(LAYOUT);
     }
-    if has_other_version(text) {
+    if has_other_version(text, NEWEST) {
         return Err(OTHER_VERSION);
     }
     let cursor = &mut Cursor { rest: text };
-    match read_counts(cursor).ok_or(LAYOUT)? {
+    let (version, counts) = read_counts(cursor).ok_or(LAYOUT)?;
+    if version == u32::from(NEWEST - b'0') {
+        graph.rest();
+    }
+    match counts {
         Counts::Lasso { stem, cycle } => {
             let walk = read_walk(cursor, graph, stem + cycle)?;
             shown(is_lasso(graph, &walk, stem), Shown::Lasso(walk))
@@ -67,20 +89,22 @@ fn shown(passes: bool, what: Shown) -> Result<Shown, u32> {
     if passes { Ok(what) } else { Err(FALSE) }
 }
 
-fn read_counts(cursor: &mut Cursor) -> Option<Counts> {
+/// The version and the counts.
+fn read_counts(cursor: &mut Cursor) -> Option<(u32, Counts)> {
     cursor.words(COUNT_NAMES)?;
-    cursor.number(b' ')?;
+    let version = cursor.number(b' ')?;
     let is_lasso = cursor.words(b"lasso ").is_some();
     if !is_lasso {
         cursor.words(b"empty ")?;
     }
     let mut count = |end| cursor.number(end).filter(|&count| count <= HIGHEST_COUNT);
     let (stem, cycle, reached) = (count(b' ')?, count(b' ')?, count(b'\n')?);
-    match (is_lasso, stem as usize, cycle as usize, reached as usize) {
-        (true, stem, cycle @ 1.., 0) => Some(Counts::Lasso { stem, cycle }),
-        (false, 0, 0, reached @ 1..) => Some(Counts::Empty { reached }),
-        _ => None,
-    }
+    let counts = match (is_lasso, stem as usize, cycle as usize, reached as usize) {
+        (true, stem, cycle @ 1.., 0) => Counts::Lasso { stem, cycle },
+        (false, 0, 0, reached @ 1..) => Counts::Empty { reached },
+        _ => return None,
+    };
+    Some((version, counts))
 }
 
 fn read_walk(cursor: &mut Cursor, graph: &Graph, length: usize) -> Result<Vec<u16>, u32> {

@@ -8,5 +8,6 @@ mod cursor;
 pub mod nested;
 pub mod product;
 pub mod reader;
+mod rest;
 pub mod rounds;
 mod writer;

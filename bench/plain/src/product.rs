@@ -73,8 +73,8 @@ fn listed(
         return Err(refused(BUFFER_TOO_SHORT));
     }
     let parts = Parts::read(chart_text, claim_text)?;
-    let graph = parts.product()?;
-    match answers::check(&graph, answer).map_err(refused)? {
+    let mut graph = parts.product()?;
+    match answers::check(&mut graph, answer).map_err(refused)? {
         Shown::Empty => Ok(0),
         Shown::Lasso(walk) => {
             let leaves = walk.iter().map(|&edge| graph.edges[usize::from(edge)].0);
@@ -118,15 +118,18 @@ impl Parts {
         self.claim.states as usize
     }
 
+    /// Where no edge leaves, the claim has stopped: there the mark is 0.
     fn product(&self) -> Result<Graph, Built> {
-        let marks = &self.tables.marks[..self.states()];
-        let marks_of_mode = || marks.iter().map(|&mark| mark == 1);
+        let edges = self.edges().ok_or(refused(TOO_MANY_EDGES))?;
+        let mut accepting = vec![false; self.chart.modes * self.states()];
+        for &(from, _) in &edges {
+            let from = usize::from(from);
+            accepting[from] = self.tables.marks[from % self.states()] == 1;
+        }
         Ok(Graph {
             source: self.chart.start * self.states() + self.claim.start as usize,
-            accepting: (0..self.chart.modes)
-                .flat_map(|_| marks_of_mode())
-                .collect(),
-            edges: self.edges().ok_or(refused(TOO_MANY_EDGES))?,
+            accepting,
+            edges,
         })
     }
 

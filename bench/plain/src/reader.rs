@@ -10,6 +10,8 @@ pub(crate) const COUNT_NAMES: &[u8] = b"version vertices edges source workers\n"
 pub(crate) const VERTEX_NAMES: &[u8] = b"vertex accepting owner\n";
 pub(crate) const EDGE_NAMES: &[u8] = b"from to\n";
 pub(crate) const VERSION_WORD: &[u8] = b"version ";
+/// The only version of a case.
+const VERSION: u8 = b'1';
 
 /// Numbers of the refusals.
 pub(crate) const TOO_LONG: u32 = 1;
@@ -35,11 +37,6 @@ pub struct Case {
 impl Case {
     pub fn vertices(&self) -> usize {
         self.accepting.len()
-    }
-
-    /// The numbers of the edges that leave a vertex.
-    pub fn edges_from(&self, vertex: usize) -> std::ops::Range<usize> {
-        usize::from(self.first_edges[vertex])..usize::from(self.first_edges[vertex + 1])
     }
 }
 
@@ -83,7 +80,7 @@ pub fn read(text: &[u8]) -> Result<Case, u32> {
     if !text.starts_with(VERSION_WORD) {
         return Err(NO_VERSION_WORD);
     }
-    if has_other_version(text) {
+    if has_other_version(text, VERSION) {
         return Err(OTHER_VERSION);
     }
     let mut cursor = Cursor { rest: text };
@@ -117,15 +114,17 @@ pub fn read(text: &[u8]) -> Result<Case, u32> {
     }
 }
 
-/// Whether line 2's first field is a number other than 1.
-pub(crate) fn has_other_version(text: &[u8]) -> bool {
+/// Whether line 2's first field is a number that is not one from 1 to the
+/// newest, a digit.
+pub(crate) fn has_other_version(text: &[u8], newest: u8) -> bool {
     let Some(first_end) = text.iter().position(|&byte| byte == b'\n') else {
         return false;
     };
     let rest = &text[first_end + 1..];
     let length = rest.iter().position(|&byte| byte == b' ' || byte == b'\n');
     match &rest[..length.unwrap_or(rest.len())] {
-        [] | [b'1'] | [b'0', _, ..] => false,
+        [] | [b'0', _, ..] => false,
+        [digit] if (b'1'..=newest).contains(digit) => false,
         field => field.len() <= MOST_DIGITS && field.iter().all(u8::is_ascii_digit),
     }
 }

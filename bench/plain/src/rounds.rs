@@ -5,6 +5,7 @@
 //! cell is empty when the next round begins.
 
 use crate::reader::{Case, read};
+use crate::rest::Edges;
 use crate::writer::Writer;
 
 /// Marks a vertex without a distance and a cell without a message; above
@@ -61,6 +62,7 @@ struct Queue {
 
 struct Run<'a> {
     case: &'a Case,
+    edges: Edges,
     floor: i32,
     distances: Vec<i32>,
     /// By vertex, the edge whose offer it took last, and where that starts.
@@ -79,8 +81,11 @@ struct Run<'a> {
 impl<'a> Run<'a> {
     fn fresh(case: &'a Case) -> Self {
         let vertices = case.vertices();
+        let edges = Edges::rested(case);
         let mut run = Run {
             case,
+            cells: vec![NONE; edges.targets.len()],
+            edges,
             floor: -(case.accepting.iter().filter(|&&mark| mark).count() as i32),
             distances: vec![NONE; vertices],
             parents: vec![(NOBODY, NOBODY); vertices],
@@ -94,7 +99,6 @@ impl<'a> Run<'a> {
             next: vec![NOBODY; vertices],
             queued: vec![false; vertices],
             queued_count: 0,
-            cells: vec![NONE; case.targets.len()],
             sent: 0,
             delivered: 0,
             acts: 0,
@@ -118,8 +122,9 @@ impl<'a> Run<'a> {
                     scanned.push(vertex);
                 }
             }
-            // Edges are numbered by where they start, so rising vertices give
-            // rising edges, the order of deliveries.
+            // Edges of the file are numbered by where they start, so rising
+            // vertices give rising edges, the order of deliveries. A loop
+            // sends nothing.
             scanned.sort_unstable();
             if let Some(breaker) = self.deliver_from(&scanned) {
                 return Some(breaker);
@@ -139,8 +144,8 @@ impl<'a> Run<'a> {
     fn scan(&mut self, vertex: usize) -> Option<usize> {
         let offer = self.distances[vertex] - i32::from(self.case.accepting[vertex]);
         let owner = self.case.owners[vertex];
-        for edge in self.case.edges_from(vertex) {
-            let target = usize::from(self.case.targets[edge]);
+        for edge in self.edges.leaving(vertex) {
+            let target = usize::from(self.edges.targets[edge]);
             if self.case.owners[target] != owner {
                 // No message waits here: a round scans a vertex at most once.
                 self.cells[edge] = offer;
@@ -157,14 +162,14 @@ impl<'a> Run<'a> {
             if self.sent == self.delivered {
                 return None;
             }
-            for edge in self.case.edges_from(vertex) {
+            for edge in self.edges.leaving(vertex) {
                 let offer = std::mem::replace(&mut self.cells[edge], NONE);
                 if offer == NONE {
                     continue;
                 }
                 self.acts += 1;
                 self.delivered += 1;
-                let target = usize::from(self.case.targets[edge]);
+                let target = usize::from(self.edges.targets[edge]);
                 if self.breaks_floor(vertex, edge, target, offer) {
                     return Some(target);
                 }
@@ -229,7 +234,7 @@ impl<'a> Run<'a> {
             }
         }
         let stem = self.stem(start);
-        writer.word(b"version verdict stem cycle reached\n1 lasso ");
+        writer.word(b"version verdict stem cycle reached\n2 lasso ");
         writer.number(stem.len() as u32, b' ');
         writer.number(cycle.len() as u32, b' ');
         writer.word(b"0\nedge\n");
@@ -249,8 +254,8 @@ impl<'a> Run<'a> {
         while taken_up < found.len() && end != self.case.source && found_by[end].0 == NOBODY {
             let vertex = found[taken_up];
             taken_up += 1;
-            for edge in self.case.edges_from(usize::from(vertex)) {
-                let target = self.case.targets[edge];
+            for edge in self.edges.leaving(usize::from(vertex)) {
+                let target = self.edges.targets[edge];
                 let new = usize::from(target) != self.case.source
                     && found_by[usize::from(target)].0 == NOBODY;
                 if new {
@@ -276,7 +281,7 @@ impl<'a> Run<'a> {
             .iter()
             .filter(|&&distance| distance != NONE)
             .count();
-        writer.word(b"version verdict stem cycle reached\n1 empty 0 0 ");
+        writer.word(b"version verdict stem cycle reached\n2 empty 0 0 ");
         writer.number(reached as u32, b'\n');
         writer.word(b"vertex distance\n");
         for (vertex, &distance) in self.distances.iter().enumerate() {

@@ -2,11 +2,12 @@
 //! does the same.
 
 use inputs::damage::{damaged, every_small_change};
-use inputs::graphs::{Size, every_case, random_case, text_of};
+use inputs::graphs::{Size, every_case, first_edges, random_case, text_of};
 use inputs::kept::kept_runs;
 use inputs::rng::Rng;
 use plain::rounds::Ended;
 use plain::{nested, reader, rounds};
+use reference::case::MOST_EDGES;
 use reference::entries::{OUTPUT_BYTES, Reference, Tool, WORK_CELLS};
 
 const SEED: u64 = 5;
@@ -50,6 +51,18 @@ fn same_runs_on_random_cases() {
 fn same_runs_on_every_small_graph() {
     for case in (1..=3).flat_map(every_case) {
         assert_same(&text_of(&case));
+    }
+}
+
+/// 496 loops after 2,000 edges, and 500 after none.
+#[test]
+fn same_runs_on_the_most_loops() {
+    for edges in [0, MOST_EDGES] {
+        for source in [0, 499] {
+            for accepting in [|_| false, |vertex| vertex == 499, |vertex| vertex % 9 == 4] {
+                assert_same(&text_of(&first_edges(edges, source, accepting)));
+            }
+        }
     }
 }
 

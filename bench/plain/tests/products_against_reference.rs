@@ -1,11 +1,11 @@
 //! Plain cases built and steps listed against the reference: the same refusals
 //! and bad pairs, and the same bytes in the output.
 
-use inputs::answers::{numbered_empty, walked_lasso};
+use inputs::answers::other_answers;
 use inputs::chart_rows;
 use inputs::charts::{text_of, with_changed_rule};
 use inputs::claim_changes::changed;
-use inputs::damage::{damaged, every_small_change};
+use inputs::damage::{VERSIONS, damaged, every_small_change, with_version};
 use inputs::graphs::{Size, random_case};
 use inputs::product_rows::{READINGS, rows};
 use inputs::products::{
@@ -61,23 +61,30 @@ fn assert_same_pair(rng: &mut Rng, chart: &[u8], claim: &[u8], workers: u32) {
         return;
     };
     let case = case::read(&text).expect("what is built is accepted");
-    for answer in some_answers(rng, &case) {
-        let text = answer.text().into_bytes();
+    for text in some_answers(rng, &case) {
         assert_same(&call(Making::Steps(damaged(rng, &text))));
         assert_same(&call(Making::Steps(text)));
     }
 }
 
-/// The one by rounds, a longer one if it is a lasso, and two that may be wrong.
-fn some_answers(rng: &mut Rng, case: &Case) -> Vec<Answer> {
+/// The one by rounds, a longer one if it is a lasso, and others that may be
+/// wrong, each in some version, which may be none.
+fn some_answers(rng: &mut Rng, case: &Case) -> Vec<Vec<u8>> {
     let found = Report::of(&by_rounds(case)).answer;
     let longer = match &found {
         Some(Answer::Lasso { stem, cycle }) => Some(many_times_round(stem, cycle)),
         _ => None,
     };
-    let answers = [found, longer, walked_lasso(rng, case)];
-    let numbered = numbered_empty(rng, case);
-    answers.into_iter().flatten().chain([numbered]).collect()
+    let mut answers: Vec<Answer> = found.into_iter().chain(longer).collect();
+    for version in checker::VERSIONS {
+        answers.extend(other_answers(rng, case, version));
+    }
+    let mut in_some_version = |answer: Answer| {
+        let odd = rng.pick(VERSIONS);
+        let version = rng.pick(&["1", "1", "2", "2", odd]);
+        answer.text_as(version).into_bytes()
+    };
+    answers.into_iter().map(&mut in_some_version).collect()
 }
 
 #[test]
@@ -124,10 +131,12 @@ fn same_on_every_small_change() {
     for claim in every_small_change(claim) {
         assert_same(&call(chart, &claim, Making::Case(3)));
     }
-    let empty = "version verdict stem cycle reached\n1 empty 0 0 2\nvertex distance\n0 0\n1 -1\n";
+    let empty = "version verdict stem cycle reached\n2 empty 0 0 2\nvertex distance\n0 0\n1 -1\n";
     for answer in [EXAMPLE_ANSWER, empty] {
-        for answer in every_small_change(answer.as_bytes()) {
-            assert_same(&call(chart, claim, Making::Steps(answer)));
+        for answer in [answer.into(), with_version(answer.as_bytes(), "1")] {
+            for answer in every_small_change(&answer) {
+                assert_same(&call(chart, claim, Making::Steps(answer)));
+            }
         }
     }
 }
@@ -158,12 +167,11 @@ fn same_checks_of_answers() {
             accepting: case.accepting.clone(),
             edges: edges.map(|&(from, to)| (from as u16, to as u16)).collect(),
         };
-        for answer in some_answers(rng, &case) {
-            let text = answer.text().into_bytes();
+        for text in some_answers(rng, &case) {
             for text in [damaged(rng, &text), text] {
                 let want = checker::check(&case, &text);
                 let want = want.map(shown).map_err(|refusal| refusal.number());
-                let got = answers::check(&graph, &text);
+                let got = answers::check(&mut graph.clone(), &text);
                 assert_eq!(got, want, "{}", text.escape_ascii());
             }
         }

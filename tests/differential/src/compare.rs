@@ -4,11 +4,14 @@ use std::fmt::{self, Debug, Display, Formatter};
 use std::sync::LazyLock;
 
 use inputs::products::{Call, Making};
+use reference::answer;
 use reference::claim::{self, Claim};
 use reference::entries::{
-    Built, Checked, ClaimRead, OUTPUT_BYTES, Outcome, Reference, Tool, WORK_CELLS,
+    Built, Checked, ClaimRead, OUTPUT_BYTES, Outcome, Reference, Tool, WORK_CELLS, check_with,
 };
+use reference::older;
 use reference::refusal::Refusal;
+use reference::text::version;
 
 /// Items of the larger vector before the lent part, and after it.
 const GUARD: usize = 64;
@@ -166,6 +169,9 @@ pub struct Tally {
     moves: u64,
     /// Lists by which offers meet in a cell.
     pub meetings: u64,
+    /// Runs by rounds where no vertex rests, where one does, and of these the
+    /// ones that show a rest loop.
+    pub rests: [u64; 3],
 }
 
 impl Tally {
@@ -200,6 +206,11 @@ impl Display for Tally {
         }
         if self.meetings > 0 {
             writeln!(formatter, "lists by which offers meet: {}", self.meetings)?;
+        }
+        let [none, some, shown] = self.rests;
+        if none + some > 0 {
+            write!(formatter, "runs by rounds where no vertex rests: {none}, ")?;
+            writeln!(formatter, "where one does: {some}, by a rest loop: {shown}")?;
         }
         Ok(())
     }
@@ -241,6 +252,9 @@ impl<'a> Comparison<'a> {
             });
         }
         let answer = want.output.part()[..want.outcome.written as usize].to_vec();
+        if want.outcome.refusal == 0 {
+            expect_before(text, &answer, refused(Refusal::OtherVersion))?;
+        }
         Ok((want.outcome, answer))
     }
 
@@ -249,13 +263,16 @@ impl<'a> Comparison<'a> {
         let want = Reference.check_answer(text, answer);
         self.tally.checks[want.refusal as usize] += 1;
         let got = self.tool.check_answer(text, answer);
-        if got == want {
-            return Ok(want);
+        if got != want {
+            return Err(Mismatch {
+                summary: format!("check_answer should return {want:?} and returns {got:?}"),
+                inputs: check_inputs(text, answer),
+            });
         }
-        Err(Mismatch {
-            summary: format!("check_answer should return {want:?} and returns {got:?}"),
-            inputs: format!("case:\n{}\nanswer:\n{}", shown(text), shown(answer)),
-        })
+        if version(answer) != Some(answer::VERSION) {
+            expect_before(text, answer, want)?;
+        }
+        Ok(want)
     }
 
     /// Compares the check of an answer that a run has given: it must pass
@@ -274,7 +291,7 @@ impl<'a> Comparison<'a> {
             summary: format!(
                 "check_answer should pass the run's own answer and returns {checked:?}"
             ),
-            inputs: format!("case:\n{}\nanswer:\n{}", shown(text), shown(answer)),
+            inputs: check_inputs(text, answer),
         })
     }
 
@@ -356,6 +373,26 @@ impl<'a> Comparison<'a> {
     }
 }
 
+fn refused(refusal: Refusal) -> Checked {
+    Checked {
+        refusal: refusal.number(),
+        verdict: 0,
+    }
+}
+
+/// Whether the checker before rest loops gives this: what is given now where the
+/// answer is not of version 2, and a refusal of what runs write now.
+fn expect_before(text: &[u8], answer: &[u8], want: Checked) -> Result<(), Mismatch> {
+    let got = check_with(text, |case| older::check(case, answer));
+    if got == want {
+        return Ok(());
+    }
+    Err(Mismatch {
+        summary: format!("the older checker should return {want:?} and returns {got:?}"),
+        inputs: check_inputs(text, answer),
+    })
+}
+
 /// The refusals where they differ, else all numbers.
 fn claim_difference(got: &ClaimRead, want: &ClaimRead) -> Option<String> {
     if got.refusal != want.refusal {
@@ -387,12 +424,16 @@ fn questions(read: &ClaimRead, asked: Asked) -> Vec<(u32, u32)> {
     questions
 }
 
-fn run_inputs(entry: Entry, text: &[u8], lengths: Lengths) -> String {
+pub fn run_inputs(entry: Entry, text: &[u8], lengths: Lengths) -> String {
     let acts = match entry {
         Entry::Rounds => "by rounds".to_owned(),
         Entry::List(acts) => format!("acts: {acts:?}"),
     };
     format!("{lengths:?}\n{acts}\ncase:\n{}", shown(text))
+}
+
+fn check_inputs(text: &[u8], answer: &[u8]) -> String {
+    format!("case:\n{}\nanswer:\n{}", shown(text), shown(answer))
 }
 
 fn call_inputs(call: &Call) -> String {

@@ -2,13 +2,15 @@
 //! buffers, every small change to a file and every small graph.
 
 use inputs::acts;
-use inputs::damage::every_small_change;
+use inputs::damage::{VERSIONS, every_small_change, with_version};
 use inputs::graphs::{every_case, text_of};
 use inputs::kept::{K1, kept_runs};
 use reference::case::{Case, MOST_EDGES, MOST_VERTICES, MOST_WORKERS};
+use reference::graph::Graph;
 use reference::text::LONGEST_FILE;
 
 use crate::compare::{Comparison, Entry, LEAST, Lengths, Mismatch};
+use crate::rests::{compare_list, compare_most_loops, compare_whole};
 
 const OUTPUT_LENGTHS: [usize; 4] = [0, 8_191, 8_192, 9_000];
 const WORK_LENGTHS: [usize; 4] = [0, 16_383, 16_384, 20_000];
@@ -22,16 +24,21 @@ pub fn compare_all(comparison: &mut Comparison) -> Result<(), Mismatch> {
     compare_long_files(comparison)?;
     compare_small_changes(comparison)?;
     compare_small_graphs(comparison)?;
+    compare_most_loops(comparison)?;
     compare_long_runs(comparison)
 }
 
-/// Every kept run, and every kept answer as an answer to every kept case.
+/// Every kept run, and every kept answer, of any version, as an answer to every
+/// kept case.
 fn compare_kept_runs(comparison: &mut Comparison) -> Result<(), Mismatch> {
     for kept in kept_runs() {
         let entry = kept.acts.as_deref().map_or(Entry::Rounds, Entry::List);
         comparison.run(entry, kept.text.as_bytes(), LEAST)?;
         for other in kept_runs() {
-            comparison.check(kept.text.as_bytes(), other.answer.as_bytes())?;
+            for version in VERSIONS {
+                let answer = with_version(other.answer.as_bytes(), version);
+                comparison.check(kept.text.as_bytes(), &answer)?;
+            }
         }
     }
     Ok(())
@@ -89,7 +96,7 @@ fn compare_limits(comparison: &mut Comparison) -> Result<(), Mismatch> {
             edges + more_edges,
             workers + more_workers,
         );
-        compare_whole(comparison, &text_of(&case))?;
+        compare_whole(comparison, &case)?;
     }
     for vertices in [1, 2, MOST_VERTICES] {
         for source in [vertices - 1, vertices] {
@@ -97,25 +104,27 @@ fn compare_limits(comparison: &mut Comparison) -> Result<(), Mismatch> {
                 source,
                 ..case_of(vertices, 0, MOST_WORKERS)
             };
-            compare_whole(comparison, &text_of(&case))?;
+            compare_whole(comparison, &case)?;
         }
     }
     let mut owner_too_large = case_of(3, 3, 2);
     owner_too_large.owners[2] = 2;
-    compare_whole(comparison, &text_of(&owner_too_large))
+    compare_whole(comparison, &owner_too_large)?;
+    Ok(())
 }
 
 /// Answers whose numbers stand where a number gets one digit more: every
 /// distance down to the lowest, and a lasso's edges.
 fn compare_number_lengths(comparison: &mut Comparison) -> Result<(), Mismatch> {
+    // The last vertex rests, so it must not accept.
     let path = Case {
-        accepting: vec![true; MOST_VERTICES],
+        accepting: (1..=MOST_VERTICES).map(|v| v < MOST_VERTICES).collect(),
         ..case_of(MOST_VERTICES, MOST_VERTICES - 1, 1)
     };
-    compare_whole(comparison, &text_of(&path))?;
+    compare_whole(comparison, &path)?;
     for cycle in [9, 10, 99, 100, 999, 1_000, MOST_EDGES - 1] {
         for stem in [0, 9, 10, 99, 100].into_iter().filter(|&stem| stem < cycle) {
-            compare_whole(comparison, &text_of(&lasso_by(stem, cycle)))?;
+            compare_whole(comparison, &lasso_by(stem, cycle))?;
         }
     }
     Ok(())
@@ -137,21 +146,13 @@ fn lasso_by(stem: usize, cycle: usize) -> Case {
     }
 }
 
-/// A run by rounds and the check of its own answer.
-fn compare_whole(comparison: &mut Comparison, text: &[u8]) -> Result<(), Mismatch> {
-    let (outcome, answer) = comparison.run(Entry::Rounds, text, LEAST)?;
-    if outcome.refusal == 0 {
-        comparison.check_own(text, &answer, outcome.verdict)?;
-    }
-    Ok(())
-}
-
 /// Files of the greatest length and one byte more, as case and as answer.
 fn compare_long_files(comparison: &mut Comparison) -> Result<(), Mismatch> {
-    let answer = "version verdict stem cycle reached\n1 lasso 1 2 0\nedge\n0\n1\n2\n";
+    let answer = "version verdict stem cycle reached\n2 lasso 1 2 0\nedge\n0\n1\n2\n";
     for start in [
         K1,
         answer,
+        "version x\n3 ",
         "version x\n2 ",
         "version x\n1\n",
         "version ",
@@ -175,7 +176,7 @@ fn compare_long_files(comparison: &mut Comparison) -> Result<(), Mismatch> {
 
 fn compare_small_changes(comparison: &mut Comparison) -> Result<(), Mismatch> {
     for kept in kept_runs() {
-        if !["K1", "K2", "K4"].contains(&kept.name) {
+        if !["K1", "K2", "K4", "D"].contains(&kept.name) {
             continue;
         }
         let (text, answer) = (kept.text.as_bytes(), kept.answer.as_bytes());
@@ -183,8 +184,10 @@ fn compare_small_changes(comparison: &mut Comparison) -> Result<(), Mismatch> {
             comparison.run(Entry::Rounds, &changed, LEAST)?;
             comparison.check(&changed, answer)?;
         }
-        for changed in every_small_change(answer) {
-            comparison.check(text, &changed)?;
+        for answer in [answer, &with_version(answer, "1")] {
+            for changed in every_small_change(answer) {
+                comparison.check(text, &changed)?;
+            }
         }
     }
     Ok(())
@@ -195,12 +198,13 @@ fn compare_small_changes(comparison: &mut Comparison) -> Result<(), Mismatch> {
 fn compare_small_graphs(comparison: &mut Comparison) -> Result<(), Mismatch> {
     for case in (1..=3).flat_map(every_case) {
         let text = text_of(&case);
-        compare_whole(comparison, &text)?;
-        let cells = (0..case.edges.len()).filter(|&edge| case.has_cell(edge));
+        compare_whole(comparison, &case)?;
+        let graph = Graph::of_file(&case);
+        let cells = (0..case.edges.len()).filter(|&edge| graph.has_cell(edge));
         for last in cells.chain([case.edges.len()]) {
             for lowest_first in [true, false] {
                 let list = acts::delaying(&case, last, lowest_first);
-                compare_list(comparison, &case, &text, &list)?;
+                compare_to_end(comparison, &case, &text, &list)?;
             }
         }
     }
@@ -208,15 +212,14 @@ fn compare_small_graphs(comparison: &mut Comparison) -> Result<(), Mismatch> {
 }
 
 /// A list that ends the run with its last act, and the same without that act.
-fn compare_list(
+fn compare_to_end(
     comparison: &mut Comparison,
     case: &Case,
     text: &[u8],
     list: &[u32],
 ) -> Result<(), Mismatch> {
     comparison.tally.meetings += u64::from(acts::has_meeting(case, list));
-    let (outcome, answer) = comparison.run(Entry::List(list), text, LEAST)?;
-    comparison.check_own(text, &answer, outcome.verdict)?;
+    compare_list(comparison, case, text, list)?;
     comparison.run(Entry::List(&list[..list.len() - 1]), text, LEAST)?;
     Ok(())
 }
@@ -237,7 +240,7 @@ fn compare_long_runs(comparison: &mut Comparison) -> Result<(), Mismatch> {
                 .map(|vertex| (vertex, (vertex + 1) % ring))
                 .collect(),
         };
-        compare_whole(comparison, &text_of(&case))?;
+        compare_whole(comparison, &case)?;
     }
     Ok(())
 }

@@ -14,6 +14,8 @@ mod mutants;
 mod product_mutants;
 mod products;
 mod random;
+mod rest_mutants;
+mod rests;
 
 use std::process::ExitCode;
 

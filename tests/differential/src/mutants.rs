@@ -9,13 +9,14 @@ use std::borrow::Cow;
 use reference::answer::{Answer, EMPTY_NAMES, cycle, fewest_edges_to};
 use reference::case::{self, Case, text_of};
 use reference::chart::{self, Chart};
-use reference::checker::{self, is_lasso_shaped, leaves_accepting};
+use reference::checker::{self, VERSIONS, is_lasso_shaped, leaves_accepting};
 use reference::claim::{Claim, LIMITS, read_tokens};
 use reference::claim_tokens::{Fault, Limits, Token, tokens};
 use reference::entries::{
     Built, Charted, Checked, ClaimRead, Outcome, Report, Tool, WORK_CELLS, check_with, run_with,
     worker_count, write_with,
 };
+use reference::graph::Graph;
 use reference::product::{Automaton, Product};
 use reference::refusal::Refusal;
 use reference::run::{Finding, Run, Tallies, by_list, judge_acts};
@@ -24,6 +25,7 @@ use crate::Part;
 use crate::chart_mutants::chart_mutants;
 use crate::claim_mutants::claim_mutants;
 use crate::product_mutants::product_mutants;
+use crate::rest_mutants::rest_mutants;
 
 /// A faulty tool: each hook is right unless a mutant takes it over.
 pub trait Faulty {
@@ -35,6 +37,16 @@ pub trait Faulty {
     /// The list that is followed in place of the one given.
     fn list<'a>(&self, _case: &Case, acts: &'a [u32]) -> &'a [u32] {
         acts
+    }
+
+    /// Acts are the numbers below this.
+    fn act_count(&self, case: &Case) -> usize {
+        case.act_count()
+    }
+
+    /// The graph that a run is of.
+    fn graph<'a>(&self, case: &'a Case) -> Graph<'a> {
+        Graph::rested(case)
     }
 
     /// Changes a fresh run.
@@ -128,8 +140,8 @@ pub trait Faulty {
     }
 
     /// What is listed of a passing answer.
-    fn listing(&self, product: &Product, case: &Case, answer: &Answer) -> Vec<u8> {
-        product.listing(case, answer)
+    fn listing(&self, product: &Product, graph: &Graph, answer: &Answer) -> Vec<u8> {
+        product.listing(graph, answer)
     }
 
     /// Changes what building and listing leave in the output.
@@ -163,7 +175,7 @@ pub struct Mutant {
 
 impl Mutant {
     fn search(&self, case: &Case, acts: impl Iterator<Item = usize>) -> Report {
-        let mut run = Run::fresh(case);
+        let mut run = Run::on(self.fault.graph(case));
         self.fault.begin(&mut run);
         for act in acts {
             self.fault.act(&mut run, act);
@@ -236,7 +248,7 @@ impl Tool for Mutant {
     fn run_list(&self, text: &[u8], acts: &[u32], output: &mut [u8], work: &mut [i32]) -> Outcome {
         let outcome = self.run(text, output, work, |case| {
             let acts = self.fault.list(case, acts);
-            judge_acts(case, acts)?;
+            judge_acts(self.fault.act_count(case), acts)?;
             Ok(self.search(case, acts.iter().map(|&act| act as usize)))
         });
         let tallies = self.fault.tallies(text, acts, outcome);
@@ -283,13 +295,15 @@ impl Tool for Mutant {
         self.write(output, || {
             let product = self.product(chart, claim)?;
             let case = self.fault.product_case(&product, 1)?;
-            let answer = self.fault.check(&case, answer)?;
-            Ok(self.fault.listing(&product, &case, &answer))
+            let passing = self.fault.check(&case, answer)?;
+            let graph = checker::meant(&case, answer);
+            Ok(self.fault.listing(&product, &graph, &passing))
         })
     }
 }
 
-fn mutant(name: &'static str, fault: impl Faulty + 'static) -> Mutant {
+/// A mutant that runs or checks cases.
+pub fn mutant(name: &'static str, fault: impl Faulty + 'static) -> Mutant {
     Mutant {
         name,
         part: Part::Cases,
@@ -329,13 +343,14 @@ pub fn faultless() -> Mutant {
 /// Every mutant.
 pub fn mutants() -> Vec<Mutant> {
     let mut mutants = case_mutants();
+    mutants.extend(rest_mutants());
     mutants.extend(claim_mutants());
     mutants.extend(chart_mutants());
     mutants.extend(product_mutants());
     mutants
 }
 
-/// The mutants that run and check cases.
+/// The mutants that run and check cases, rest loops aside.
 fn case_mutants() -> Vec<Mutant> {
     vec![
         mutant("floor at -A", FloorAtMinusA),
@@ -413,11 +428,11 @@ impl Faulty for StemFromParents {
             return answer_at_any_rate(run);
         };
         let mut stem = Vec::new();
-        let mut vertex = run.case.edges[cycle[0]].0;
+        let mut vertex = run.graph.edges[cycle[0]].0;
         while vertex != run.case.source && stem.len() < run.case.vertices() {
             let edge = run.parents[vertex]?;
             stem.insert(0, edge);
-            vertex = run.case.edges[edge].0;
+            vertex = run.graph.edges[edge].0;
         }
         Some(Answer::Lasso { stem, cycle })
     }
@@ -426,9 +441,10 @@ impl Faulty for StemFromParents {
 struct AcceptingOnStem;
 impl Faulty for AcceptingOnStem {
     fn check(&self, case: &Case, answer: &[u8]) -> Result<Answer, Refusal> {
-        match checker::read(case, answer)? {
+        let graph = checker::meant(case, answer);
+        match checker::read(&graph, &VERSIONS, answer)? {
             Answer::Lasso { stem, cycle }
-                if is_lasso_shaped(case, &stem, &cycle) && leaves_accepting(case, &stem) =>
+                if is_lasso_shaped(&graph, &stem, &cycle) && leaves_accepting(&graph, &stem) =>
             {
                 Ok(Answer::Lasso { stem, cycle })
             }
@@ -530,8 +546,10 @@ impl Faulty for ScanGoesOn {
             // The parent of the vertex that broke the floor is the last edge
             // that the scan came to.
             let last = run.parents[breaker];
-            for edge in run.case.edges_from(head).filter(|&edge| Some(edge) > last) {
-                run.offer(edge, distance + run.case.length(edge));
+            for edge in run.graph.edges_from(head).to_vec() {
+                if Some(edge) > last {
+                    run.offer(edge, distance + run.graph.length(edge));
+                }
             }
         }
     }
@@ -544,9 +562,9 @@ impl Faulty for DistanceReadAgain {
             run.act(act);
             return;
         };
-        for edge in run.case.edges_from(vertex) {
+        for edge in run.graph.edges_from(vertex).to_vec() {
             let distance = run.distances[vertex].unwrap_or_default();
-            run.offer(edge, distance + run.case.length(edge));
+            run.offer(edge, distance + run.graph.length(edge));
             if run.finding.is_some() {
                 break;
             }
@@ -587,8 +605,8 @@ impl Faulty for AllAtOnce {
 struct ReachableOnly;
 impl Faulty for ReachableOnly {
     fn begin(&self, run: &mut Run) {
-        let case = run.case;
-        let unreachable = |&vertex: &usize| fewest_edges_to(case, vertex)[case.source].is_none();
+        let (case, graph) = (run.case, &run.graph);
+        let unreachable = |&vertex: &usize| fewest_edges_to(graph, vertex)[case.source].is_none();
         let accepting = (0..case.vertices()).filter(|&vertex| case.accepting[vertex]);
         run.floor += accepting.filter(unreachable).count() as i32;
     }
@@ -616,14 +634,14 @@ impl Faulty for StemLastInOrder {
         let Some(Answer::Lasso { cycle, .. }) = answer_at_any_rate(run) else {
             return answer_at_any_rate(run);
         };
-        let edges_left = fewest_edges_to(run.case, run.case.edges[cycle[0]].0);
+        let edges_left = fewest_edges_to(&run.graph, run.graph.edges[cycle[0]].0);
         let mut stem = Vec::new();
         let mut vertex = run.case.source;
         for left in (0..edges_left[vertex]?).rev() {
-            let nearer = |edge: &usize| edges_left[run.case.edges[*edge].1] == Some(left);
-            let edge = run.case.edges_from(vertex).rfind(nearer)?;
+            let nearer = |edge: &&usize| edges_left[run.graph.edges[**edge].1] == Some(left);
+            let edge = *run.graph.edges_from(vertex).iter().rfind(nearer)?;
             stem.push(edge);
-            vertex = run.case.edges[edge].1;
+            vertex = run.graph.edges[edge].1;
         }
         Some(Answer::Lasso { stem, cycle })
     }
@@ -654,10 +672,11 @@ impl Faulty for TornLine {
 struct RuleBeforeEnd;
 impl Faulty for RuleBeforeEnd {
     fn check(&self, case: &Case, answer: &[u8]) -> Result<Answer, Refusal> {
+        let graph = checker::meant(case, answer);
         let ends = (0..answer.len()).filter(|&place| answer[place] == b'\n');
         let whole = ends
             .map(|end| &answer[..=end])
-            .find(|part| checker::read(case, part).is_ok());
+            .find(|part| checker::read(&graph, &VERSIONS, part).is_ok());
         checker::check(case, whole.unwrap_or(answer))?;
         checker::check(case, answer)
     }

@@ -5,6 +5,7 @@ use reference::case::{Case, MOST_EDGES};
 use reference::chart::{self, Chart};
 use reference::claim::Claim;
 use reference::entries::{Built, worker_count};
+use reference::graph::Graph;
 use reference::product::Product;
 use reference::refusal::Refusal;
 
@@ -17,6 +18,8 @@ pub fn product_mutants() -> Vec<Mutant> {
         product_mutant("owner by mode", OwnerByMode),
         product_mutant("edges of the first combination only", FirstCombination),
         product_mutant("every vertex accepting", EveryVertexAccepting),
+        product_mutant("mark kept where no edge leaves", MarkKept),
+        product_mutant("mark lost where an edge does not lead on", MarkLost),
         product_mutant("2,001 edges taken", OneEdgeMore),
         product_mutant("21 before 20", EdgesBeforeCounts),
         product_mutant("5 before 11", WorkersBeforeOutput),
@@ -80,11 +83,35 @@ impl Faulty for EveryVertexAccepting {
     }
 }
 
+struct MarkKept;
+impl Faulty for MarkKept {
+    fn product_case(&self, product: &Product, workers: usize) -> Result<Case, Refusal> {
+        let pairs = product.pairs().into_iter();
+        Ok(Case {
+            accepting: pairs.map(|pair| product.accepts(pair)).collect(),
+            ..product.case(workers)?
+        })
+    }
+}
+
+/// Takes a vertex whose only edge is a loop for one that rests.
+struct MarkLost;
+impl Faulty for MarkLost {
+    fn product_case(&self, product: &Product, workers: usize) -> Result<Case, Refusal> {
+        let mut case = product.case(workers)?;
+        for (vertex, mark) in case.accepting.iter_mut().enumerate() {
+            let leads_on = |&(from, to): &(usize, usize)| from == vertex && to != vertex;
+            *mark &= case.edges.iter().any(leads_on);
+        }
+        Ok(case)
+    }
+}
+
 struct OneEdgeMore;
 impl Faulty for OneEdgeMore {
     fn product_case(&self, product: &Product, workers: usize) -> Result<Case, Refusal> {
         product.judge_counts()?;
-        let case = product.graph(workers);
+        let case = product.any_case(workers);
         if case.edges.len() > MOST_EDGES + 1 {
             return Err(Refusal::TooManyEdges);
         }
@@ -95,7 +122,7 @@ impl Faulty for OneEdgeMore {
 struct EdgesBeforeCounts;
 impl Faulty for EdgesBeforeCounts {
     fn product_case(&self, product: &Product, workers: usize) -> Result<Case, Refusal> {
-        if product.graph(workers).edges.len() > MOST_EDGES {
+        if product.any_case(workers).edges.len() > MOST_EDGES {
             return Err(Refusal::TooManyEdges);
         }
         product.case(workers)
@@ -132,8 +159,8 @@ impl Faulty for WrittenBeforeJudged {
 
 struct EnteredNamed;
 impl Faulty for EnteredNamed {
-    fn listing(&self, product: &Product, case: &Case, answer: &Answer) -> Vec<u8> {
-        let mut entered = case.clone();
+    fn listing(&self, product: &Product, graph: &Graph, answer: &Answer) -> Vec<u8> {
+        let mut entered = graph.clone();
         for (from, to) in &mut entered.edges {
             *from = *to;
         }
@@ -143,11 +170,11 @@ impl Faulty for EnteredNamed {
 
 struct UnnamedShownByNothing;
 impl Faulty for UnnamedShownByNothing {
-    fn listing(&self, product: &Product, case: &Case, answer: &Answer) -> Vec<u8> {
+    fn listing(&self, product: &Product, graph: &Graph, answer: &Answer) -> Vec<u8> {
         let mut product = product.clone();
         for name in &mut product.claim.names {
             name.get_or_insert_default();
         }
-        product.listing(case, answer)
+        product.listing(graph, answer)
     }
 }

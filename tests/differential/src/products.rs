@@ -2,12 +2,12 @@
 //! chooses. Each case that is built goes on through the run by rounds, the
 //! checker and the listing.
 
-use inputs::answers::{numbered_empty, walked_lasso};
+use inputs::answers::other_answers;
 use inputs::chart_rows;
 use inputs::charts::{text_of, with_changed_rule};
 use inputs::claim_changes::{self, changed};
 use inputs::claim_rows;
-use inputs::damage::{damaged, every_change_by, every_small_change};
+use inputs::damage::{VERSIONS, damaged, every_change_by, every_small_change, with_version};
 use inputs::product_rows::{READINGS, rows};
 use inputs::products::{
     Call, EXAMPLE_ANSWER, EXAMPLE_CHART, EXAMPLE_CLAIM, Making, every_small_product,
@@ -19,7 +19,8 @@ use reference::case::{self, Case, MOST_WORKERS};
 use reference::checker;
 use reference::entries::BUILT_BYTES;
 
-use crate::compare::{Comparison, Entry, LEAST, Mismatch};
+use crate::compare::{Comparison, Mismatch};
+use crate::rests;
 
 /// A chart and a claim.
 struct Parts {
@@ -88,6 +89,10 @@ fn compare_small_changes(comparison: &mut Comparison) -> Result<(), Mismatch> {
     for answer in every_small_change(answer) {
         comparison.make(&parts.call(Making::Steps(answer)))?;
     }
+    for version in VERSIONS {
+        let answer = with_version(answer, version);
+        comparison.make(&parts.call(Making::Steps(answer)))?;
+    }
     Ok(())
 }
 
@@ -102,11 +107,14 @@ fn compare_whole(
     if built.refusal != 0 {
         return Ok(None);
     }
-    let (outcome, answer) = comparison.run(Entry::Rounds, &text, LEAST)?;
-    comparison.check_own(&text, &answer, outcome.verdict)?;
+    let case = case::read(&text).expect("what is built is accepted");
+    let answer = rests::compare_whole(comparison, &case)?;
+    let of_version_1 = with_version(&answer, "1");
+    let (first, _) = comparison.make(&parts.call(Making::Steps(of_version_1)))?;
     let (listed, _) = comparison.make(&parts.call(Making::Steps(answer.clone())))?;
-    let case = case::read(&text).ok().filter(|_| listed.refusal == 0);
-    Ok(Some((case.expect("a run's own answer is listed"), answer)))
+    // No vertex that rests accepts, so both versions show the same.
+    assert_eq!((first, listed.refusal), (listed, 0), "its own answer");
+    Ok(Some((case, answer)))
 }
 
 /// One round: a random chart and claim, answers to their case, and damage to
@@ -156,13 +164,17 @@ fn compare_answers(
     case: &Case,
     own: &[u8],
 ) -> Result<(), Mismatch> {
-    let mut answers = vec![numbered_empty(rng, case)];
-    answers.extend(walked_lasso(rng, case));
+    let mut answers = Vec::new();
+    for version in checker::VERSIONS {
+        answers.extend(other_answers(rng, case, version));
+    }
     if let Ok(Answer::Lasso { stem, cycle }) = checker::check(case, own) {
         answers.push(many_times_round(&stem, &cycle));
     }
     for answer in answers {
-        let call = parts.call(Making::Steps(answer.text().into_bytes()));
+        let odd = rng.pick(VERSIONS);
+        let version = rng.pick(&["1", "1", "2", "2", odd]);
+        let call = parts.call(Making::Steps(answer.text_as(version).into_bytes()));
         comparison.make(&call)?;
     }
     let output = random_output(rng);

@@ -2,15 +2,17 @@
 //! does everything with it.
 
 use inputs::acts;
-use inputs::answers::{numbered_empty, shifted_empty, walked_lasso};
-use inputs::damage::damaged;
+use inputs::answers::{other_answers, shifted_empty};
+use inputs::damage::{VERSIONS, damaged, with_version};
 use inputs::graphs::{Size, random_case, text_of, with_wrong_value};
 use inputs::rng::Rng;
 use reference::answer::Answer;
 use reference::case::Case;
+use reference::checker;
 use reference::run::by_rounds;
 
 use crate::compare::{Comparison, Entry, LEAST, Lengths, Mismatch};
+use crate::rests::{compare_list, compare_whole};
 
 /// Longest list that a schedule is made for.
 const LONGEST_LIST: usize = 20_000;
@@ -57,8 +59,7 @@ fn compare_rounds(
     text: &[u8],
 ) -> Result<Vec<u8>, Mismatch> {
     comparison.run(Entry::Rounds, text, random_lengths(rng))?;
-    let (outcome, answer) = comparison.run(Entry::Rounds, text, LEAST)?;
-    comparison.check_own(text, &answer, outcome.verdict)?;
+    let answer = compare_whole(comparison, case)?;
     let mut changed = case.clone();
     let vertex = rng.below(case.vertices());
     changed.accepting[vertex] ^= true;
@@ -116,10 +117,8 @@ fn compare_around_end(
     list: &[u32],
 ) -> Result<(), Mismatch> {
     let end = acts::length_to_end(case, list).unwrap_or(list.len());
-    let (outcome, answer) = comparison.run(Entry::List(&list[..end]), text, LEAST)?;
-    if outcome.refusal == 0 {
-        comparison.check_own(text, &answer, outcome.verdict)?;
-    }
+    compare_list(comparison, case, text, &list[..end])?;
+    compare_list(comparison, case, text, &list[..end - 1])?;
     comparison.run(Entry::List(&list[..end - 1]), text, random_lengths(rng))?;
     let mut longer = [&list[..end], &acts::any(rng, case, 5)].concat();
     comparison.run(Entry::List(&longer), text, random_lengths(rng))?;
@@ -128,23 +127,29 @@ fn compare_around_end(
     Ok(())
 }
 
-/// Answers that another tool might give.
+/// Answers that another tool might give, about either version's graph, each in
+/// both versions and in what may be none.
 fn compare_other_answers(
     comparison: &mut Comparison,
     rng: &mut Rng,
     case: &Case,
     text: &[u8],
 ) -> Result<(), Mismatch> {
-    let mut answers = vec![numbered_empty(rng, case), numbered_empty(rng, case)];
-    answers.extend(walked_lasso(rng, case));
-    answers.extend(walked_lasso(rng, case));
+    let mut answers = Vec::new();
+    for version in checker::VERSIONS {
+        answers.extend(other_answers(rng, case, version));
+    }
     if let Some(Answer::Empty { reached }) = Answer::of(&by_rounds(case)) {
         answers.push(shifted_empty(rng, &reached));
     }
     for answer in answers {
-        let answer = answer.text().into_bytes();
-        comparison.check(text, &answer)?;
-        comparison.check(text, &damaged(rng, &answer))?;
+        for version in checker::VERSIONS {
+            let answer = answer.text_as(version).into_bytes();
+            comparison.check(text, &answer)?;
+            comparison.check(text, &damaged(rng, &answer))?;
+        }
+        let odd = answer.text_as(rng.pick(VERSIONS));
+        comparison.check(text, odd.as_bytes())?;
     }
     Ok(())
 }
@@ -185,8 +190,8 @@ fn compare_damaged_answers(
     strokes: usize,
 ) -> Result<(), Mismatch> {
     for _ in 0..2 * strokes {
-        let answer = damaged(rng, answer);
-        comparison.check(text, &answer)?;
+        let answer = with_version(answer, rng.pick(&["1", "2", "2"]));
+        comparison.check(text, &damaged(rng, &answer))?;
     }
     comparison.check(&damaged(rng, text), &damaged(rng, answer))?;
     Ok(())

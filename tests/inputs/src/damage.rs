@@ -37,6 +37,9 @@ const ODD_FIELDS: &[&str] = &[
     "1999",
     "2000",
     "2001",
+    "2495",
+    "2496",
+    "2500",
     "4294967297",
     "999999999",
     "-999999999",
@@ -57,11 +60,15 @@ const ODD_FIELDS: &[&str] = &[
     "\u{661}",
 ];
 
-const ODD_VERSIONS: &[&str] = &[
+/// What may stand in place of a version: those that are known, other numbers, and
+/// what is no number.
+pub const VERSIONS: &[&str] = &[
     "0",
     "1",
     "2",
+    "3",
     "01",
+    "02",
     "00",
     "10",
     "999999999",
@@ -166,20 +173,29 @@ fn widen_gap(rng: &mut Rng, text: &mut Vec<u8>) {
 
 /// Replaces line 2's first field, at times beside a broken line 1.
 fn replace_version(rng: &mut Rng, text: &mut Vec<u8>) {
+    *text = with_version(text, rng.pick(VERSIONS));
     let Some(first_end) = text.iter().position(|&byte| byte == b'\n') else {
         return;
     };
     let start = first_end + 1;
-    let length = text[start..]
-        .iter()
-        .position(|&byte| byte == b' ' || byte == b'\n');
-    let end = length.map_or(text.len(), |length| start + length);
-    text.splice(start..end, rng.pick(ODD_VERSIONS).bytes());
     match rng.below(6) {
         0 => text.insert(first_end, b'x'),
         1 => text.truncate(start + rng.below(text.len() - start + 1)),
         _ => {}
     }
+}
+
+/// A copy with this in place of line 2's first field, if there is a line 2.
+pub fn with_version(text: &[u8], version: &str) -> Vec<u8> {
+    let mut text = text.to_vec();
+    if let Some(first_end) = text.iter().position(|&byte| byte == b'\n') {
+        let start = first_end + 1;
+        let ends = |&byte: &u8| byte == b' ' || byte == b'\n';
+        let length = text[start..].iter().position(ends);
+        let end = length.map_or(text.len(), |length| start + length);
+        text.splice(start..end, version.bytes());
+    }
+    text
 }
 
 /// Raises or lowers one number by one.

@@ -29,6 +29,8 @@ enum Edges {
     Ring,
     /// Rising ones and a single edge back.
     OneBack,
+    /// Any from some of the vertices: the others rest.
+    FewLeave,
 }
 
 /// A random case.
@@ -41,7 +43,7 @@ pub fn random_case(rng: &mut Rng, size: Size) -> Case {
     let few_workers = rng.pick(&[1, 2, 2, 3, 4]);
     let any_workers = rng.between(1, MOST_WORKERS);
     let workers = rng.pick(&[few_workers, few_workers, any_workers]);
-    Case {
+    let mut case = Case {
         source: if rng.chance(1, 2) {
             0
         } else {
@@ -51,7 +53,14 @@ pub fn random_case(rng: &mut Rng, size: Size) -> Case {
         accepting: random_marks(rng, vertices),
         owners: (0..vertices).map(|_| rng.below(workers)).collect(),
         edges: random_edges(rng, vertices, size),
+    };
+    // Else nearly every case with a mark and a dead end would have a lasso.
+    if rng.chance(1, 2) {
+        for vertex in 0..vertices {
+            case.accepting[vertex] &= !case.rests(vertex);
+        }
     }
+    case
 }
 
 /// Accepting marks of every density, from none through one to all.
@@ -71,24 +80,21 @@ fn random_edges(rng: &mut Rng, vertices: usize, size: Size) -> Vec<(usize, usize
         Edges::Rising,
         Edges::Ring,
         Edges::OneBack,
+        Edges::FewLeave,
     ]);
-    let possible = vertices * vertices;
-    let wanted = match size {
-        Size::Large => rng.pick(&[vertices, 2 * vertices, MOST_EDGES]),
-        _ if rng.chance(1, 4) => rng.between(0, possible),
-        _ => rng.between(0, 2 * vertices),
-    };
+    let leaves: Vec<bool> = (0..vertices).map(|_| rng.chance(1, 2)).collect();
+    let wanted = wanted_edges(rng, vertices, size);
     let mut edges = BTreeSet::new();
     if let Edges::Ring = style {
         edges.extend((0..vertices).map(|vertex| (vertex, (vertex + 1) % vertices)));
     }
-    // Draws that repeat an edge or break the style are lost: `wanted` is an
-    // aim, not a promise.
+    // Draws that repeat an edge or break the style are lost.
     for _ in 0..2 * wanted {
         let (from, to) = (rng.below(vertices), rng.below(vertices));
         let fits = match style {
             Edges::Any | Edges::Ring => true,
             Edges::Rising | Edges::OneBack => from < to,
+            Edges::FewLeave => leaves[from],
         };
         if fits && edges.len() < wanted.min(MOST_EDGES) {
             edges.insert((from, to));
@@ -101,6 +107,28 @@ fn random_edges(rng: &mut Rng, vertices: usize, size: Size) -> Vec<(usize, usize
         edges.insert((rng.between(to, vertices - 1), to));
     }
     edges.into_iter().collect()
+}
+
+/// How many edges to aim at; it is no promise.
+fn wanted_edges(rng: &mut Rng, vertices: usize, size: Size) -> usize {
+    match size {
+        Size::Large => rng.pick(&[vertices, 2 * vertices, MOST_EDGES]),
+        _ if rng.chance(1, 4) => rng.between(0, vertices * vertices),
+        _ => rng.between(0, 2 * vertices),
+    }
+}
+
+/// The most vertices, for one worker, and the first so many of all edges between
+/// them: whatever comes after the last vertex that one leaves rests.
+pub fn first_edges(count: usize, source: usize, accepting: impl Fn(usize) -> bool) -> Case {
+    let edge = |place| (place / MOST_VERTICES, place % MOST_VERTICES);
+    Case {
+        source,
+        workers: 1,
+        accepting: (0..MOST_VERTICES).map(accepting).collect(),
+        owners: vec![0; MOST_VERTICES],
+        edges: (0..count).map(edge).collect(),
+    }
 }
 
 /// Every graph on so many vertices with every source, each under every way to

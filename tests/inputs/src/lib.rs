@@ -16,3 +16,4 @@ pub mod product_rows;
 pub mod products;
 mod readings;
 pub mod rng;
+pub mod written_out;

@@ -4,13 +4,14 @@
 use std::fmt::Write;
 
 use crate::charts::text_of;
+use crate::damage::with_version;
 use crate::products::{
     Call, EXAMPLE_ANSWER, EXAMPLE_CASE, EXAMPLE_CHART, EXAMPLE_CLAIM, EXAMPLE_STEPS, Making,
     claim_of, counted_chart, counted_claim, split_claim,
 };
 
 /// How many readings there are.
-pub const READINGS: usize = 11;
+pub const READINGS: usize = 12;
 
 /// A refusal with mode and combination.
 type Refused = (u32, u32, u32);
@@ -39,6 +40,7 @@ pub fn rows(reading: usize) -> Rows {
         9 => answers(),
         10 => lines(),
         11 => names(),
+        12 => [stopped_claims(), versions()].concat(),
         _ => panic!("no reading {reading}"),
     }
 }
@@ -98,20 +100,20 @@ fn case_file(source: usize, marks: &str, edges: &[(usize, usize)]) -> Want {
 }
 
 fn lasso(stem: &[usize], cycle: &[usize]) -> String {
-    let counts = format!("1 lasso {} {} 0", stem.len(), cycle.len());
+    let counts = format!("2 lasso {} {} 0", stem.len(), cycle.len());
     let edges = stem.iter().chain(cycle).map(|edge| format!("{edge}\n"));
     let edges: String = edges.collect();
     format!("version verdict stem cycle reached\n{counts}\nedge\n{edges}")
 }
 
 fn empty(lines: &[&str]) -> String {
-    let counts = format!("1 empty 0 0 {}", lines.len());
+    let counts = format!("2 empty 0 0 {}", lines.len());
     let lines: String = lines.iter().map(|line| format!("{line}\n")).collect();
     format!("version verdict stem cycle reached\n{counts}\nvertex distance\n{lines}")
 }
 
 /// Every pair is a vertex, one that cannot be reached too, and it is accepting
-/// where its claim state is.
+/// where its claim state is and an edge leaves it.
 fn pairs() -> Rows {
     let apart = chart("1 2 0 1", "A B", "0 0 0 0, 1 0 0 1");
     let loops = [(0, 0), (1, 1), (2, 2), (3, 3)];
@@ -124,11 +126,11 @@ fn pairs() -> Rows {
         ),
         (
             build(&apart, &claim_of(0, 1, &["", "{0}"]), 1),
-            case_file(0, "0101", &[]),
+            case_file(0, "0000", &[]),
         ),
         (
             build(&apart, &claim_of(0, 1, &["{0} [f] 0"]), 1),
-            case_file(0, "11", &[]),
+            case_file(0, "00", &[]),
         ),
         (
             build(&apart, &claim_of(0, 1, &["{} [0] 0"]), 1),
@@ -143,11 +145,11 @@ fn starts() -> Rows {
     for (mode, state) in [(0, 0), (1, 0), (0, 2), (1, 2), (2, 1)] {
         let counts = format!("1 3 {mode} 1");
         let chart = chart(&counts, "A B C", "0 0 0 1, 1 0 0 2, 2 0 0 0");
-        let claim = claim_of(state, 1, &["{0}", "", "[t] 1"]);
+        let claim = claim_of(state, 1, &["", "{0}", "{0} [t] 1"]);
         let edges = [(2, 4), (5, 7), (8, 1)];
         rows.push((
             build(&chart, &claim, 1),
-            case_file(3 * mode + state, "100100100", &edges),
+            case_file(3 * mode + state, "001001001", &edges),
         ));
     }
     rows
@@ -356,7 +358,7 @@ fn listing_by_two_reasons() -> Rows {
     let false_lasso = lasso(&[], &[999_999_999]);
     let answers: [(&[u8], u32); 4] = [
         (&overlong, 1),
-        (b"version x\n2", 3),
+        (b"version x\n3", 3),
         (b"", 12),
         (false_lasso.as_bytes(), 13),
     ];
@@ -444,8 +446,8 @@ fn answers() -> Rows {
     row(&overlong[..OUTPUT], 12);
     for (old, new, refusal) in [
         ("version v", "verdict v", 12),
-        ("1 lasso", "2 lasso", 3),
-        ("1 lasso", "01 lasso", 12),
+        ("2 lasso", "3 lasso", 3),
+        ("2 lasso", "02 lasso", 12),
         ("lasso 1 1 0", "lasso 2 0 0", 12),
         ("lasso 1 1 0", "lasso 1 1 1", 12),
         ("lasso 1 1 0", "lasso 501 1 0", 12),
@@ -566,4 +568,61 @@ fn the_last_state() -> (Call, Want) {
     let answer = lasso(&[18], &[14, 29]);
     let text = "Hold s3\nHold 14\nHold 14\n";
     (list(&chart, &claim, answer.as_bytes()), Ok(text.into()))
+}
+
+/// A pair accepts only where the claim goes on. The flag leads from A to B, which
+/// stays.
+fn stopped_claims() -> Rows {
+    let chart = chart("1 2 0 1", "A B", "0 1 0 0, 0 1 1 1, 1 0 0 1");
+    let rows: [(&[&str], &str, &[_]); 5] = [
+        (&["{0} [t] 0"], "11", &[(0, 0), (0, 1), (1, 1)]),
+        (&["{0}"], "00", &[]),
+        (&["{0} [0] 1", "{0}"], "1010", &[(0, 3), (2, 3)]),
+        (&["{0} [0] 1 [!0] 1", ""], "1010", &[(0, 1), (0, 3), (2, 3)]),
+        (
+            &["[t] 1", "{0} [0 & !0] 1"],
+            "0000",
+            &[(0, 1), (0, 3), (2, 3)],
+        ),
+    ];
+    rows.map(|(lines, marks, edges)| {
+        (
+            build(&chart, &claim_of(0, 1, lines), 1),
+            case_file(0, marks, edges),
+        )
+    })
+    .into()
+}
+
+/// Answers of each version to the example's chart with a claim that stops:
+/// vertices 1 and 3 rest, by edges 8 and 9, and do not accept. So both versions
+/// show the same; but those two edges are told as 13 on their line in version 1
+/// alone.
+fn versions() -> Rows {
+    let stops = claim_of(0, 2, &["[t] 0 [!1] 1", "{0}"]);
+    let mut rows = Rows::new();
+    let mut row = |version: &str, answer: String, want: Want| {
+        let answer = with_version(answer.as_bytes(), version);
+        let call = list(EXAMPLE_CHART.as_bytes(), &stops, &answer);
+        rows.push((call, want));
+    };
+    for version in ["1", "2"] {
+        let reached = ["0 0", "1 0", "2 0", "3 0"];
+        row(version, empty(&reached), Ok(vec![]));
+        row(version, empty(&reached[..3]), refused(13));
+        for edge in [0, 7, 8, 9, 10] {
+            row(version, lasso(&[1], &[edge]), refused(13));
+            let told_on_its_line = edge > if version == "1" { 7 } else { 9 };
+            let refusal = if told_on_its_line { 13 } else { 12 };
+            row(version, lasso(&[1], &[edge]) + "x", refused(refusal));
+        }
+    }
+    for (version, refusal) in [("0", 3), ("3", 3), ("10", 3), ("01", 12), ("02", 12)] {
+        row(version, empty(&["0 0"]), refused(refusal));
+    }
+    rows.push((
+        example_steps(&with_version(EXAMPLE_ANSWER.as_bytes(), "1")),
+        Ok(EXAMPLE_STEPS.into()),
+    ));
+    rows
 }

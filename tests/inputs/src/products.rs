@@ -81,7 +81,7 @@ from to
 
 /// By rounds, in nine acts.
 pub const EXAMPLE_ANSWER: &str = "version verdict stem cycle reached
-1 lasso 1 1 0
+2 lasso 1 1 0
 edge
 1
 4

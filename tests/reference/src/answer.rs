@@ -1,7 +1,12 @@
 //! The answer that a run gives, and its text.
 
-use crate::case::Case;
+use std::fmt::Display;
+
+use crate::graph::Graph;
 use crate::run::{Finding, Run};
+
+/// The version of the answers that runs write: about the graph with rest loops.
+pub const VERSION: usize = 2;
 
 pub const ANSWER_NAMES: &str = "version verdict stem cycle reached";
 pub const LASSO_NAMES: &str = "edge";
@@ -22,8 +27,9 @@ impl Answer {
         match run.finding? {
             Finding::Lasso { breaker } => {
                 let cycle = cycle(run, breaker).expect("parents below the floor close a cycle");
-                let (start, _) = run.case.edges[cycle[0]];
-                let stem = stem(run.case, start).expect("a vertex with a distance can be reached");
+                let (start, _) = run.graph.edges[cycle[0]];
+                let stem =
+                    stem(&run.graph, start).expect("a vertex with a distance can be reached");
                 Some(Answer::Lasso { stem, cycle })
             }
             Finding::Empty => Some(Answer::Empty {
@@ -42,14 +48,19 @@ impl Answer {
 
     /// The whole answer file.
     pub fn text(&self) -> String {
+        self.text_as(VERSION)
+    }
+
+    /// The same as one of another version, which need not be one.
+    pub fn text_as(&self, version: impl Display) -> String {
         match self {
             Answer::Lasso { stem, cycle } => {
-                let counts = format!("1 lasso {} {} 0", stem.len(), cycle.len());
+                let counts = format!("{version} lasso {} {} 0", stem.len(), cycle.len());
                 let lines = stem.iter().chain(cycle).map(|edge| edge.to_string());
                 file([ANSWER_NAMES, &counts, LASSO_NAMES], lines)
             }
             Answer::Empty { reached } => {
-                let counts = format!("1 empty 0 0 {}", reached.len());
+                let counts = format!("{version} empty 0 0 {}", reached.len());
                 let lines = reached
                     .iter()
                     .map(|(vertex, distance)| format!("{vertex} {distance}"));
@@ -69,14 +80,14 @@ fn file(head: [&str; 3], lines: impl Iterator<Item = String>) -> String {
 pub fn cycle(run: &Run, breaker: usize) -> Option<Vec<usize>> {
     let mut start = breaker;
     for _ in 0..run.case.vertices() {
-        start = run.case.edges[run.parents[start]?].0;
+        start = run.graph.edges[run.parents[start]?].0;
     }
     let mut backwards = Vec::new();
     let mut vertex = start;
     loop {
         let edge = run.parents[vertex]?;
         backwards.push(edge);
-        vertex = run.case.edges[edge].0;
+        vertex = run.graph.edges[edge].0;
         if vertex == start {
             backwards.reverse();
             return Some(backwards);
@@ -86,26 +97,27 @@ pub fn cycle(run: &Run, breaker: usize) -> Option<Vec<usize>> {
 
 /// The walk of fewest edges from the source to a vertex, first in dictionary
 /// order among equals; nothing if no walk leads there.
-pub fn stem(case: &Case, end: usize) -> Option<Vec<usize>> {
-    let edges_left = fewest_edges_to(case, end);
+pub fn stem(graph: &Graph, end: usize) -> Option<Vec<usize>> {
+    let edges_left = fewest_edges_to(graph, end);
     let mut stem = Vec::new();
-    let mut vertex = case.source;
-    for left in (0..edges_left[case.source]?).rev() {
+    let mut vertex = graph.case.source;
+    for left in (0..edges_left[vertex]?).rev() {
         // Each step takes the first edge that loses no ground.
-        let nearer = |edge: &usize| edges_left[case.edges[*edge].1] == Some(left);
-        let edge = case.edges_from(vertex).find(nearer)?;
+        let nearer = |edge: &usize| edges_left[graph.edges[*edge].1] == Some(left);
+        let edge = graph.edges_from(vertex).iter().copied().find(nearer)?;
         stem.push(edge);
-        vertex = case.edges[edge].1;
+        vertex = graph.edges[edge].1;
     }
     Some(stem)
 }
 
 /// By vertex, the fewest edges of a walk from it to `end`.
-pub fn fewest_edges_to(case: &Case, end: usize) -> Vec<Option<usize>> {
-    let mut fewest = vec![None; case.vertices()];
+pub fn fewest_edges_to(graph: &Graph, end: usize) -> Vec<Option<usize>> {
+    let vertices = graph.case.vertices();
+    let mut fewest = vec![None; vertices];
     fewest[end] = Some(0);
-    for left in 0..case.vertices() {
-        for &(from, to) in &case.edges {
+    for left in 0..vertices {
+        for &(from, to) in &graph.edges {
             if fewest[to] == Some(left) && fewest[from].is_none() {
                 fewest[from] = Some(left + 1);
             }

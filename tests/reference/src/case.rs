@@ -1,7 +1,6 @@
 //! The case file.
 
 use std::fmt::Write;
-use std::ops::Range;
 
 use crate::refusal::Refusal;
 use crate::text::{LONGEST_FILE, Lines, VERSION_WORD, has_other_version};
@@ -9,6 +8,9 @@ use crate::text::{LONGEST_FILE, Lines, VERSION_WORD, has_other_version};
 pub const MOST_VERTICES: usize = 500;
 pub const MOST_EDGES: usize = 2_000;
 pub const MOST_WORKERS: usize = 16;
+
+/// The only version of case files.
+pub const VERSION: usize = 1;
 
 pub const COUNT_NAMES: &str = "version vertices edges source workers";
 pub const VERTEX_NAMES: &str = "vertex accepting owner";
@@ -36,27 +38,15 @@ impl Case {
         self.accepting.iter().filter(|&&mark| mark).count()
     }
 
-    /// P + m in the paper: acts are the numbers below this.
+    /// P + m in the paper: acts are the numbers below this. Rest loops have no
+    /// acts.
     pub fn act_count(&self) -> usize {
         self.workers + self.edges.len()
     }
 
-    /// The numbers of the edges that leave a vertex.
-    pub fn edges_from(&self, vertex: usize) -> Range<usize> {
-        let first = self.edges.partition_point(|&(from, _)| from < vertex);
-        let end = self.edges.partition_point(|&(from, _)| from <= vertex);
-        first..end
-    }
-
-    pub fn length(&self, edge: usize) -> i32 {
-        let (from, _) = self.edges[edge];
-        if self.accepting[from] { -1 } else { 0 }
-    }
-
-    /// Whether the edge joins vertices of two owners, and so has a cell.
-    pub fn has_cell(&self, edge: usize) -> bool {
-        let (from, to) = self.edges[edge];
-        self.owners[from] != self.owners[to]
+    /// Whether a vertex has no outgoing edge.
+    pub fn rests(&self, vertex: usize) -> bool {
+        self.edges.iter().all(|&(from, _)| from != vertex)
     }
 }
 
@@ -76,7 +66,7 @@ pub fn read(text: &[u8]) -> Result<Case, Refusal> {
     if !text.starts_with(VERSION_WORD) {
         return Err(Refusal::NoVersionWord);
     }
-    if has_other_version(text) {
+    if has_other_version(text, &[VERSION]) {
         return Err(Refusal::OtherVersion);
     }
     let mut lines = Lines::of(text);
@@ -105,7 +95,7 @@ fn read_names(lines: &mut Lines, names: &str) -> Result<(), Refusal> {
 
 fn read_counts(lines: &mut Lines) -> Result<Counts, Refusal> {
     read_names(lines, COUNT_NAMES)?;
-    // The version is 1 here: any other number was refused before.
+    // Another version was refused before.
     let [_version, vertices, edges, source, workers] =
         lines.next_numbers().ok_or(Refusal::CaseLayout)?;
     let in_range = (1..=MOST_VERTICES).contains(&vertices)
@@ -161,7 +151,7 @@ fn read_edges(lines: &mut Lines, counts: &Counts) -> Result<Vec<(usize, usize)>,
 pub fn text_of(case: &Case) -> Vec<u8> {
     let (vertices, edges) = (case.vertices(), case.edges.len());
     let mut text = format!(
-        "{COUNT_NAMES}\n1 {vertices} {edges} {} {}\n",
+        "{COUNT_NAMES}\n{VERSION} {vertices} {edges} {} {}\n",
         case.source, case.workers
     );
     text += &format!("{VERTEX_NAMES}\n");

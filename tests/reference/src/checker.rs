@@ -1,19 +1,41 @@
 //! The checker of answer files.
 
-use crate::answer::{ANSWER_NAMES, Answer, EMPTY_NAMES, LASSO_NAMES};
+use crate::answer::{self, ANSWER_NAMES, Answer, EMPTY_NAMES, LASSO_NAMES};
 use crate::case::Case;
+use crate::graph::Graph;
+use crate::older;
 use crate::refusal::Refusal;
 use crate::text::{
     LONGEST_FILE, Lines, SignedNumber, VERSION_WORD, has_other_version, number, signed_number,
+    version,
 };
+
+/// The versions of answers that are judged, each by its own meaning.
+pub const VERSIONS: [usize; 2] = [older::VERSION, answer::VERSION];
 
 const HIGHEST_COUNT: usize = 500;
 const HIGHEST_DISTANCE: usize = 500;
 
-/// Reads an answer to an accepted case and judges it by the passing rule.
+/// Reads an answer to an accepted case and judges it by what its version means.
 pub fn check(case: &Case, text: &[u8]) -> Result<Answer, Refusal> {
-    let answer = read(case, text)?;
-    if passes(case, &answer) {
+    judge(&meant(case, text), &VERSIONS, text)
+}
+
+/// The graph that an answer is about. Where it has no version, it is refused
+/// whatever the graph.
+pub fn meant<'a>(case: &'a Case, text: &[u8]) -> Graph<'a> {
+    if version(text) == Some(answer::VERSION) {
+        Graph::rested(case)
+    } else {
+        Graph::of_file(case)
+    }
+}
+
+/// Reads an answer of one of these versions about a graph and judges it by the
+/// passing rule.
+pub fn judge(graph: &Graph, versions: &[usize], text: &[u8]) -> Result<Answer, Refusal> {
+    let answer = read(graph, versions, text)?;
+    if passes(graph, &answer) {
         Ok(answer)
     } else {
         Err(Refusal::AnswerWrong)
@@ -27,20 +49,20 @@ enum Counts {
 }
 
 /// Reads an answer; the first fault from the front decides.
-pub fn read(case: &Case, text: &[u8]) -> Result<Answer, Refusal> {
+pub fn read(graph: &Graph, versions: &[usize], text: &[u8]) -> Result<Answer, Refusal> {
     if text.len() > LONGEST_FILE {
         return Err(Refusal::FileTooLong);
     }
     if !text.starts_with(VERSION_WORD) {
         return Err(Refusal::AnswerLayout);
     }
-    if has_other_version(text) {
+    if has_other_version(text, versions) {
         return Err(Refusal::OtherVersion);
     }
     let mut lines = Lines::of(text);
     let answer = match read_counts(&mut lines)? {
-        Counts::Lasso { stem, cycle } => read_lasso(case, &mut lines, stem, cycle)?,
-        Counts::Empty { reached } => read_empty(case, &mut lines, reached)?,
+        Counts::Lasso { stem, cycle } => read_lasso(graph, &mut lines, stem, cycle)?,
+        Counts::Empty { reached } => read_empty(graph, &mut lines, reached)?,
     };
     if !lines.at_end() {
         return Err(Refusal::AnswerLayout);
@@ -74,7 +96,7 @@ fn counts_of_line(lines: &mut Lines) -> Option<Counts> {
 }
 
 fn read_lasso(
-    case: &Case,
+    graph: &Graph,
     lines: &mut Lines,
     stem: usize,
     cycle: usize,
@@ -83,7 +105,7 @@ fn read_lasso(
     let mut edges = Vec::new();
     for _ in 0..stem + cycle {
         let [edge] = lines.next_numbers().ok_or(Refusal::AnswerLayout)?;
-        if edge >= case.edges.len() {
+        if edge >= graph.edges.len() {
             return Err(Refusal::AnswerWrong);
         }
         edges.push(edge);
@@ -92,14 +114,14 @@ fn read_lasso(
     Ok(Answer::Lasso { stem: edges, cycle })
 }
 
-fn read_empty(case: &Case, lines: &mut Lines, count: usize) -> Result<Answer, Refusal> {
+fn read_empty(graph: &Graph, lines: &mut Lines, count: usize) -> Result<Answer, Refusal> {
     read_names(lines, EMPTY_NAMES)?;
     let mut reached: Vec<(usize, i32)> = Vec::new();
     for _ in 0..count {
         // Both fields must be well formed before either value is judged.
         let (vertex, distance) = vertex_line(lines).ok_or(Refusal::AnswerLayout)?;
         let rises = reached.last().is_none_or(|&(before, _)| before < vertex);
-        if vertex >= case.vertices() || !rises {
+        if vertex >= graph.case.vertices() || !rises {
             return Err(Refusal::AnswerWrong);
         }
         let distance = distance_in_range(distance).ok_or(Refusal::AnswerLayout)?;
@@ -123,36 +145,38 @@ fn distance_in_range(number: SignedNumber) -> Option<i32> {
 }
 
 /// The passing rule.
-pub fn passes(case: &Case, answer: &Answer) -> bool {
+pub fn passes(graph: &Graph, answer: &Answer) -> bool {
     match answer {
         Answer::Lasso { stem, cycle } => {
-            is_lasso_shaped(case, stem, cycle) && leaves_accepting(case, cycle)
+            is_lasso_shaped(graph, stem, cycle) && leaves_accepting(graph, cycle)
         }
-        Answer::Empty { reached } => is_closed(case, reached),
+        Answer::Empty { reached } => is_closed(graph, reached),
     }
 }
 
 /// Whether stem and cycle are one walk from the source and the cycle closes.
-pub fn is_lasso_shaped(case: &Case, stem: &[usize], cycle: &[usize]) -> bool {
-    let mut at = case.source;
+pub fn is_lasso_shaped(graph: &Graph, stem: &[usize], cycle: &[usize]) -> bool {
+    let mut at = graph.case.source;
     for &edge in stem.iter().chain(cycle) {
-        let (from, to) = case.edges[edge];
+        let (from, to) = graph.edges[edge];
         if from != at {
             return false;
         }
         at = to;
     }
-    at == case.edges[cycle[0]].0
+    at == graph.edges[cycle[0]].0
 }
 
 /// Whether one of the edges leaves an accepting vertex.
-pub fn leaves_accepting(case: &Case, edges: &[usize]) -> bool {
-    edges.iter().any(|&edge| case.accepting[case.edges[edge].0])
+pub fn leaves_accepting(graph: &Graph, edges: &[usize]) -> bool {
+    edges
+        .iter()
+        .any(|&edge| graph.case.accepting[graph.edges[edge].0])
 }
 
 /// Whether the source is listed and no edge from a listed vertex leads out of
 /// the list or to a number that is too high.
-fn is_closed(case: &Case, reached: &[(usize, i32)]) -> bool {
+fn is_closed(graph: &Graph, reached: &[(usize, i32)]) -> bool {
     let listed = |vertex| {
         reached
             .iter()
@@ -160,11 +184,11 @@ fn is_closed(case: &Case, reached: &[(usize, i32)]) -> bool {
             .map(|entry| entry.1)
     };
     let keeps = |edge: usize| {
-        let (from, to) = case.edges[edge];
+        let (from, to) = graph.edges[edge];
         let Some(start) = listed(from) else {
             return true;
         };
-        listed(to).is_some_and(|end| end <= start + case.length(edge))
+        listed(to).is_some_and(|end| end <= start + graph.length(edge))
     };
-    listed(case.source).is_some() && (0..case.edges.len()).all(keeps)
+    listed(graph.case.source).is_some() && (0..graph.edges.len()).all(keeps)
 }

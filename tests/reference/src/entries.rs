@@ -294,8 +294,8 @@ impl Tool for Reference {
         write_with(output, || {
             let product = read_product(chart, claim)?;
             let case = product.case(1)?;
-            let answer = checker::check(&case, answer)?;
-            Ok(product.listing(&case, &answer))
+            let passing = checker::check(&case, answer)?;
+            Ok(product.listing(&checker::meant(&case, answer), &passing))
         })
     }
 }

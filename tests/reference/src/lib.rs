@@ -14,6 +14,8 @@ pub mod claim;
 pub mod claim_label;
 pub mod claim_tokens;
 pub mod entries;
+pub mod graph;
+pub mod older;
 pub mod plain;
 pub mod product;
 pub mod refusal;

@@ -10,6 +10,7 @@ use crate::answer::Answer;
 use crate::case::{Case, MOST_EDGES};
 use crate::chart::Chart;
 use crate::claim::{Claim, Edge};
+use crate::graph::Graph;
 use crate::refusal::Refusal;
 
 /// A chart or a claim as an automaton. Its letters are combinations of flags.
@@ -98,7 +99,7 @@ impl Product {
     /// The product as a case for so many workers, if it may be one.
     pub fn case(&self, workers: usize) -> Result<Case, Refusal> {
         self.judge_counts()?;
-        let case = self.graph(workers);
+        let case = self.any_case(workers);
         if case.edges.len() > MOST_EDGES {
             return Err(Refusal::TooManyEdges);
         }
@@ -112,16 +113,16 @@ impl Product {
         Ok(())
     }
 
-    /// The graph of the product, however many edges it has.
-    pub fn graph(&self, workers: usize) -> Case {
+    /// The case of the product, however many edges it has. Where no step leads
+    /// on, the claim has stopped and not the aircraft: such a pair does not
+    /// accept, so that no lasso rests there.
+    pub fn any_case(&self, workers: usize) -> Case {
         let pairs = self.pairs();
-        let accepting =
-            |&(mode, state): &Pair| self.chart.accepting[mode] && self.claim.accepting[state];
-        let edges: BTreeSet<(usize, usize)> = self
-            .steps()
-            .into_iter()
-            .map(|(from, to)| (self.vertex(from), self.vertex(to)))
-            .collect();
+        let steps = self.steps();
+        let going_on: BTreeSet<Pair> = steps.iter().map(|&(from, _)| from).collect();
+        let accepting = |pair: &Pair| self.accepts(*pair) && going_on.contains(pair);
+        let numbered = |(from, to)| (self.vertex(from), self.vertex(to));
+        let edges: BTreeSet<(usize, usize)> = steps.into_iter().map(numbered).collect();
         Case {
             source: self.vertex((self.chart.start, self.claim.start)),
             workers,
@@ -129,6 +130,12 @@ impl Product {
             owners: (0..pairs.len()).map(|vertex| vertex % workers).collect(),
             edges: edges.into_iter().collect(),
         }
+    }
+
+    /// Whether a pair is accepting in the product, before it is known whether a
+    /// step leads on.
+    pub fn accepts(&self, (mode, state): Pair) -> bool {
+        self.chart.accepting[mode] && self.claim.accepting[state]
     }
 
     /// Every pair, by its vertex.
@@ -155,13 +162,13 @@ impl Product {
 
     /// What is listed of a passing answer: a line for each edge of a lasso,
     /// stem first, by the vertex that it leaves.
-    pub fn listing(&self, case: &Case, answer: &Answer) -> Vec<u8> {
+    pub fn listing(&self, graph: &Graph, answer: &Answer) -> Vec<u8> {
         let Answer::Lasso { stem, cycle } = answer else {
             return Vec::new();
         };
         let pairs = self.pairs();
         let edges = stem.iter().chain(cycle);
-        let left = edges.map(|&edge| pairs[case.edges[edge].0]);
+        let left = edges.map(|&edge| pairs[graph.edges[edge].0]);
         left.flat_map(|pair| self.line(pair)).collect()
     }
 

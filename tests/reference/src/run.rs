@@ -3,6 +3,7 @@
 use std::collections::VecDeque;
 
 use crate::case::Case;
+use crate::graph::Graph;
 use crate::refusal::Refusal;
 
 /// How a run ended.
@@ -31,6 +32,8 @@ pub struct Tallies {
 #[derive(Clone, Debug)]
 pub struct Run<'a> {
     pub case: &'a Case,
+    /// Its edges, with the rest loops.
+    pub graph: Graph<'a>,
     /// −A: a distance below it shows a lasso.
     pub floor: i32,
     pub distances: Vec<Option<i32>>,
@@ -38,7 +41,8 @@ pub struct Run<'a> {
     pub parents: Vec<Option<usize>>,
     /// By worker, the vertices that wait for a scan.
     pub queues: Vec<VecDeque<usize>>,
-    /// By edge, the offer that waits. An edge without a cell never has one.
+    /// By edge of the file, the offer that waits. An edge without a cell never
+    /// has one; so a rest loop, whose ends have one owner, needs none.
     pub cells: Vec<Option<i32>>,
     /// Acts that did something.
     pub acts_counted: u64,
@@ -49,8 +53,15 @@ pub struct Run<'a> {
 impl<'a> Run<'a> {
     /// A run before its first act.
     pub fn fresh(case: &'a Case) -> Self {
+        Run::on(Graph::rested(case))
+    }
+
+    /// The same by the edges of this graph.
+    pub fn on(graph: Graph<'a>) -> Self {
+        let case = graph.case;
         let mut run = Run {
             case,
+            graph,
             floor: -(case.accepting_count() as i32),
             distances: vec![None; case.vertices()],
             parents: vec![None; case.vertices()],
@@ -93,8 +104,8 @@ impl<'a> Run<'a> {
             return false;
         };
         let distance = self.distances[vertex].expect("a queued vertex has a distance");
-        for edge in self.case.edges_from(vertex) {
-            self.offer(edge, distance + self.case.length(edge));
+        for edge in self.graph.edges_from(vertex).to_vec() {
+            self.offer(edge, distance + self.graph.length(edge));
             watch(self);
             // The floor may break in the middle of a scan, which ends it.
             if self.finding.is_some() {
@@ -107,7 +118,7 @@ impl<'a> Run<'a> {
     /// Offers a distance along an edge: on the spot within one owner, through
     /// the edge's cell otherwise.
     pub fn offer(&mut self, edge: usize, offer: i32) {
-        if self.case.has_cell(edge) {
+        if self.graph.has_cell(edge) {
             self.put(edge, offer);
         } else {
             self.try_offer(edge, offer);
@@ -133,7 +144,7 @@ impl<'a> Run<'a> {
     }
 
     fn try_offer(&mut self, edge: usize, offer: i32) {
-        let (_, target) = self.case.edges[edge];
+        let (_, target) = self.graph.edges[edge];
         if self.distances[target].is_some_and(|distance| distance <= offer) {
             return;
         }
@@ -158,10 +169,11 @@ impl<'a> Run<'a> {
         self.queues.iter().all(VecDeque::is_empty)
     }
 
-    /// What holds of the tallies at any moment: each offer that was put into a
+    /// What holds at any moment. Of the tallies: each offer that was put into a
     /// cell was delivered, joined another or still waits, and each vertex is
-    /// scanned at most A + 1 times.
-    fn assert_tallied(&self) {
+    /// scanned at most A + 1 times. Of the acts: the bound, in which m counts
+    /// the rest loops.
+    fn assert_counted(&self) {
         let Tallies {
             sent,
             delivered,
@@ -169,13 +181,16 @@ impl<'a> Run<'a> {
         } = self.tallies;
         let full = self.cells.iter().filter(|cell| cell.is_some()).count();
         assert_eq!(sent as usize, delivered as usize + joined as usize + full);
-        assert!(sent as usize <= self.case.edges.len() * (self.case.accepting_count() + 1));
+        let times = self.case.accepting_count() + 1;
+        assert!(sent as usize <= self.case.edges.len() * times);
+        let most_acts = (self.case.vertices() + self.graph.edges.len()) * times;
+        assert!(self.acts_counted as usize <= most_acts);
     }
 }
 
-/// Refuses a list with an act out of range, wherever it stands.
-pub fn judge_acts(case: &Case, acts: &[u32]) -> Result<(), Refusal> {
-    if acts.iter().any(|&act| act as usize >= case.act_count()) {
+/// Refuses a list with an act that is not below the count, wherever it stands.
+pub fn judge_acts(count: usize, acts: &[u32]) -> Result<(), Refusal> {
+    if acts.iter().any(|&act| act as usize >= count) {
         return Err(Refusal::ActOutOfRange);
     }
     Ok(())
@@ -183,21 +198,25 @@ pub fn judge_acts(case: &Case, acts: &[u32]) -> Result<(), Refusal> {
 
 /// The run by a list; it may run out of acts before it ends.
 pub fn by_list<'a>(case: &'a Case, acts: &[u32]) -> Result<Run<'a>, Refusal> {
-    judge_acts(case, acts)?;
+    judge_acts(case.act_count(), acts)?;
     let mut run = Run::fresh(case);
     for &act in acts {
-        run.act_watched(act as usize, Run::assert_tallied);
+        run.act_watched(act as usize, Run::assert_counted);
     }
     Ok(run)
 }
 
 /// The run by rounds, to its end.
 pub fn by_rounds(case: &Case) -> Run<'_> {
-    let mut run = Run::fresh(case);
+    to_end_by_rounds(Run::fresh(case))
+}
+
+/// The same of a fresh run.
+pub fn to_end_by_rounds(mut run: Run) -> Run {
     while run.finding.is_none() {
-        for act in 0..case.act_count() {
+        for act in 0..run.case.act_count() {
             run.act_watched(act, |run| {
-                run.assert_tallied();
+                run.assert_counted();
                 assert_eq!(run.tallies.joined, 0, "a round delivers what it sends");
             });
         }

@@ -77,12 +77,16 @@ pub fn signed_number(field: &[u8]) -> Option<SignedNumber> {
     })
 }
 
-/// Whether line 2's first field is a number other than 1. Only the field
-/// itself counts: lines 1 and 2 may be broken in any other way.
-pub fn has_other_version(text: &[u8]) -> bool {
+/// The number that line 2's first field is, if it is one. Only the field itself
+/// counts: lines 1 and 2 may be broken in any other way.
+pub fn version(text: &[u8]) -> Option<usize> {
     let mut lines = text.splitn(2, |&byte| byte == b'\n');
     let second_line_on = lines.nth(1).unwrap_or_default();
     let mut fields = second_line_on.split(|&byte| byte == b' ' || byte == b'\n');
-    let version = fields.next().and_then(number);
-    version.is_some_and(|version| version != 1)
+    fields.next().and_then(number)
+}
+
+/// Whether a text's version is a number, and none of these.
+pub fn has_other_version(text: &[u8], known: &[usize]) -> bool {
+    version(text).is_some_and(|version| !known.contains(&version))
 }

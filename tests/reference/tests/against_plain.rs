@@ -7,7 +7,8 @@ use inputs::rng::Rng;
 use reference::answer::Answer;
 use reference::case::{self, Case};
 use reference::checker;
-use reference::plain;
+use reference::graph::Graph;
+use reference::plain::Plain;
 use reference::run::{Run, by_list, by_rounds};
 
 const SEED: u64 = 20_260_401;
@@ -26,15 +27,16 @@ fn assert_right(case: &Case, run: &Run) {
         checker::check(case, answer.text().as_bytes()).as_ref(),
         Ok(&answer)
     );
+    let plain = Plain::rested(case);
     match &answer {
         Answer::Lasso { stem, .. } => {
-            assert!(plain::has_lasso(case));
-            assert_eq!(plain::distances(case), None);
+            assert!(plain.has_lasso());
+            assert_eq!(plain.distances(), None);
             assert!(stem.len() < case.vertices());
         }
         Answer::Empty { .. } => {
-            assert!(!plain::has_lasso(case));
-            assert_eq!(plain::distances(case).as_ref(), Some(&run.distances));
+            assert!(!plain.has_lasso());
+            assert_eq!(plain.distances().as_ref(), Some(&run.distances));
         }
     }
 }
@@ -92,11 +94,12 @@ fn rounds_are_a_list_of_whole_rounds() {
 #[test]
 fn stems_are_short_and_first_in_order() {
     for case in cases().take(3_000) {
+        let graph = Graph::rested(&case);
         let mut best: Vec<Option<Vec<usize>>> = vec![None; case.vertices()];
         best[case.source] = Some(Vec::new());
         for _ in 0..case.vertices() {
             let walks = best.clone();
-            for (edge, &(from, to)) in case.edges.iter().enumerate() {
+            for (edge, &(from, to)) in graph.edges.iter().enumerate() {
                 let Some(walk) = &walks[from] else {
                     continue;
                 };
@@ -108,7 +111,7 @@ fn stems_are_short_and_first_in_order() {
             }
         }
         for (vertex, walk) in best.into_iter().enumerate() {
-            assert_eq!(reference::answer::stem(&case, vertex), walk);
+            assert_eq!(reference::answer::stem(&graph, vertex), walk);
         }
     }
 }

@@ -3,7 +3,7 @@
 
 use std::collections::BTreeSet;
 
-use inputs::answers::walked_lasso;
+use inputs::answers::other_answers;
 use inputs::chart_rows;
 use inputs::charts::{random_cover, text_of};
 use inputs::claim_changes::changed;
@@ -23,7 +23,7 @@ use reference::chart::{Chart, Rule};
 use reference::checker;
 use reference::claim::{self, Claim};
 use reference::entries::{Built, OUTPUT_BYTES, Reference, Tool, WORK_CELLS};
-use reference::plain;
+use reference::plain::Plain;
 use reference::refusal::Refusal;
 use reference::run::by_rounds;
 
@@ -80,6 +80,7 @@ readings! {
     reading_9_answers_are_judged_as_by_the_checker 9
     reading_10_lines_by_what_the_edge_leaves 10
     reading_11_names 11
+    reading_12_claims_that_stop_and_versions 12
 }
 
 fn call(chart: &[u8], claim: &[u8], making: Making) -> Call {
@@ -150,8 +151,9 @@ fn walks(case: &Case, start: usize, left: usize) -> Walks {
     if left == 0 {
         return Walks::from([vec![start]]);
     }
-    let next = case.edges_from(start).map(|edge| case.edges[edge].1);
-    next.flat_map(|next| walks(case, next, left - 1))
+    let leaving = case.edges.iter().filter(|&&(from, _)| from == start);
+    leaving
+        .flat_map(|&(_, next)| walks(case, next, left - 1))
         .map(|rest| [&[start], &rest[..]].concat())
         .collect()
 }
@@ -169,7 +171,10 @@ fn walks_are_those_of_chart_and_claim_on_one_course_of_flags() {
             assert_eq!(walks(&case, case.source, left), want);
         }
         for (vertex, &mark) in case.accepting.iter().enumerate() {
-            assert_eq!(mark, drawn.states[vertex % drawn.states.len()].accepting);
+            let states = drawn.states.len();
+            let pair = (vertex / states, vertex % states);
+            let goes_on = !entered_from(&chart, &drawn, pair).is_empty();
+            assert_eq!(mark, drawn.states[pair.1].accepting && goes_on);
         }
         tried += 1;
     }
@@ -191,7 +196,7 @@ fn a_lasso_is_a_mission_that_the_claim_describes() {
             drawn.states[state].accepting
                 && reached_from(&chart, &drawn, after).contains(&(mode, state))
         });
-        assert_eq!(plain::has_lasso(&case), goes_round);
+        assert_eq!(Plain::rested(&case).has_lasso(), goes_round);
     }
 }
 
@@ -258,11 +263,12 @@ fn product_of(chart: &Chart, claim: &Claim, workers: usize) -> Case {
         let entered: BTreeSet<usize> = all.collect();
         edges.extend(entered.into_iter().map(|to| (from, to)));
     }
+    let goes_on = |vertex| edges.iter().any(|&(from, _)| from == vertex);
     Case {
         source: chart.start * states + claim.start as usize,
         workers,
         accepting: (0..vertices)
-            .map(|vertex| claim.states[vertex % states].accepting)
+            .map(|vertex| claim.states[vertex % states].accepting && goes_on(vertex))
             .collect(),
         owners: (0..vertices).map(|vertex| vertex % workers).collect(),
         edges,
@@ -312,23 +318,30 @@ fn listings_follow_the_checker() {
             continue;
         };
         let own = Answer::of(&by_rounds(&case)).expect("the run has ended");
-        let mut answers = vec![own.clone()];
-        answers.extend(walked_lasso(rng, &case));
-        if let Answer::Lasso { stem, cycle } = &own {
-            answers.push(many_times_round(stem, cycle));
-        }
-        for answer in answers {
-            let text = answer.text().into_bytes();
-            let refusal = checker::check(&case, &text).err().map(Refusal::number);
-            let (built, listed) = made(&call(&chart_text, &claim, Making::Steps(text)));
-            assert_eq!(built.refusal, refusal.unwrap_or(0));
-            if refusal.is_none() {
-                let left = edges_of(&answer).into_iter().map(|edge| case.edges[edge].0);
-                let lines = left.flat_map(|vertex| line(&chart, &claim, vertex));
-                assert_eq!(listed, lines.collect::<Vec<u8>>());
+        let longer = match &own {
+            Answer::Lasso { stem, cycle } => many_times_round(stem, cycle),
+            empty => empty.clone(),
+        };
+        for version in checker::VERSIONS {
+            let others = other_answers(rng, &case, version);
+            for answer in others.iter().chain([&own, &longer]) {
+                let text = answer.text_as(version).into_bytes();
+                let passed = checker::check(&case, &text);
+                let lines = passed.map(|answer| lines(&chart, &claim, &case, &answer));
+                let (built, listed) = made(&call(&chart_text, &claim, Making::Steps(text)));
+                let refusal = lines.as_ref().err().copied().map(Refusal::number);
+                assert_eq!(built.refusal, refusal.unwrap_or(0));
+                assert_eq!(listed, lines.unwrap_or_default());
             }
         }
     }
+}
+
+/// What is listed of a passing answer. None has a rest loop, since a pair that
+/// rests does not accept.
+fn lines(chart: &Chart, claim: &[u8], case: &Case, answer: &Answer) -> Vec<u8> {
+    let left = edges_of(answer).into_iter().map(|edge| case.edges[edge].0);
+    left.flat_map(|vertex| line(chart, claim, vertex)).collect()
 }
 
 fn edges_of(answer: &Answer) -> Vec<usize> {

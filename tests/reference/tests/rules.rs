@@ -5,7 +5,7 @@ use inputs::kept::{K1, kept_runs};
 use reference::entries::{Checked, OUTPUT_BYTES, Outcome, Reference, Tool, WORK_CELLS};
 use reference::run::Tallies;
 
-const LASSO: &str = "version verdict stem cycle reached\n1 lasso 1 2 0\nedge\n0\n1\n2\n";
+const LASSO: &str = "version verdict stem cycle reached\n2 lasso 1 2 0\nedge\n0\n1\n2\n";
 
 fn outcome_of_list(text: &str, acts: &[u32]) -> Outcome {
     let (mut output, mut work) = (vec![0; OUTPUT_BYTES], vec![0; WORK_CELLS]);
@@ -19,14 +19,24 @@ fn refusal_of_case(text: &str) -> u32 {
         .refusal
 }
 
+fn checked(text: &str, answer: &str) -> Checked {
+    Reference.check_answer(text.as_bytes(), answer.as_bytes())
+}
+
+/// Of an answer of version 2 to a case in which no vertex rests: one of version
+/// 1 gets the same.
+fn checked_in_both_versions(text: &str, answer: &str) -> Checked {
+    let of_first = answer.replacen("\n2 ", "\n1 ", 1);
+    assert_eq!(checked(text, &of_first), checked(text, answer), "{answer}");
+    checked(text, answer)
+}
+
 fn refusal_of_answer(answer: &str) -> u32 {
-    Reference
-        .check_answer(K1.as_bytes(), answer.as_bytes())
-        .refusal
+    checked_in_both_versions(K1, answer).refusal
 }
 
 fn empty_answer(counts: &str, lines: &str) -> String {
-    format!("version verdict stem cycle reached\n1 empty {counts}\nvertex distance\n{lines}")
+    format!("version verdict stem cycle reached\n2 empty {counts}\nvertex distance\n{lines}")
 }
 
 #[test]
@@ -200,8 +210,9 @@ fn the_case_is_judged_before_the_answer() {
 fn answers_are_judged_front_to_back() {
     assert_eq!(refusal_of_answer(LASSO), 0);
     assert_eq!(refusal_of_answer(""), 12);
-    assert_eq!(refusal_of_answer("version x\n2"), 3);
-    assert_eq!(refusal_of_answer(&LASSO.replace("1 lasso", "01 lasso")), 12);
+    assert_eq!(refusal_of_answer("version x\n3"), 3);
+    assert_eq!(refusal_of_answer("version x\n2"), 12);
+    assert_eq!(refusal_of_answer(&LASSO.replace("2 lasso", "02 lasso")), 12);
     assert_eq!(
         refusal_of_answer(&LASSO.replace("lasso 1 2 0", "lasso 3 0 0")),
         12
@@ -245,7 +256,7 @@ fn another_tools_numbers_may_pass() {
     let k2 = K1.replace("0 0 0\n1 1 1", "0 1 0\n1 0 1");
     let check = |lines: &str, count: usize| {
         let answer = empty_answer(&format!("0 0 {count}"), lines);
-        Reference.check_answer(k2.as_bytes(), answer.as_bytes())
+        checked_in_both_versions(&k2, &answer)
     };
     assert_eq!(
         check("0 500\n1 9\n2 9\n", 3),
