@@ -23,8 +23,8 @@
 extern "C" {
 #endif
 
-/* The version that this header goes with, 1.5.0: major x 10,000 + minor x 100 + patch. */
-#define REZKUNDO_VERSION 10500
+/* The version that this header goes with, 1.6.0: major x 10,000 + minor x 100 + patch. */
+#define REZKUNDO_VERSION 10600
 
 /* The version of the linked library. If it is not REZKUNDO_VERSION, header and library do not belong together. */
 uint32_t rezkundo_version(void);
@@ -92,7 +92,7 @@ enum {
  *   joined     how often an offer was put into a cell where one waited
  *
  * At any moment of a run, sent = delivered + joined + cells still full. An edge whose two ends have one owner has no cell
- * and is in no tally. Refusal 10 returns acts and tallies; every other refusal returns zeros for all but its number.
+ * and is in no tally; so it is with rest loops, the edges that a run adds where none of the file leaves a vertex. Refusal 10 returns acts and tallies; every other refusal returns zeros for all but its number.
  *
  * A later library may have refusals and verdicts that this header does not name: take an unknown one for an error, never
  * for "empty". */
@@ -105,7 +105,7 @@ typedef struct {
 /* Of a check: refusal or 0; the answer's verdict where it passes. */
 typedef struct { uint32_t refusal, verdict; } rezkundo_checked;
 
-/* Runs a case by a list of acts. 11 if the output has under 8,192 bytes or the work buffer under 16,384 cells; then 1
+/* Runs a case by a list of acts, and writes an answer of version 2. 11 if the output has under 8,192 bytes or the work buffer under 16,384 cells; then 1
  * to 8 for the case, 9 for an act out of range, 10 if the list ran out before the run ended. A refused call changes
  * neither buffer, save that 10 leaves work all zeros. After a result the answer stands at the output's front, the rest
  * of it unchanged, and work is all zeros. */
@@ -116,7 +116,8 @@ rezkundo_outcome rezkundo_run_list(const uint8_t *text, size_t text_len, const u
 rezkundo_outcome rezkundo_run_rounds(const uint8_t *text, size_t text_len, uint8_t *output, size_t output_len,
                                      int32_t *work, size_t work_len);
 
-/* Checks an answer to a case: 1 to 8 for the case, then 1, 3, 12 or 13 for the answer, or its verdict. */
+/* Checks an answer to a case: 1 to 8 for the case, then 1, 3, 12 or 13 for the answer, or its verdict. An answer of version 2
+ * is judged with the rest loops, one of version 1 by the file's edges alone, as when it was written; another version is 3. */
 rezkundo_checked rezkundo_check_answer(const uint8_t *text, size_t text_len, const uint8_t *answer, size_t answer_len);
 
 /* Of a claim: refusal 0, 14, 15 or 16; how many states it has, the start and how many propositions; of each state 1 where it

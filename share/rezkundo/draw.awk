@@ -8,8 +8,8 @@ BEGIN {
 FNR == 1 { file++ }
 file == 1 && FNR == 2 { vertices = $2; source = $4 }
 file == 1 && FNR > 3 && FNR <= 3 + vertices { accepting[$1] = $2; owner[$1] = $3 }
-file == 1 && FNR > 4 + vertices { from[edges] = $1; to[edges] = $2; edges++ }
-file == 2 && FNR == 2 { verdict = $2; stem = $3 }
+file == 1 && FNR > 4 + vertices { from[edges] = $1; to[edges] = $2; leaves[$1] = 1; edges++ }
+file == 2 && FNR == 2 { version = $1; verdict = $2; stem = $3 }
 file == 2 && FNR > 3 && verdict == "lasso" && FNR - 3 > stem { on_cycle[$1] = 1 }
 file == 2 && FNR > 3 && verdict == "lasso" && FNR - 3 <= stem { on_stem[$1] = 1 }
 file == 2 && FNR > 3 && verdict == "empty" { distance[$1] = $2 }
@@ -43,5 +43,8 @@ END {
     print "    source -> " source
     for (v = 0; v < vertices; v++) print "    " v " [" vertex(v) "]"
     for (e = 0; e < edges; e++) print "    " from[e] " -> " to[e] " [" edge(e) "]"
+    # an answer of version 1 is about the file's edges alone
+    for (v = 0; v < vertices && version != 1; v++)
+        if (!(v in leaves)) print "    " v " -> " v " [" edge(e++) " style=dashed]"
     print "}"
 }
