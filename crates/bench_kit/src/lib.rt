@@ -1,3 +1,4 @@
 // What the programs that run the search share.
+#![tactic(auto)]
 pub mod buffers;
 pub mod rows;

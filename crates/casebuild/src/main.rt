@@ -1,5 +1,6 @@
 // Builds the case file of a chart and a claim, both files named on the command line, for so many workers: prints it, or
 // `refused` and the number, and the chart's first bad pair where there is one.
+#![tactic(auto)]
 ghost use Rattle.std.specs.Prelude.{◌≤◌, length};
 ghost use Rattle.desk.specs.Lines.{Shows};
 ghost use Rattle.casebuild.specs.Printing.{page_room, printed};

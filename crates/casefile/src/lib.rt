@@ -1,5 +1,6 @@
 // The case file's reader: refusals 1 to 8 or the case, judged in one pass over the lent text. What it reads on the way goes
 // into tables of the caller's, as far as they have room. Contracts cite specs/Judging.antt and specs/Tables.antt.
+#![tactic(auto)]
 ghost use Rattle.std.specs.Prelude.{◌≡◌, ◌&&◌, ltb, eqb, drop, set};
 ghost use Rattle.std.proofs.Math.Option.{none};
 ghost use Rattle.text.specs.Lines.{lines};
@@ -13,7 +14,7 @@ use text::read::{
 use text::reader::second_line_field;
 
 // The counts of an accepted case.
-#[derive(Drop)]
+#[derive(Clone, Copy)]
 pub struct Case {
     pub vertices: usize,
     pub edges: usize,
@@ -47,7 +48,7 @@ impl Case {
 }
 
 // What a text is as a case file: its refusal, or the case.
-#[derive(Drop)]
+#[derive(Clone, Copy)]
 pub enum Judged {
     Refused(u32),
     Accepted(Case),
@@ -87,7 +88,7 @@ fn in_range(case: Case) -> bool
 }
 
 // Lines 1 to 3: the refusal, or the counts and the place past them.
-#[derive(Drop)]
+#[derive(Clone, Copy)]
 enum Head {
     Refused(u32),
     Counts(Case, usize),
@@ -137,7 +138,7 @@ pub fn put(table: &mut [u32], i: usize, value: u32)
 }
 
 // A block of lines: the refusal, or the place past it.
-#[derive(Drop)]
+#[derive(Clone, Copy)]
 enum Block {
     Refused(u32),
     Past(usize),

@@ -1,5 +1,6 @@
 // The chart's reader: 17 for a fault of the text, 18 or 19 with the first bad pair, or the chart, in one pass over the lent
 // text. Contracts cite specs/Reading.antt and specs/Pairs.antt.
+#![tactic(auto)]
 ghost use Rattle.std.specs.Prelude.{◌≡◌, true, ◌^◌, ◌≤◌, ◌<◌, length};
 ghost use Rattle.text.specs.Reading.{Part};
 ghost use Rattle.model.specs.Chart.{chart_counts_good, chart_says, most_flags};
@@ -19,7 +20,7 @@ mod names;
 mod rules;
 
 // The counts of an accepted chart.
-#[derive(Drop)]
+#[derive(Clone, Copy)]
 pub struct Chart {
     pub modes: usize,
     pub start: usize,
@@ -42,7 +43,7 @@ impl Chart {
 }
 
 // What a text is as a chart: a fault of the text; the first bad pair and its refusal; or a right chart.
-#[derive(Drop)]
+#[derive(Clone, Copy)]
 pub enum Read {
     Faulty,
     Bad(Chart, Charted),
@@ -83,7 +84,7 @@ fn counts_good(version: u32, chart: Chart) -> bool
 }
 
 // Lines 1 to 3: a fault, or the counts and the place past them.
-#[derive(Drop)]
+#[derive(Clone, Copy)]
 enum Head {
     Fault,
     Counts(Chart, usize),

@@ -1,5 +1,6 @@
 // Checks a chart, named on the command line: prints `pass`, or `refused` and the number, and the first bad pair where there
 // is one; standard error then shows its mode by name and its flags bit by bit.
+#![tactic(auto)]
 mod page;
 
 ghost use Rattle.std.specs.Prelude.{◌≤◌, length};

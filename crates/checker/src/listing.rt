@@ -72,7 +72,7 @@ fn signed(minus: bool, d: u32) -> i32
 }
 
 // A block of lines: the refusal, or the place past it.
-#[derive(Drop)]
+#[derive(Clone, Copy)]
 enum Block {
     Refused(u32),
     Past(usize),

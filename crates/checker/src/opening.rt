@@ -9,7 +9,7 @@ use casefile::{Case, other_version};
 use text::read::{Named, Row1, Row3, begins_at, field, leading_number, name_line, row_of_3, same};
 
 // Line 2's numbers: the version, and how many stem edges, cycle edges and vertices the answer lists.
-#[derive(Drop)]
+#[derive(Clone, Copy)]
 pub(crate) struct Counts {
     pub version: u32,
     pub stem: usize,
@@ -18,7 +18,7 @@ pub(crate) struct Counts {
 }
 
 // Line 2: whether it says "lasso", its numbers, and the place past it.
-#[derive(Drop)]
+#[derive(Clone, Copy)]
 enum Head {
     Says(bool, Counts, usize),
     Fault,
@@ -102,7 +102,7 @@ fn right(lasso: bool, counts: Counts) -> bool
 }
 
 // The refusal; or line 2's numbers by its verdict, and where line 3 starts.
-#[derive(Drop)]
+#[derive(Clone, Copy)]
 pub(crate) enum Opening {
     Refused(u32),
     Lasso(Counts, usize),

@@ -30,7 +30,7 @@ fn leaves(marked: bool, mark: usize) -> bool
 }
 
 // The vertex where edges end, whether each starts where the one before ended, and whether one leaves an accepting vertex.
-#[derive(Drop)]
+#[derive(Clone, Copy)]
 struct Walk {
     end: usize,
     joined: bool,
@@ -38,14 +38,14 @@ struct Walk {
 }
 
 // Edge lines: the refusal; or the place past them, and what they are as a walk.
-#[derive(Drop)]
+#[derive(Clone, Copy)]
 enum Walked {
     Refused(u32),
     Went(usize, Walk),
 }
 
 // Lines of a text: where they start, and how many there are.
-#[derive(Drop)]
+#[derive(Clone, Copy)]
 struct Rows {
     at: usize,
     count: usize,

@@ -1,6 +1,6 @@
 -- More targets for a state: a cell at a time, a word, a set, and the sets of all targets. Assumes nothing.
 use mathlib.Core.Path.{◌≡◌, refl, sym, ap, subst, ◌∙◌}
-use mathlib.Core.Bool.{Bool, true, false, ◌&&◌, ◌||◌, or_false, and_comm, or_assoc, and-or_distrib_right}
+use mathlib.Core.Bool.{Bool, true, false, ◌&&◌, ◌||◌, or-false, and_comm, or_assoc, and-or_distrib_right}
 use mathlib.Core.List.{List, [], ◌∷◌, ◌++◌}
 use mathlib.Core.Logic.{◌⊎◌, inl, inr}
 use Prim.Native.Nat.{ℕ, ◌+◌, ◌*◌, ◌-◌, ◌^◌, ◌%◌, ◌<◌, ◌≤◌}
@@ -137,7 +137,7 @@ adding_all {first} {d} {word} {u} {v} a h = subst (λ (i : ℕ). Added first i (
 pub no_bit_added : (first d : ℕ) (u : List ℕ) → Added first 64 (word_moves d 0) u u
 no_bit_added first d u =
     record {
-      added = λ i e h. sym (or_false (bit (get_or u (first + i) 0) e)) ∙ ap (λ (b : Bool). bit (get_or u (first + i) 0) e || (b && eqb e d)) (sym (bit_zero i));
+      added = λ i e h. sym (or-false (bit (get_or u (first + i) 0) e)) ∙ ap (λ (b : Bool). bit (get_or u (first + i) 0) e || (b && eqb e d)) (sym (bit_zero i));
       before = λ i h. refl;
       behind = λ i h. refl;
     }
@@ -242,7 +242,7 @@ module _ (d : ℕ) (r : Values) (u : List ℕ) where
         go t f (same q) = subst (λ (x : ℕ). holds (set_of with_set x) f ≡ (holds (set_of u x) f || (holds w f && eqb x d))) (sym q) (here_now f)
         go t f (other n) =
             ap (λ (x : Values). holds x f) (other_set t n)
-            ∙ (sym (or_false (holds (set_of u t) f))
+            ∙ (sym (or-false (holds (set_of u t) f))
             ∙ ap (λ (b : Bool). holds (set_of u t) f || b) (and_comm false (holds w f) ∙ ap (λ (b : Bool). holds w f && b) (sym (ne_eqb t d n))))
 
 -- THE CELLS FROM THE SETS: the targets below d are done
@@ -271,7 +271,7 @@ spread_none c leads sets u =
       few = omega arith;
       long = refl;
       done = record {
-        added = λ f e h. sym (or_false (bit (get_or u (move_cell c f) 0) e)) ∙ ap (λ (b : Bool). bit (get_or u (move_cell c f) 0) e || (b && targets_moves leads sets f e)) (sym (le-ltb e 0 (omega arith)));
+        added = λ f e h. sym (or-false (bit (get_or u (move_cell c f) 0) e)) ∙ ap (λ (b : Bool). bit (get_or u (move_cell c f) 0) e || (b && targets_moves leads sets f e)) (sym (le-ltb e 0 (omega arith)));
         before = λ i h. refl;
         behind = λ i h. refl;
       };
@@ -294,7 +294,7 @@ module _ {c leads : ℕ} {sets u v : List ℕ} {d : ℕ} (a : Spreading c leads 
       record {
         few = omega (arith, h);
         long = a.long;
-        done = added_as (moves_below (d + 1) leads sets) a.done (λ f e k. sym (or_false (moves_below d leads sets f e)) ∙ (ap (λ (b : Bool). moves_below d leads sets f e || b) (sym (at_target false q f e ∙ and_comm (eqb e d) false)) ∙ below_now f e));
+        done = added_as (moves_below (d + 1) leads sets) a.done (λ f e k. sym (or-false (moves_below d leads sets f e)) ∙ (ap (λ (b : Bool). moves_below d leads sets f e || b) (sym (at_target false q f e ∙ and_comm (eqb e d) false)) ∙ below_now f e));
       }
 
   pub spread_more : {w : List ℕ} (s : Values) → d < most_states → bit leads d ≡ true → length w ≡ length v → s ≡ set_of sets d → Added (moves_from c) most_values (set_moves d s) v w → Spreading c leads sets u w (d + 1)

@@ -71,7 +71,7 @@ fn title(text: &[u8], at: usize, c: usize, cells: &mut [u32]) -> Past
 }
 
 // The numbers of a mark: whether there are any, and the place past its }; or the refusal.
-#[derive(Drop)]
+#[derive(Clone, Copy)]
 pub enum Marks {
     Read(bool, usize),
     Fault(u32),
@@ -339,7 +339,7 @@ fn line(text: &[u8], at: usize, states: u32, count: u32, listed: u32, cells: &mu
 }
 
 // What is due after whole lines: one more, past its `State:`; nothing, since the claim is whole; or the refusal.
-#[derive(Drop)]
+#[derive(Clone, Copy)]
 pub enum Due {
     Line(usize),
     Nothing,
@@ -386,7 +386,7 @@ fn due_at(text: &[u8], at: usize, states: u32, lines: u32) -> Due
 }
 
 // The body: it is taken with what the cells then hold; or the refusal.
-#[derive(Drop)]
+#[derive(Clone, Copy)]
 pub enum Whole {
     Taken,
     Refused(u32),

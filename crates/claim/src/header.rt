@@ -9,7 +9,7 @@ use crate::Counts;
 use crate::tokens::{Token, claim_token, fault, is_symbol, lone_digit, name_or_token, word};
 
 // A number and the place past it; or the refusal.
-#[derive(Drop)]
+#[derive(Clone, Copy)]
 pub enum Found {
     Is(u32, usize),
     Fault(u32),
@@ -33,7 +33,7 @@ pub(crate) fn number_at(text: &[u8], at: usize) -> Found
 }
 
 // What the header gives so far: no states are 0, no start is 15.
-#[derive(Drop)]
+#[derive(Clone, Copy)]
 pub struct Given {
     pub states: u32,
     pub start: u32,
@@ -43,7 +43,7 @@ pub struct Given {
 }
 
 // What an item gives with those before it and the place past it; or the refusal.
-#[derive(Drop)]
+#[derive(Clone, Copy)]
 pub enum Header {
     Read(Given, usize),
     Fault(u32),
@@ -116,7 +116,7 @@ fn start_item(text: &[u8], at: usize, g: Given) -> Header
 }
 
 // The place past a piece; or the refusal.
-#[derive(Drop)]
+#[derive(Clone, Copy)]
 pub enum Past {
     To(usize),
     Fault(u32),
@@ -293,7 +293,7 @@ fn propositions_item(text: &[u8], at: usize, g: Given) -> Header
 }
 
 // What a header's name asks for; or the refusal.
-#[derive(Drop)]
+#[derive(Clone, Copy)]
 pub enum Kind {
     States,
     Start,

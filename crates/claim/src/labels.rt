@@ -11,7 +11,7 @@ use crate::tokens::{
 };
 
 // A set of flag values, 0 to 255: value v is bit v of `a`, bit v - 64 of `b`, bit v - 128 of `c`, bit v - 192 of `d`.
-#[derive(Drop)]
+#[derive(Clone, Copy)]
 pub struct Values {
     pub a: u64,
     pub b: u64,
@@ -23,7 +23,7 @@ pub struct Values {
 pub(crate) const ALL: u64 = 0xFFFF_FFFF_FFFF_FFFF;
 
 // The flag values on which a piece of a label holds and the place past it; or the refusal.
-#[derive(Drop)]
+#[derive(Clone, Copy)]
 pub enum Truth {
     Is(Values, usize),
     Fault(u32),

@@ -1,5 +1,6 @@
 // The reader of claims in the Hanoi format: refusals 14 to 16 or the claim, in one pass over the lent text. The claim goes
 // into cells of the caller's. Contracts cite specs/Judging.antt and specs/Cells.antt.
+#![tactic(auto)]
 ghost use Rattle.std.specs.Prelude.{◌≡◌, true, ◌+◌, ◌≤◌, length, replicate};
 ghost use Rattle.model.specs.ClaimTokens.{opens};
 ghost use Rattle.model.specs.ClaimEntry.{ClaimSays, MovesSay};
@@ -17,7 +18,7 @@ use crate::tokens::{Token, fault, token_at, word};
 use model::Claimed;
 
 // The counts of a claim.
-#[derive(Drop)]
+#[derive(Clone, Copy)]
 pub struct Counts {
     pub states: u32,
     pub start: u32,
@@ -47,7 +48,7 @@ impl Counts {
 }
 
 // What a text is as a claim: its refusal, or its counts.
-#[derive(Drop)]
+#[derive(Clone, Copy)]
 pub enum Judged {
     Refused(u32),
     Accepted(Counts),

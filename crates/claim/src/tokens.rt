@@ -8,7 +8,7 @@ ghost use Rattle.claim.specs.Reads.{part, lexed, tokens_at, claim_tokens, byte_o
 use crate::Counts;
 
 // A token: names, headers and strings by where their bytes begin and end. Done is the text's end.
-#[derive(Drop)]
+#[derive(Clone, Copy)]
 pub enum Token {
     Name(usize, usize),
     Header(usize, usize),
@@ -24,7 +24,7 @@ pub enum Token {
 }
 
 // A token and the place past it.
-#[derive(Drop)]
+#[derive(Clone, Copy)]
 pub struct Seen {
     pub token: Token,
     pub next: usize,

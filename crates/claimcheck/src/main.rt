@@ -1,4 +1,5 @@
 // Reads a claim from standard input and prints its counts and states; on a refusal, `refused` and the number.
+#![tactic(auto)]
 mod page;
 
 ghost use Rattle.std.specs.Prelude.{◌≤◌, length};

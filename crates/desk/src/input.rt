@@ -6,7 +6,7 @@ ghost use Rattle.desk.specs.Filling.{Fills, SaidByWord};
 use text::read::{Number, number_in};
 
 // How many bytes of the file stand at the buffer's front; or a read failed, and errno says why.
-#[derive(Drop)]
+#[derive(Clone, Copy)]
 pub enum Filled {
     Bytes(usize),
     Failed,

@@ -11,7 +11,7 @@ use text::write::write_bytes;
 const SHORT: usize = 100;
 
 // What must come of a run, beside its answer.
-#[derive(Drop)]
+#[derive(Clone, Copy)]
 pub(crate) struct Wanted {
     pub refusal: u32,
     pub verdict: u32,
@@ -64,7 +64,7 @@ fn silent(refusal: u32, verdict: u32, acts: u64) -> Wanted {
 }
 
 // What a run left in the work buffer.
-#[derive(Drop)]
+#[derive(Clone, Copy)]
 enum Work {
     Zeros,
     Untouched,

@@ -1,5 +1,6 @@
 // Checks an answer to a case, both files named on the command line: prints `pass` and the verdict, or `refused` and the
 // number.
+#![tactic(auto)]
 ghost use Rattle.std.specs.Prelude.{◌≤◌, length};
 ghost use Rattle.text.specs.Writing.{Puts};
 ghost use Rattle.desk.specs.Lines.{Shows};

@@ -1,4 +1,5 @@
 // Reads a case from standard input, runs it by rounds and prints its answer; on a refusal, `refused` and the number.
+#![tactic(auto)]
 ghost use Rattle.std.specs.Prelude.{◌≤◌, length};
 ghost use Rattle.model.specs.Case.{least_output, least_work};
 ghost use Rattle.desk.specs.Lines.{Shows};

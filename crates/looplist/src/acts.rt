@@ -5,7 +5,7 @@ use text::read::{Row1, row_of_1};
 
 // How many acts stand at the buffer's front; or the first line, counted from 1, that is no act; or the buffer cannot
 // hold them all.
-#[derive(Drop)]
+#[derive(Clone, Copy)]
 pub enum Listed {
     Acts(usize),
     NoAct(usize),

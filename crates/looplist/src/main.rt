@@ -1,5 +1,6 @@
 // Replays a recorded order of acts on a case, both files named on the command line, and prints what came of it: refusal,
 // verdict, acts and tallies, a line each, then the answer where there is one. No act is guessed: a bad list is not run.
+#![tactic(auto)]
 mod acts;
 mod complaint;
 mod page;

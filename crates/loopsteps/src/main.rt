@@ -1,6 +1,7 @@
 // Lists the steps of an answer to the case file of a chart and a claim, three files named on the command line: prints a
 // passing lasso's steps by names and nothing for a passing "empty", or `refused` and the number, and the chart's first bad
 // pair where there is one.
+#![tactic(auto)]
 ghost use Rattle.std.specs.Prelude.{◌≤◌, length};
 ghost use Rattle.desk.specs.Lines.{Shows};
 ghost use Rattle.loopsteps.specs.Printing.{page_room, printed};

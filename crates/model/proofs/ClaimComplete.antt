@@ -100,7 +100,7 @@ names_read is ns (w ∷ ws) r = one_name is ns w ws r ∙ (names_read is (snoc n
 
 pub count_read : (is : List Item) (k : ℕ) (r : List Token) → leb k most_propositions ≡ true → told (go (wants_propositions is)) (number k ∷ r) ≡ told (go (named is k [])) r
 unfolding told step on_number
-count_read is k r e = rw e refl
+count_read is k r e = rw (told, e) refl
 
 propositions_read : (is : List Item) (ws : List (List ℕ)) (r : List Token) → Boundary r → item_fits is (propositions ws) ≡ true → head_read is (item_tokens (propositions ws) ++ r) ≡ head_read (snoc is (propositions ws)) r
 unfolding head_read item_tokens header_step on_header equal unless
@@ -130,7 +130,7 @@ plain_read is h us (p ∷ ps) r e =
     ∙ ap (λ (x : List Token). told (go (in_skipped is h x)) r) (shift us p ps))
   where
     one_plain : (is : List Item) (h : List ℕ) (us : List Token) (p : Token) (r : List Token) → is_plain p ≡ true → told (go (in_skipped is h us)) (p ∷ r) ≡ told (go (in_skipped is h (snoc us p))) r
-    one_plain is h us p r e = unfold told step in (rw e refl)
+    one_plain is h us p r e = unfold told step in (rw (told, e) refl)
 
     shift : (us : List Token) (p : Token) (ps : List Token) → snoc us p ++ ps ≡ us ++ (p ∷ ps)
     shift us p ps = append_assoc us (p ∷ []) ps
@@ -217,7 +217,7 @@ label_reads l o r f = through_label l (on label_start) (label_tokens o ++ (close
 
 pub target_reads : (l : Line) (o : Label or_level) (v : ℕ) (r : List Token) → ltb v (count_in l.items) ≡ true → told (go (wants_target l o)) (number v ∷ r) ≡ told (go (in_line l.items l.states (edged (with_edge l.state (record { label = o; to = v }))))) r
 unfolding told step on_number
-target_reads l o v r e = rw e refl
+target_reads l o v r e = rw (told, e) refl
 
 edge_label_fits : (n k : ℕ) (e : Edge) → edge_fits n k e ≡ true → Fits k 0 e.label
 unfolding edge_fits
@@ -254,11 +254,11 @@ edges_read is ss p (e ∷ es) r b f =
 -- the line's front: number, name, marks
 title_read : (is : List Item) (ss : List State) (v : ℕ) (w : List ℕ) (r : List Token) → title_fits (some w) ≡ true → told (go (in_line is ss (numbered v))) (string w ∷ r) ≡ told (go (in_line is ss (titled v w))) r
 unfolding told step part_step on_string
-title_read is ss v w r f = rw f refl
+title_read is ss v w r f = rw (told, f) refl
 
 pub zero_read : (is : List Item) (ss : List State) (v : ℕ) (o : Option (List ℕ)) (ms : List ℕ) (m : ℕ) (r : List Token) → eqb m 0 ≡ true → told (go (in_marks is ss v o ms)) (number m ∷ r) ≡ told (go (in_marks is ss v o (snoc ms m))) r
 unfolding told step is_sign on_number
-zero_read is ss v o ms m r e = rw e refl
+zero_read is ss v o ms m r e = rw (told, e) refl
 
 marks_read : (is : List Item) (ss : List State) (v : ℕ) (o : Option (List ℕ)) (ms ns : List ℕ) (r : List Token) → all_zero ns ≡ true → told (go (in_marks is ss v o ms)) (numbers ns ++ (close_mark ∷ r)) ≡ told (go (in_line is ss (marked v o (ms ++ ns)))) r
 unfolding numbers all_zero
@@ -327,7 +327,7 @@ unfolding line_read line_step equal
 state_begins is ss v r e f = rw e (second is ss v r f)
   where
     second : (is : List Item) (ss : List State) (v : ℕ) (r : List Token) → (ltb v (count_in is) && not (has_line v ss)) ≡ true → told (go (wants_state is ss)) (number v ∷ r) ≡ told (go (in_line is ss (numbered v))) r
-    second is ss v r f = unfold told step is_sign on_number in (rw f refl)
+    second is ss v r f = unfold told step is_sign on_number in (rw (told, f) refl)
 
 pub state_read : (is : List Item) (ss : List State) (s : State) (r : List Token) → LineEnd r → length ss < count_in is → state_fits (count_in is) (propositions_in is) ss s ≡ true → line_read is ss (state_tokens s ++ r) ≡ line_read is (snoc ss s) r
 unfolding state_tokens

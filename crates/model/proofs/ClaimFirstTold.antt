@@ -132,7 +132,7 @@ one_more : (p q : Place) (t : Token) → step p t ≡ go q → Goes_on q → Goe
 one_more p q t e r = record { rest = t ∷ r.rest; tree = r.tree; comes = first p q t r.rest e ∙ r.comes }
   where
     first : (p q : Place) (t : Token) (ts : List Token) → step p t ≡ go q → told (go p) (t ∷ ts) ≡ told (go q) ts
-    first p q t ts e = unfold told in (rw e refl)
+    first p q t ts e = unfold told in (rw (told, e) refl)
 
 -- LABELS: brackets close, and the label ends
 record LabelGoes (k : ℕ) (r : Reading) : Type 0 where
@@ -478,4 +478,4 @@ first_told ts t p k e f =
     }
   where
     at_token : (p : Place) (t : Token) (k : ℕ) (rest : List Token) → step p t ≡ fault k → told (go p) (t ∷ rest) ≡ refused k
-    at_token p t k rest f = unfold told in (rw f (refused_on k rest))
+    at_token p t k rest f = unfold told in (rw (told, f) (refused_on k rest))

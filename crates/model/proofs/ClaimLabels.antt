@@ -32,7 +32,7 @@ reads_never k us u ts f = refl
 
 reads_proposition : (i : ℕ) → Reads atom (proposition i)
 unfolding label_tokens label_told label_step atom_step label_within
-reads_proposition i k us u ts f = rw f.within refl
+reads_proposition i k us u ts f = rw (label_told, f.within) refl
 
 -- one negation more
 abbrev pub more_nots : Under → Under
@@ -44,11 +44,11 @@ room k us u p h = rw (lt-ltb (u.nots + depth_of us) deepest h) refl
 
 pub step_not : (k : ℕ) (us : List Under) (u : Under) (ts : List Token) → u.nots + depth_of us < deepest → label_told k (on (due us u)) (symbol 33 ∷ ts) ≡ label_told k (on (due us (more_nots u))) ts
 unfolding label_told label_step atom_step
-step_not k us u ts h = rw (room k us u (due us (more_nots u)) h) refl
+step_not k us u ts h = rw (label_told, room k us u (due us (more_nots u)) h) refl
 
 pub step_open : (k : ℕ) (us : List Under) (u : Under) (ts : List Token) → u.nots + depth_of us < deepest → label_told k (on (due us u)) (symbol 40 ∷ ts) ≡ label_told k (on (due (u ∷ us) no_under)) ts
 unfolding label_told label_step atom_step
-step_open k us u ts h = rw (room k us u (due (u ∷ us) no_under) h) refl
+step_open k us u ts h = rw (label_told, room k us u (due (u ∷ us) no_under) h) refl
 
 pub step_close : (k : ℕ) (us : List Under) (u : Under) (o : Label or_level) (ts : List Token) → label_told k (on (whole_or (u ∷ us) o)) (symbol 41 ∷ ts) ≡ label_told k (on (with_atom us u (bracketed o))) ts
 unfolding label_told label_step operator_step close_step close_or

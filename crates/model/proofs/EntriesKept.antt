@@ -161,7 +161,7 @@ shows_distances c ok x e l = let n = none_of x.broken l in let F = finding c ok 
 
 -- the tallies that a result carries
 sent_by : (c : Case) (x : State) (r : Outcome) → tallies_of r ≡ x.tallies → Tallied c x → Balanced (tallies_of r) (full_cells x.cells) × (r.sent ≤ most_sent c)
-sent_by c x r e t = (rw e t.balanced, let z : r.sent ≡ x.tallies.sent = ap (λ (t : Tallies). t.sent) e in omega (arith, t.few_sent))
+sent_by c x r e t = (subst (λ (y : Tallies). Balanced y (full_cells x.cells)) (sym e) t.balanced, let z : r.sent ≡ x.tallies.sent = ap (λ (t : Tallies). t.sent) e in omega (arith, t.few_sent))
 
 none_full : (c : Case) → Sound c → (x : State) → Ended c x → ended_lasso x ≡ false → full_cells x.cells ≡ 0
 none_full c ok x e l = eqb-true (full_cells x.cells) 0 (no_message_is x.cells ∙ ((rules_kept c ok x (ended_listed c x e)).empty_only (or_else e.ended)).1.cells)

@@ -1,9 +1,10 @@
 // What the entries return. All else of this crate is definitions (specs/) and their proofs (proofs/).
+#![tactic(auto)]
 
 // Of a run: refusal 0 or its number; the verdict; the acts counted; the answer's length; the offers put into message
 // cells, the messages delivered, the offers that joined a waiting message.
 #[repr(C)]
-#[derive(Drop)]
+#[derive(Clone, Copy)]
 pub struct Outcome {
     pub refusal: u32,
     pub verdict: u32,
@@ -25,7 +26,7 @@ impl Outcome {
 
 // Of a check: refusal 0 or its number; the answer's verdict where it passes, else `Outcome::NONE`.
 #[repr(C)]
-#[derive(Drop)]
+#[derive(Clone, Copy)]
 pub struct Checked {
     pub refusal: u32,
     pub verdict: u32,
@@ -34,7 +35,7 @@ pub struct Checked {
 // Of a claim: refusal 0 or its number; how many states, the start and how many propositions; of each state 1 where it is
 // accepting, and the place and length of its name in the text, 0 and 0 where it has none. Of a refused claim all else is 0.
 #[repr(C)]
-#[derive(Drop)]
+#[derive(Clone, Copy)]
 pub struct Claimed {
     pub refusal: u32,
     pub states: u32,
@@ -48,7 +49,7 @@ pub struct Claimed {
 // Of a chart: refusal 0, 17, 18 or 19; with 18 and 19 the first pair of a mode and a combination of flags that has no rule
 // or two, else 0 and 0.
 #[repr(C)]
-#[derive(Drop)]
+#[derive(Clone, Copy)]
 pub struct Charted {
     pub refusal: u32,
     pub mode: u32,
@@ -67,7 +68,7 @@ impl Charted {
 // Of a case file built or of steps listed: refusal 0 or its number; with 18 and 19 the chart's first bad pair, else 0 and 0;
 // the length of what was written.
 #[repr(C)]
-#[derive(Drop)]
+#[derive(Clone, Copy)]
 pub struct Built {
     pub refusal: u32,
     pub mode: u32,

@@ -7,7 +7,7 @@ use chart::{Read, combinations, read_chart};
 use claim::{Judged, read_claim};
 use model::{Built, Charted};
 
-#[derive(Drop)]
+#[derive(Clone, Copy)]
 pub(crate) enum Both {
     Refused(Built),
     Read(Sizes),

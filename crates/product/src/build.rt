@@ -8,7 +8,7 @@ use crate::edges::all_edges;
 use casefile::{Case, put};
 
 // The modes of a chart, the states of a claim, the combinations of flags; and the product's source.
-#[derive(Drop)]
+#[derive(Clone, Copy)]
 pub(crate) struct Sizes {
     pub modes: usize,
     pub states: usize,
@@ -18,7 +18,7 @@ pub(crate) struct Sizes {
 
 // What becomes of a product: the length of its file and how many edges it has, or that these are more than a case file may
 // have.
-#[derive(Drop)]
+#[derive(Clone, Copy)]
 pub(crate) enum Product {
     Written(usize, usize),
     TooMany,

@@ -5,7 +5,7 @@ ghost use Rattle.product.specs.Names.{Piece, NameIs, PlacesFilled};
 use text::read::{field, next_line, past_head};
 
 // Where a name stands: a mode's in the chart, up to its line's end; a state's in the claim, from a place on, so many bytes.
-#[derive(Drop)]
+#[derive(Clone, Copy)]
 pub(crate) enum Place {
     Mode(usize),
     State(usize, usize),

@@ -1,6 +1,7 @@
 // Random graphs against a plain nested search: each by rounds and by random lists of acts, with several numbers of
 // workers, every answer put to the checker, one also as version 1, the tallies summed up. It prints totals; the file stdout
 // has what must come.
+#![tactic(auto)]
 mod graph;
 mod nested;
 mod runs;
@@ -116,7 +117,7 @@ fn try_case(
 
 // A graph beside its edges and marks: how many vertices, its source, and the verdicts that it must get, with its rest loops
 // and as the file has it.
-#[derive(Drop)]
+#[derive(Clone, Copy)]
 struct Drawn {
     n: usize,
     source: usize,

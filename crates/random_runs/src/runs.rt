@@ -19,7 +19,7 @@ pub const CUT_SHORT: usize = 3;
 pub const NOT_RUN: usize = 64;
 
 // What came of a run by a list: its kind, and how many messages joined.
-#[derive(Drop)]
+#[derive(Clone, Copy)]
 pub(crate) struct Came {
     pub kind: usize,
     pub joined: u32,

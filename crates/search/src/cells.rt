@@ -6,7 +6,7 @@ ghost use Rattle.model.specs.Entry.{zeros};
 
 use casefile::Case;
 
-#[derive(Drop)]
+#[derive(Clone, Copy)]
 pub(crate) struct Cells {}
 
 impl Cells {

@@ -5,7 +5,7 @@ use super::cells::{Cells, load_below};
 use casefile::Case;
 
 // Edges by their numbers: the first one, and the one past the last.
-#[derive(Drop)]
+#[derive(Clone, Copy)]
 pub(crate) struct Range {
     pub first: usize,
     pub end: usize,

@@ -1,5 +1,6 @@
 // Runs of the search in lent buffers: by a list of acts, and by rounds. No entry trusts its caller; their contracts are
 // `model`'s Entry definitions.
+#![tactic(auto)]
 mod answer;
 mod cells;
 mod edges;
@@ -64,7 +65,7 @@ fn out_of_range(acts: &[u32], limit: usize) -> bool
 
 // What came of loading: the refusal, with the cells as they were; or the case, which stands in the cells with its rest loops,
 // how many of its vertices accept, and how many edges there are.
-#[derive(Drop)]
+#[derive(Clone, Copy)]
 enum Loaded {
     Refused(u32),
     Laid(Case, usize, usize),

@@ -25,7 +25,7 @@ pub(crate) fn insert(list: &mut [usize], many: usize, h: usize)
 }
 
 // What a round and its turns leave: the run, and how many vertices were scanned.
-#[derive(Drop)]
+#[derive(Clone, Copy)]
 pub(crate) struct Turned {
     pub run: Run,
     pub scanned: usize,

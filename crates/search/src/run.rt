@@ -18,7 +18,7 @@ use casefile::Case;
 // waiting message; accepting vertices; and the vertex that broke the floor (NONE, or its number and SOME). Each act hands
 // it on, so what these and the cells tell has no counter: acts are turns and deliveries, the tallies tell how many cells
 // have a message (`none_full`), and a run has ended as "empty" when nothing waits (`is_over`).
-#[derive(Drop)]
+#[derive(Clone, Copy)]
 pub(crate) struct Run {
     pub turns: u64,
     pub sent: u32,

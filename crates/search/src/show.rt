@@ -143,7 +143,7 @@ pub(crate) fn take_stem(work: &mut [i32], goal: usize) -> usize
 }
 
 // Where a lasso's stem and its cycle start in the cells.
-#[derive(Drop)]
+#[derive(Clone, Copy)]
 pub(crate) struct Shown {
     pub stem: usize,
     pub cycle: usize,

@@ -77,7 +77,7 @@ pub fn field(text: &[u8], at: usize) -> &[u8]
 }
 
 // A number and the place past it; or none is there.
-#[derive(Drop)]
+#[derive(Clone, Copy)]
 pub enum Row1 {
     Read(u32, usize),
     Fault,
@@ -143,7 +143,7 @@ fn digits_at(text: &[u8], at: usize) -> Row1
 }
 
 // A number, or none.
-#[derive(Drop)]
+#[derive(Clone, Copy)]
 pub enum Number {
     Is(u32),
     Not,
@@ -192,7 +192,7 @@ pub fn same(a: &[u8], b: &[u8]) -> bool
 }
 
 // The place past a line that is as asked for; or it is another.
-#[derive(Drop)]
+#[derive(Clone, Copy)]
 pub enum Named {
     Past(usize),
     Other,
@@ -244,7 +244,7 @@ pub fn row_of_1(text: &[u8], at: usize) -> Row1
     number_before(text, at, LINE_FEED)
 }
 
-#[derive(Drop)]
+#[derive(Clone, Copy)]
 pub enum Row2 {
     Read(u32, u32, usize),
     Fault,
@@ -263,7 +263,7 @@ pub fn row_of_2(text: &[u8], at: usize) -> Row2
     Row2::Read(a, b, z)
 }
 
-#[derive(Drop)]
+#[derive(Clone, Copy)]
 pub enum Row3 {
     Read(u32, u32, u32, usize),
     Fault,
@@ -286,7 +286,7 @@ pub fn row_of_3(text: &[u8], at: usize) -> Row3
     Row3::Read(a, b, c, z)
 }
 
-#[derive(Drop)]
+#[derive(Clone, Copy)]
 pub enum Row5 {
     Read(u32, u32, u32, u32, u32, usize),
     Fault,
@@ -319,7 +319,7 @@ fn minus_at(text: &[u8], at: usize) -> bool
 }
 
 // A minus sign or none, a number, and the place past the line.
-#[derive(Drop)]
+#[derive(Clone, Copy)]
 enum Signed {
     Read(bool, u32, usize),
     Fault,
@@ -341,7 +341,7 @@ fn signed_last(text: &[u8], at: usize) -> Signed
     Signed::Read(false, v, z)
 }
 
-#[derive(Drop)]
+#[derive(Clone, Copy)]
 pub enum SignedRow {
     Read(u32, bool, u32, usize),
     Fault,

@@ -6,7 +6,7 @@ ghost use Rattle.text.specs.Reading.{Part, past_line};
 use crate::read;
 
 // A text and a place in it.
-#[derive(Drop)]
+#[derive(Clone, Copy)]
 pub struct Reader<'a> {
     pub text: &'a [u8],
     pub at: usize,

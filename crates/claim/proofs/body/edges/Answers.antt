@@ -1,0 +1,31 @@
+-- `body::edges` meets its contract: an edge a turn. Assumes nothing.
+use mathlib.Core.Path.{sym, ◌∙◌}
+use mathlib.Core.List.{[]}
+use native.Mathlib.Omega.{arith}
+use Rattle.claim.proofs.Signs.{label_sign, sign_inside}
+use Rattle.claim.proofs.EdgeCode.{edges_begun, edges_done, edges_broken, edge_near, edges_ahead, edges_more}
+use Rattle.claim.proofs.body.edges.Goals as goal
+
+pub loop-sets-init : goal.loop-sets-init
+loop-sets-init c = edges_begun _ _ _ _ _ c.past_blanks-here.ensures
+
+pub overflow_add-here : goal.overflow_add-here
+overflow_add-here c = let h = sign_inside c.args.text.now c.loop-sets.here 91 label_sign (sym c.byte_at.ensures ∙ c.loop-sets-test.true) in omega (arith, h.1)
+
+pub returns-in-Fault : goal.returns-in-Fault
+returns-in-Fault c = edges_broken c.loop-sets.invariant (sym c.byte_at.ensures ∙ c.loop-sets-test.true) _ c.edge.result c.edge.ensures 0 [] [] _ c.in-Fault.is
+
+pub overflow_shl-leads : goal.overflow_shl-leads
+overflow_shl-leads c = let h = edge_near c.loop-sets.invariant (sym c.byte_at.ensures ∙ c.loop-sets-test.true) _ c.edge.result c.edge.ensures _ _ c.in-Is.is in omega (arith, h, c.requires.states_le_most_states)
+
+pub loop-sets-smaller : goal.loop-sets-smaller
+loop-sets-smaller c = let h = edges_ahead c.loop-sets.invariant (sym c.byte_at.ensures ∙ c.loop-sets-test.true) _ c.edge.result c.edge.ensures _ _ c.in-Is.is in omega (arith, h.more, h.inside)
+
+pub loop-sets-preserved : goal.loop-sets-preserved
+loop-sets-preserved c = edges_more c.loop-sets.invariant (sym c.byte_at.ensures ∙ c.loop-sets-test.true) _ c.edge.result c.edge.ensures _ _ c.in-Is.is c.requires.states_le_most_states c.edge.auto.1.1.1.1.0
+
+pub add_edges-requires : goal.add_edges-requires
+add_edges-requires c = let i = c.loop-sets.invariant in record { c_lt_most_states = c.requires.c_lt_most_states; claim_cells_in_bounds = c.requires.claim_cells_in_bounds; set_words_in_bounds = omega (arith, i.long); by_index = i.near_all }
+
+pub returns : goal.returns
+returns c = edges_done c.loop-sets.invariant _ _ _ (λ q. c.loop-sets-test.false (c.byte_at.ensures ∙ q)) c.requires.c_lt_most_states c.add_edges.ensures

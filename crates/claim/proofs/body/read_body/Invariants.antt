@@ -1,0 +1,11 @@
+-- `body::read_body` meets its contract: a state line a turn. Assumes nothing.
+use Prim.Native.Nat.{◌-◌}
+use lib.ListN.{length}
+use Rattle.claim.proofs.BodyWhole.{LinesSoFar}
+use Rattle.claim.proofs.body.read_body.Given as goal
+
+abbrev pub invariant-loop-k : goal.invariant-loop-k
+invariant-loop-k l = LinesSoFar l.text l.states l.count l.at l.initial.cells l.cells l.here l.listed l.lines
+
+abbrev pub decreases-loop-k : goal.decreases-loop-k
+decreases-loop-k l = length l.text - l.here

@@ -1,0 +1,17 @@
+-- `describe_claim` meets its contract: the parts of the cells, and what the judge says. Assumes nothing.
+use Rattle.claim.proofs.EntryCode.{judged_by, describes_refused, describes}
+use Rattle.claim.proofs.describe_claim.Goals as goal
+
+pub returns-in-Refused : goal.returns-in-Refused
+returns-in-Refused c =
+    let a = c.args in
+    describes_refused a.text.now _ _ _
+    (record { cells = _; held = c.read_into-judged.ensures.held; marks_of = c.copy.ensures; names_of = c.copy-2.ensures; lengths_of = c.copy-3.ensures; all_marks = c.copy.auto.1.1.0; all_names = c.copy-2.auto.1.1.0; all_lengths = c.copy-3.auto.1.1.0 })
+    _ (judged_by a.text.now c.read_into-judged.result _ c.read_into-judged.ensures.answer c.in-Refused.is)
+
+pub returns-in-Accepted : goal.returns-in-Accepted
+returns-in-Accepted c =
+    let a = c.args in
+    describes a.text.now _ _ _
+    (record { cells = _; held = c.read_into-judged.ensures.held; marks_of = c.copy.ensures; names_of = c.copy-2.ensures; lengths_of = c.copy-3.ensures; all_marks = c.copy.auto.1.1.0; all_names = c.copy-2.auto.1.1.0; all_lengths = c.copy-3.auto.1.1.0 })
+    _ (judged_by a.text.now c.read_into-judged.result _ c.read_into-judged.ensures.answer c.in-Accepted.is)

@@ -1,0 +1,7 @@
+-- `tokens::blank` meets its contract. Assumes nothing.
+use Rattle.model.specs.ClaimTokens.{is_blank}
+use Rattle.claim.proofs.tokens.blank.Goals as goal
+
+pub returns : goal.returns
+unfolding is_blank
+returns c = cc

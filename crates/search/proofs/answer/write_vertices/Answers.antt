@@ -1,0 +1,22 @@
+-- `write_vertices` meets its contract: at each turn the lines of v vertices are written.
+use mathlib.Core.Path.{◌∙◌}
+use native.Mathlib.Omega.{arith}
+use mir.Facts.{to_z-of_z}
+use mir.Syntax.{w32}
+use mir.Val.{SFits}
+use Rattle.search.proofs.Answers.{vertices_start, vertices_step, vertices_end}
+use Rattle.search.proofs.answer.write_vertices.Goals as goal
+
+pub loop-v-init : goal.loop-v-init
+loop-v-init c = vertices_start _ _ _ _
+
+pub loop-v-preserved : goal.loop-v-preserved
+loop-v-preserved c =
+    let loaded : SFits w32 c.load.result = record { sfits = c.load.type_inv } in
+    vertices_step c.loop-v.invariant c.loop-v-test.true (to_z-of_z loaded ∙ c.load.ensures) c.write_vertex-here.ensures c.write_vertex-here.auto.0
+
+pub shape_of-output : goal.shape_of-output
+shape_of-output c = c.loop-v.invariant.kept
+
+pub returns : goal.returns
+returns c = vertices_end c.loop-v.invariant (omega arith)

@@ -1,0 +1,9 @@
+use Rattle.search.specs.Asks.{BlankSays}
+use Rattle.search.proofs.Fresh.{rep_blank}
+use Rattle.search.proofs.run.blank.Goals as goal
+
+pub returns : goal.returns
+unfolding BlankSays
+returns c =
+    λ q l.
+    rep_blank q _ _ _ _ _ _ _ l c.fill.ensures c.fill_number.ensures c.fill_number-2.ensures c.fill-2.ensures c.fill_number-3.ensures c.fill_number-4.ensures

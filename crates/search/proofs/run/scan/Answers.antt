@@ -1,0 +1,135 @@
+use mathlib.Core.Path.{◌≡◌, refl, sym, ap, ◌∙◌}
+use Prim.Native.Nat.{ℕ, ◌+◌, ◌-◌, ◌<◌}
+use native.Mathlib.Omega.{arith}
+use lib.IntN.{pos, neg_ℤ}
+use mir.Syntax.{w32}
+use mir.Val.{SFits, to_z, of_z}
+use mir.Facts.{to_z-of_z}
+use Rattle.model.specs.Graph.{mark}
+use Rattle.model.specs.Case.{Case, owner}
+use Rattle.model.specs.Run.{State, scan_edge}
+use Rattle.search.specs.Asks.{Room, RangeSays, OfferedIs, EdgeSays, ScanSays}
+use Rattle.search.specs.Rep.{Own, Laid, Rep}
+use Rattle.search.proofs.Ranges.{Halfway, half_start, half_step, half_broken, half_done, depth_is, room_step}
+use Rattle.search.proofs.Steps.{owner_there, owner_is, is_broken, not_broken}
+use Rattle.search.proofs.run.scan.Goals as goal
+
+pub load_below-own-requires : goal.load_below-own-requires
+load_below-own-requires c = let s = c.requires in (omega arith, owner_there s.case _ _ s.rep.held.laid s.below)
+
+pub offered-offer-requires : goal.offered-offer-requires
+offered-offer-requires c =
+    let s = c.requires in
+    record { case = s.case; depth = s.depth; laid = s.rep.held.laid; below = s.below; is = to_z-of_z c.ranges.d ∙ s.is; low = s.low }
+
+pub edges_of-edges-requires : goal.edges_of-edges-requires
+edges_of-edges-requires c = let s = c.requires in record { case = s.case; laid = s.rep.held.laid; below = s.below }
+
+pub loop-e-init : goal.loop-e-init
+unfolding RangeSays
+loop-e-init c =
+    let ranged : (q : Case) → let a = c.args in
+    Laid q a.work.now → a.v < q.graph.vertices → Own q a.v c.edges_of-edges.result.first c.edges_of-edges.result.end = λ q laid h. c.edges_of-edges.ensures q laid h in
+    let s = c.requires in
+    let own = ranged s.case s.rep.held.laid s.below in
+    (own.order, refl, λ q x o rep own p i. half_start q x _ o _ _ own _ _ rep, omega arith, record { sent = omega (arith, own.below, s.room.sent); joined = omega (arith, own.below, s.room.joined) })
+
+pub shape_of-work-then-r-ne-NONE : goal.shape_of-work-then-r-ne-NONE
+shape_of-work-then-r-ne-NONE c = c.loop-e.invariant.1
+
+pub returns-then-r-ne-NONE : goal.returns-then-r-ne-NONE
+unfolding ScanSays RangeSays OfferedIs
+returns-then-r-ne-NONE c =
+    let ranged : (q : Case) → let a = c.args in
+    Laid q a.work.now → a.v < q.graph.vertices → Own q a.v c.edges_of-edges.result.first c.edges_of-edges.result.end = λ q laid h. c.edges_of-edges.ensures q laid h in
+    let offer-is : (q : Case) (o : ℕ) → let a = c.args in
+    Laid q a.work.now → a.v < q.graph.vertices → a.d ≡ neg_ℤ (pos o) → c.offered-offer.result ≡ neg_ℤ (pos (o + mark q.graph a.v)) = λ q o laid h d. c.offered-offer.ensures q o laid h (to_z-of_z c.ranges.d ∙ d) in
+    let fits : SFits w32 c.offered-offer.result = record { sfits = c.offered-offer.type_inv } in
+    let so_far : (q : Case) (x : State) (o : ℕ) → let a = c.args in
+    Rep q x a.run a.work.now → a.v < q.graph.vertices → a.d ≡ neg_ℤ (pos o) → Halfway q x a.v o c.loop-e.e c.loop-e.r c.loop-e.work = λ q x o rep h d. c.loop-e.invariant.2 q x o rep (ranged q rep.held.laid h) (owner_is q _ _ rep.held.laid h _ c.load_below-own.ensures.0) (to_z-of_z fits ∙ offer-is q o rep.held.laid h d) in
+    λ q x o rep h d.
+    let u = so_far q x o rep h d in
+    half_broken q x _ o _ _ (ranged q rep.held.laid h) _ _ _ u (is_broken u.at.broken (λ z. c.if-r-ne-NONE.true (u.rep.counted.broke ∙ z)))
+
+pub scan_edge-r-requires : goal.scan_edge-r-requires
+unfolding RangeSays OfferedIs
+scan_edge-r-requires c =
+    let ranged : (q : Case) → let a = c.args in
+    Laid q a.work.now → a.v < q.graph.vertices → Own q a.v c.edges_of-edges.result.first c.edges_of-edges.result.end = λ q laid h. c.edges_of-edges.ensures q laid h in
+    let offer-is : (q : Case) (o : ℕ) → let a = c.args in
+    Laid q a.work.now → a.v < q.graph.vertices → a.d ≡ neg_ℤ (pos o) → c.offered-offer.result ≡ neg_ℤ (pos (o + mark q.graph a.v)) = λ q o laid h d. c.offered-offer.ensures q o laid h (to_z-of_z c.ranges.d ∙ d) in
+    let fits : SFits w32 c.offered-offer.result = record { sfits = c.offered-offer.type_inv } in
+    let so_far : (q : Case) (x : State) (o : ℕ) → let a = c.args in
+    Rep q x a.run a.work.now → a.v < q.graph.vertices → a.d ≡ neg_ℤ (pos o) → Halfway q x a.v o c.loop-e.e c.loop-e.r c.loop-e.work = λ q x o rep h d. c.loop-e.invariant.2 q x o rep (ranged q rep.held.laid h) (owner_is q _ _ rep.held.laid h _ c.load_below-own.ensures.0) (to_z-of_z fits ∙ offer-is q o rep.held.laid h d) in
+    let s = c.requires in
+    let u = so_far s.case s.state s.depth s.rep s.below s.is in
+    let test = c.loop-e-test.true in
+    record {
+      offer = record {
+        case = s.case;
+        state = u.at;
+        offer = s.depth + mark s.case.graph c.args.v;
+        rep = u.rep;
+        below = omega (arith, (ranged s.case s.rep.held.laid s.below).below, test);
+        is = to_z-of_z fits ∙ offer-is s.case s.depth s.rep.held.laid s.below s.is;
+      };
+      room = record { sent = omega (arith, c.loop-e.invariant.4.sent, test); joined = omega (arith, c.loop-e.invariant.4.joined, test) };
+    }
+
+pub overflow_add-e : goal.overflow_add-e
+overflow_add-e c = omega (arith, c.loop-e-test.true)
+
+pub loop-e-smaller : goal.loop-e-smaller
+loop-e-smaller c = omega (arith, c.loop-e-test.true)
+
+pub loop-e-preserved : goal.loop-e-preserved
+unfolding EdgeSays RangeSays OfferedIs
+loop-e-preserved c =
+    let stepped : let v = c.args.v in (q : Case) (x : State) (o : ℕ) → (u : Halfway q x v o c.loop-e.e c.loop-e.r c.loop-e.work) → Own q v c.edges_of-edges.result.first c.edges_of-edges.result.end
+    → owner q v ≡ c.load_below-own.result → to_z w32 (of_z w32 c.offered-offer.result) ≡ neg_ℤ (pos (o + mark q.graph v)) → Rep q (scan_edge q v o c.loop-e.e u.at) c.scan_edge-r.result c.scan_edge-r.new.work = λ q x o u own p i. let e = c.loop-e.e in
+    let test = c.loop-e-test.true in
+    let from = own.inside e c.loop-e.invariant.3 test in
+    c.scan_edge-r.ensures q u.at _ o u.rep (not_broken u.at.broken (sym u.rep.counted.broke ∙ c.if-r-ne-NONE.false)) (omega (arith, own.below, test)) from p
+    (i ∙ ap (λ (n : ℕ). neg_ℤ (pos (o + n))) (sym (depth_is q _ e from))) in
+    let ranged : (q : Case) → let a = c.args in
+    Laid q a.work.now → a.v < q.graph.vertices → Own q a.v c.edges_of-edges.result.first c.edges_of-edges.result.end = λ q laid h. c.edges_of-edges.ensures q laid h in
+    let offer-is : (q : Case) (o : ℕ) → let a = c.args in
+    Laid q a.work.now → a.v < q.graph.vertices → a.d ≡ neg_ℤ (pos o) → c.offered-offer.result ≡ neg_ℤ (pos (o + mark q.graph a.v)) = λ q o laid h d. c.offered-offer.ensures q o laid h (to_z-of_z c.ranges.d ∙ d) in
+    let fits : SFits w32 c.offered-offer.result = record { sfits = c.offered-offer.type_inv } in
+    let so_far : (q : Case) (x : State) (o : ℕ) → let a = c.args in
+    Rep q x a.run a.work.now → a.v < q.graph.vertices → a.d ≡ neg_ℤ (pos o) → Halfway q x a.v o c.loop-e.e c.loop-e.r c.loop-e.work = λ q x o rep h d. c.loop-e.invariant.2 q x o rep (ranged q rep.held.laid h) (owner_is q _ _ rep.held.laid h _ c.load_below-own.ensures.0) (to_z-of_z fits ∙ offer-is q o rep.held.laid h d) in
+    let room-left : Room (c.edges_of-edges.result.end - (c.loop-e.e + 1)) c.scan_edge-r.result = let s = c.requires in
+    let v = c.args.v in
+    let laid = s.rep.held.laid in
+    let test = c.loop-e-test.true in
+    let u = so_far s.case s.state s.depth s.rep s.below s.is in
+    let n = c.edges_of-edges.result.end - (c.loop-e.e + 1) in
+    let z : c.edges_of-edges.result.end - c.loop-e.e ≡ n + 1 = omega (arith, test) in
+    room_step v s.depth c.loop-e.e n u.rep
+    (stepped s.case s.state s.depth u (ranged s.case laid s.below) (owner_is s.case _ _ laid s.below _ c.load_below-own.ensures.0)
+    (to_z-of_z fits ∙ offer-is s.case s.depth laid s.below s.is))
+    (rw z at c.loop-e.invariant.4) in
+    let test = c.loop-e-test.true in
+    (
+      omega (arith, test),
+      omega (arith, c.scan_edge-r.auto.0, c.loop-e.invariant.1),
+      λ q x o rep own p i. half_step q x _ o _ _ own c.loop-e.e _ _ _ _ (c.loop-e.invariant.2 q x o rep own p i) test (stepped q x o (c.loop-e.invariant.2 q x o rep own p i) own p i),
+      omega (arith, c.loop-e.invariant.3),
+      room-left,
+    )
+
+pub shape_of-work : goal.shape_of-work
+shape_of-work c = c.loop-e.invariant.1
+
+pub returns : goal.returns
+unfolding ScanSays RangeSays OfferedIs
+returns c =
+    let ranged : (q : Case) → let a = c.args in
+    Laid q a.work.now → a.v < q.graph.vertices → Own q a.v c.edges_of-edges.result.first c.edges_of-edges.result.end = λ q laid h. c.edges_of-edges.ensures q laid h in
+    let offer-is : (q : Case) (o : ℕ) → let a = c.args in
+    Laid q a.work.now → a.v < q.graph.vertices → a.d ≡ neg_ℤ (pos o) → c.offered-offer.result ≡ neg_ℤ (pos (o + mark q.graph a.v)) = λ q o laid h d. c.offered-offer.ensures q o laid h (to_z-of_z c.ranges.d ∙ d) in
+    let fits : SFits w32 c.offered-offer.result = record { sfits = c.offered-offer.type_inv } in
+    let so_far : (q : Case) (x : State) (o : ℕ) → let a = c.args in
+    Rep q x a.run a.work.now → a.v < q.graph.vertices → a.d ≡ neg_ℤ (pos o) → Halfway q x a.v o c.loop-e.e c.loop-e.r c.loop-e.work = λ q x o rep h d. c.loop-e.invariant.2 q x o rep (ranged q rep.held.laid h) (owner_is q _ _ rep.held.laid h _ c.load_below-own.ensures.0) (to_z-of_z fits ∙ offer-is q o rep.held.laid h d) in
+    λ q x o rep h d.
+    half_done q x _ o _ _ (ranged q rep.held.laid h) _ _ _ (so_far q x o rep h d) (omega (arith, c.loop-e-test.false, c.loop-e.invariant.0))
