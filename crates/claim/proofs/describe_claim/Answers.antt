@@ -6,12 +6,12 @@ pub returns-in-Refused : goal.returns-in-Refused
 returns-in-Refused c =
     let a = c.args in
     describes_refused a.text.now _ _ _
-    (record { cells = _; held = c.read_into-judged.ensures.held; marks_of = c.copy.ensures; names_of = c.copy-2.ensures; lengths_of = c.copy-3.ensures; all_marks = c.copy.auto.1.1.0; all_names = c.copy-2.auto.1.1.0; all_lengths = c.copy-3.auto.1.1.0 })
+    (record { cells = _; held = c.read_into-judged.ensures.held; marks_of = c.copy.ensures; names_of = c.copy-2.ensures; lengths_of = c.copy-3.ensures; all_marks = c.copy.auto.part; all_names = c.copy-2.auto.part; all_lengths = c.copy-3.auto.part })
     _ (judged_by a.text.now c.read_into-judged.result _ c.read_into-judged.ensures.answer c.in-Refused.is)
 
 pub returns-in-Accepted : goal.returns-in-Accepted
 returns-in-Accepted c =
     let a = c.args in
     describes a.text.now _ _ _
-    (record { cells = _; held = c.read_into-judged.ensures.held; marks_of = c.copy.ensures; names_of = c.copy-2.ensures; lengths_of = c.copy-3.ensures; all_marks = c.copy.auto.1.1.0; all_names = c.copy-2.auto.1.1.0; all_lengths = c.copy-3.auto.1.1.0 })
+    (record { cells = _; held = c.read_into-judged.ensures.held; marks_of = c.copy.ensures; names_of = c.copy-2.ensures; lengths_of = c.copy-3.ensures; all_marks = c.copy.auto.part; all_names = c.copy-2.auto.part; all_lengths = c.copy-3.auto.part })
     _ (judged_by a.text.now c.read_into-judged.result _ c.read_into-judged.ensures.answer c.in-Accepted.is)

@@ -48,8 +48,8 @@ loop-v-preserved c =
     let t = c.loop-v-test.true in (
       omega arith,
       omega (arith, i.1),
-      c.put.auto.0 ∙ i.2,
-      c.put-in-loop-v.auto.0 ∙ i.3,
+      c.put.auto.table ∙ i.2,
+      c.put-in-loop-v.auto.table ∙ i.3,
       λ es e.
           adding_loop (i.4 es e) t (rests e pre.1 _ (omega (arith, pre.2)) (sym c.cell.ensures ∙ c.if-cell-ne0.false))
           (omega (arith, i.1, i.2, pre.0.few_vertices, pre.0.few_edges, pre.0.from_room)) (omega (arith, i.1, i.3, pre.0.few_vertices, pre.0.few_edges, pre.0.to_room)) c.put.ensures c.put-in-loop-v.ensures,

@@ -16,7 +16,7 @@ loop-e-smaller c = omega (arith, c.loop-e-test.true)
 pub loop-e-preserved : goal.loop-e-preserved
 loop-e-preserved c =
     let i = c.loop-e.invariant in
-    (omega (arith, c.loop-e-test.true), c.put.auto.0 ∙ i.1, starts_more i.2 c.cell.ensures c.put.ensures)
+    (omega (arith, c.loop-e-test.true), c.put.auto.table ∙ i.1, starts_more i.2 c.cell.ensures c.put.ensures)
 
 pub shape_of-starts : goal.shape_of-starts
 shape_of-starts c = c.loop-e.invariant.1

@@ -16,7 +16,7 @@ pub write_field-here-requires : goal.write_field-here-requires
 write_field-here-requires c = omega (arith, c.load_below-e.ensures.1)
 
 pub loop-i-preserved : goal.loop-i-preserved
-loop-i-preserved c = edges_step c.loop-i.invariant c.loop-i-test.true c.load_below-e.ensures.0 c.write_field-here.ensures c.write_field-here.auto.0
+loop-i-preserved c = edges_step c.loop-i.invariant c.loop-i-test.true c.load_below-e.ensures.0 c.write_field-here.ensures c.write_field-here.auto.output
 
 pub shape_of-output : goal.shape_of-output
 shape_of-output c = c.loop-i.invariant.kept

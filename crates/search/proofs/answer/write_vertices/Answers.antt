@@ -13,7 +13,7 @@ loop-v-init c = vertices_start _ _ _ _
 pub loop-v-preserved : goal.loop-v-preserved
 loop-v-preserved c =
     let loaded : SFits w32 c.load.result = record { sfits = c.load.type_inv } in
-    vertices_step c.loop-v.invariant c.loop-v-test.true (to_z-of_z loaded ∙ c.load.ensures) c.write_vertex-here.ensures c.write_vertex-here.auto.0
+    vertices_step c.loop-v.invariant c.loop-v-test.true (to_z-of_z loaded ∙ c.load.ensures) c.write_vertex-here.ensures c.write_vertex-here.auto.output
 
 pub shape_of-output : goal.shape_of-output
 shape_of-output c = c.loop-v.invariant.kept

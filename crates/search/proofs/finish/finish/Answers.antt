@@ -26,4 +26,4 @@ overflow_cast-result c =
     record { fits = omega (arith, done_written c.is_over.ensures s.answer.gone s.workers (upheld _ _ (not_from_true _ c.if-not-is_over.false) refl) c.write_answer-written.ensures) }
 
 pub returns : goal.returns
-returns c = finish_done c.is_over.ensures _ (upheld _ _ (not_from_true _ c.if-not-is_over.false) refl) c.write_answer-written.ensures c.clear-2.ensures c.write_answer-written.auto.1.0 c.verdict.ensures c.acts_done-acts.ensures
+returns c = finish_done c.is_over.ensures _ (upheld _ _ (not_from_true _ c.if-not-is_over.false) refl) c.write_answer-written.ensures c.clear-2.ensures c.write_answer-written.auto.work c.verdict.ensures c.acts_done-acts.ensures

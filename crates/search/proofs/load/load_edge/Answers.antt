@@ -13,7 +13,7 @@ pub overflow_add-e-2 : goal.overflow_add-e-2
 overflow_add-e-2 c = omega (arith, c.requires.number)
 
 pub store_number-requires-2 : goal.store_number-requires-2
-store_number-requires-2 c = let p = c.requires in (omega (arith, p.number, p.long, c.store_number.auto.0), omega (arith, p.to))
+store_number-requires-2 c = let p = c.requires in (omega (arith, p.number, p.long, c.store_number.auto.work), omega (arith, p.to))
 
 pub returns-then-from-next : goal.returns-then-from-next
 returns-then-from-next c = rw (c.store_number-2.ensures, c.store_number.ensures) (pair_kept _ _ _ _ _ c.if-from-next.true)
@@ -30,7 +30,7 @@ overflow_sub-from c = omega (arith, c.if-from-next.false)
 pub fill_number-requires : goal.fill_number-requires
 fill_number-requires c =
     let p = c.requires in
-    (omega (arith, p.from, p.most, p.long, c.if-from-next.false, c.store_number-2.auto.0, c.store_number.auto.0), omega (arith, p.number))
+    (omega (arith, p.from, p.most, p.long, c.if-from-next.false, c.store_number-2.auto.work, c.store_number.auto.0), omega (arith, p.number))
 
 pub overflow_add-result : goal.overflow_add-result
 overflow_add-result c = omega (arith, c.requires.from)

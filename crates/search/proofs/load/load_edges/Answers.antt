@@ -58,7 +58,7 @@ fill_number-requires c =
     (omega (arith, l.within, l.long, p.vertices, p.long), omega (arith, p.many))
 
 pub shape_of-work : goal.shape_of-work
-shape_of-work c = omega (arith, c.fill_number.auto.0, c.loop-e.invariant.long)
+shape_of-work c = omega (arith, c.fill_number.auto.work, c.loop-e.invariant.long)
 
 pub returns : goal.returns
 returns c =

@@ -25,7 +25,7 @@ pub loop-v-preserved : goal.loop-v-preserved
 unfolding LoopSays
 loop-v-preserved c =
     let i = c.loop-v.invariant in
-    (omega (arith, c.loop-v-test.true), omega (arith, c.load_loop-k.auto.0, i.1), λ q f a b. c.load_loop-k.ensures q (i.2 q f a b) (omega (arith, c.loop-v-test.true, a)))
+    (omega (arith, c.loop-v-test.true), omega (arith, c.load_loop-k.auto.work, i.1), λ q f a b. c.load_loop-k.ensures q (i.2 q f a b) (omega (arith, c.loop-v-test.true, a)))
 
 pub shape_of-work : goal.shape_of-work
 shape_of-work c = c.loop-v.invariant.1

@@ -46,7 +46,7 @@ store_number-requires-in-loop-v c =
     let few : c.loop-v.v < most_vertices = omega (arith, c.loop-v-test.true, c.requires.many) in
     let owned : get_or c.args.owners.now c.loop-v.v 0 < most_workers = c.requires.owner _ c.loop-v-test.true in
     let s = c.requires in
-    (omega (arith, few, s.long, c.loop-v.invariant.long, c.store_number.auto.0), omega (arith, owned))
+    (omega (arith, few, s.long, c.loop-v.invariant.long, c.store_number.auto.work), omega (arith, owned))
 
 pub overflow_add-count : goal.overflow_add-count
 overflow_add-count c =

@@ -65,7 +65,7 @@ pub loop-e-preserved : goal.loop-e-preserved
 unfolding DeliverSays
 loop-e-preserved c =
     (
-      omega (arith, c.deliver-r.auto.0, c.loop-e.invariant.0),
+      omega (arith, c.deliver-r.auto.work, c.loop-e.invariant.0),
       λ q x rep m w l.
           let p = c.args.p in
           let e = c.loop-e.e in

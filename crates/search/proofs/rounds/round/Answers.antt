@@ -18,7 +18,7 @@ unfolding TurnsSay
 slice_bounds-sweep-end c =
     let turned : (q : Case) (x : State) → let a = c.args in
     Rep q x a.run a.work.now → Moment q x → a.p ≡ q.workers → a.p ≤ length a.heads.now → no_message x.cells ≡ true
-    → TurnsLeave q (acted q (range q.workers 0) x) c.turns-turned.result c.turns-turned.new.work c.turns-turned.new.heads = λ q x rep m w r e. c.turns-turned.ensures q x rep m w (omega (arith, c.turns-turned.auto.1)) e in
+    → TurnsLeave q (acted q (range q.workers 0) x) c.turns-turned.result c.turns-turned.new.work c.turns-turned.new.heads = λ q x rep m w r e. c.turns-turned.ensures q x rep m w (omega (arith, c.turns-turned.auto.run)) e in
     let room : c.turns-turned.result.scanned ≤ length c.turns-turned.new.heads = let s = c.requires in
     omega (arith, (turned s.case s.state s.rep s.moment s.workers s.room s.empty).few, s.workers, s.room, c.turns-turned.auto.1) in
     room
@@ -28,7 +28,7 @@ unfolding TurnsSay
 slice_bounds-sweep-end-2 c =
     let turned : (q : Case) (x : State) → let a = c.args in
     Rep q x a.run a.work.now → Moment q x → a.p ≡ q.workers → a.p ≤ length a.heads.now → no_message x.cells ≡ true
-    → TurnsLeave q (acted q (range q.workers 0) x) c.turns-turned.result c.turns-turned.new.work c.turns-turned.new.heads = λ q x rep m w r e. c.turns-turned.ensures q x rep m w (omega (arith, c.turns-turned.auto.1)) e in
+    → TurnsLeave q (acted q (range q.workers 0) x) c.turns-turned.result c.turns-turned.new.work c.turns-turned.new.heads = λ q x rep m w r e. c.turns-turned.ensures q x rep m w (omega (arith, c.turns-turned.auto.run)) e in
     let room : c.turns-turned.result.scanned ≤ length c.turns-turned.new.heads = let s = c.requires in
     omega (arith, (turned s.case s.state s.rep s.moment s.workers s.room s.empty).few, s.workers, s.room, c.turns-turned.auto.1) in
     sym (length-take-le _ _ room)
@@ -38,7 +38,7 @@ unfolding TurnsSay
 sweep-swept-requires c =
     let turned : (q : Case) (x : State) → let a = c.args in
     Rep q x a.run a.work.now → Moment q x → a.p ≡ q.workers → a.p ≤ length a.heads.now → no_message x.cells ≡ true
-    → TurnsLeave q (acted q (range q.workers 0) x) c.turns-turned.result c.turns-turned.new.work c.turns-turned.new.heads = λ q x rep m w r e. c.turns-turned.ensures q x rep m w (omega (arith, c.turns-turned.auto.1)) e in
+    → TurnsLeave q (acted q (range q.workers 0) x) c.turns-turned.result c.turns-turned.new.work c.turns-turned.new.heads = λ q x rep m w r e. c.turns-turned.ensures q x rep m w (omega (arith, c.turns-turned.auto.run)) e in
     let room : c.turns-turned.result.scanned ≤ length c.turns-turned.new.heads = let s = c.requires in
     omega (arith, (turned s.case s.state s.rep s.moment s.workers s.room s.empty).few, s.workers, s.room, c.turns-turned.auto.1) in
     let s = c.requires in
@@ -58,7 +58,7 @@ unfolding RoundSays SweepSays TurnsSay
 returns c =
     let turned : (q : Case) (x : State) → let a = c.args in
     Rep q x a.run a.work.now → Moment q x → a.p ≡ q.workers → a.p ≤ length a.heads.now → no_message x.cells ≡ true
-    → TurnsLeave q (acted q (range q.workers 0) x) c.turns-turned.result c.turns-turned.new.work c.turns-turned.new.heads = λ q x rep m w r e. c.turns-turned.ensures q x rep m w (omega (arith, c.turns-turned.auto.1)) e in
+    → TurnsLeave q (acted q (range q.workers 0) x) c.turns-turned.result c.turns-turned.new.work c.turns-turned.new.heads = λ q x rep m w r e. c.turns-turned.ensures q x rep m w (omega (arith, c.turns-turned.auto.run)) e in
     let room : c.turns-turned.result.scanned ≤ length c.turns-turned.new.heads = let s = c.requires in
     omega (arith, (turned s.case s.state s.rep s.moment s.workers s.room s.empty).few, s.workers, s.room, c.turns-turned.auto.1) in
     λ q x rep m w r e.

@@ -38,7 +38,7 @@ round-done-requires c =
     }
 
 pub shape_of-work-then-done-eq0 : goal.shape_of-work-then-done-eq0
-shape_of-work-then-done-eq0 c = omega (arith, c.round-done.auto.0, c.loop-left.invariant.0)
+shape_of-work-then-done-eq0 c = omega (arith, c.round-done.auto.work, c.loop-left.invariant.0)
 
 pub returns-then-done-eq0 : goal.returns-then-done-eq0
 unfolding RoundsDone RoundSays
@@ -65,8 +65,8 @@ loop-left-preserved c =
     × RoundLeaves q (acted q (round_acts q) u.at) c.round-done.result c.round-done.new.work = λ q x rep m w e. let u = c.loop-left.invariant.2 q x rep m w e in
     (u, c.round-done.ensures q u.at u.rep u.moment w (omega (arith, rep.held.laid.within.workers, c.loop-left.invariant.1)) (left_empty q x _ _ _ _ u c.if-r-ne-NONE.false)) in
     let i = c.loop-left.invariant in (
-      omega (arith, c.round-done.auto.0, i.0),
-      omega (arith, c.round-done.auto.1, i.1),
+      omega (arith, c.round-done.auto.work, i.0),
+      omega (arith, c.round-done.auto.run, i.1),
       λ q x rep m w e. let t = again q x rep m w e in left_step q x _ _ _ _ _ _ t.0 c.loop-left-test.true t.1.rep,
     )
 

@@ -51,7 +51,7 @@ loop-i-preserved c =
     let v = c.loop-i.invariant in
     let t = c.loop-i-test.true in (
       omega arith,
-      omega (arith, c.deliver_edges-r.auto.0, v.1),
+      omega (arith, c.deliver_edges-r.auto.work, v.1),
       λ q x F rep m e l only f.
           let u = v.2 q x F rep m e l only f in
           sweep_step q rep.held.laid.sound F _ f l u t (c.deliver_edges-r.ensures q u.state F u.rep u.moment e (omega (arith, l.low _ t, l.high _ t)) f),

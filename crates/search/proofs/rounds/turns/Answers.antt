@@ -71,8 +71,8 @@ loop-w-preserved c =
     let t = c.loop-w-test.true in (
       omega arith,
       omega (arith, i.1),
-      omega (arith, c.act-r.auto.0, i.2),
-      omega (arith, c.insert.auto.0, i.3),
+      omega (arith, c.act-r.auto.work, i.2),
+      omega (arith, c.insert.auto.list, i.3),
       λ q x rep m e empty room.
           let u = i.4 q x rep m e empty room in
           turns_step q x _ e _ _ _ _ _ _ _ _ _ u t c.insert.ensures (head_is q u.along.at _ _ _ u.along.rep (omega arith) _ c.load_below-head.ensures.0) c.if-head-eq-QUEUE_END.false

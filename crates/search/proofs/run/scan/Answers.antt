@@ -112,7 +112,7 @@ loop-e-preserved c =
     let test = c.loop-e-test.true in
     (
       omega (arith, test),
-      omega (arith, c.scan_edge-r.auto.0, c.loop-e.invariant.1),
+      omega (arith, c.scan_edge-r.auto.work, c.loop-e.invariant.1),
       λ q x o rep own p i. half_step q x _ o _ _ own c.loop-e.e _ _ _ _ (c.loop-e.invariant.2 q x o rep own p i) test (stepped q x o (c.loop-e.invariant.2 q x o rep own p i) own p i),
       omega (arith, c.loop-e.invariant.3),
       room-left,

@@ -32,7 +32,7 @@ store_number-requires-2 c =
     let a = c.load_below-v.ensures.0 in
     omega (arith, try_room _ _ _ _ _ _ s.laid s.scanning s.below s.leaves _ a _ c.load_below-found.ensures.0 c.if-found-ne-NOT_FOUND.false, s.laid.within.vertices) in
     let s = c.requires in
-    (omega (arith, room, s.laid.long, c.store_number.auto.0), omega (arith, c.load_below-v.ensures.1))
+    (omega (arith, room, s.laid.long, c.store_number.auto.work), omega (arith, c.load_below-v.ensures.1))
 
 pub overflow_add-result : goal.overflow_add-result
 overflow_add-result c =
