@@ -1,5 +1,5 @@
 -- Queues by links: a vertex joins at the tail, and the head leaves. Assumes nothing.
-use mathlib.Core.Path.{◌≡◌, refl, sym, ap, ◌∙◌}
+use mathlib.Core.Path.{◌≡◌, refl, sym, ap, subst, ◌∙◌}
 use mathlib.Core.Bool.{Bool, true, false}
 use mathlib.Core.List.{List, [], ◌∷◌, ◌++◌}
 use mathlib.Core.Logic.{◌⊎◌, inl, inr, ⊎_elim}
@@ -187,7 +187,7 @@ module _ (c : Case) (qs : List (List ℕ)) (N H T : List ℕ) (v p : ℕ) (L : L
       go : (q : List ℕ) → get_or qs p [] ≡ q → Lined c joined (set (set N t (v + 2)) v 1) H (set T p v)
       go [] e = absurd (h (L.heads p pw ∙ ap link e))
       go (u ∷ q) e =
-          let ends : Ends t (u ∷ q) = rw te (rw e at (L.tails p pw)) in
+          let ends : Ends t (u ∷ q) = subst (λ (x : ℕ). Ends x (u ∷ q)) (sym te) (rw e at (L.tails p pw)) in
           let tm : member t (get_or qs p []) ≡ true = rw e (ends_member t u q ends) in
           let tb = L.mine p t tm in
           let k : v < length N = omega arith in

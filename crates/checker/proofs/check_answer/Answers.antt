@@ -6,7 +6,7 @@ use Rattle.checker.proofs.Openings.{case_refused, answer_told}
 use Rattle.checker.proofs.check_answer.Goals as goal
 
 pub check_against-requires : goal.check_against-requires
-check_against-requires c = room (case_of (sym c.read_case.ensures.answer ∙ c.in-Accepted.is)) (omega (arith, c.read_case.auto.tos)) (omega (arith, c.read_case.auto.1.1.1.1.0))
+check_against-requires c = room (case_of (sym c.read_case.ensures.answer ∙ c.in-Accepted.is)) (omega (arith, c.read_case.auto.froms)) (omega (arith, c.read_case.auto.tos))
 
 pub returns-in-Refused : goal.returns-in-Refused
 returns-in-Refused c = case_refused _ _ (refused_case _ (sym c.read_case.ensures.answer ∙ c.in-Refused.is)) c.told.ensures

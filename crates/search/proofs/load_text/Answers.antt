@@ -15,37 +15,35 @@ pub slice_bounds-marks-end : goal.slice_bounds-marks-end
 slice_bounds-marks-end c = omega (arith, (counts_few _ c.read_case.ensures.answer c.in-Accepted.is).2)
 
 pub slice_bounds-load_case-end : goal.slice_bounds-load_case-end
-slice_bounds-load_case-end c = sym (length-take-le _ _ (omega (arith, (counts_few _ c.read_case.ensures.answer c.in-Accepted.is).2, c.read_case.auto.owners)))
+slice_bounds-load_case-end c = sym (length-take-le _ _ (omega (arith, (counts_few _ c.read_case.ensures.answer c.in-Accepted.is).2, c.read_case.auto.marks)))
 
 pub slice_bounds-owners-end : goal.slice_bounds-owners-end
 slice_bounds-owners-end c = omega (arith, (counts_few _ c.read_case.ensures.answer c.in-Accepted.is).2)
 
 pub slice_bounds-load_case-end-in-Accepted : goal.slice_bounds-load_case-end-in-Accepted
-slice_bounds-load_case-end-in-Accepted c = sym (length-take-le _ _ (omega (arith, (counts_few _ c.read_case.ensures.answer c.in-Accepted.is).2, c.read_case.auto.froms)))
+slice_bounds-load_case-end-in-Accepted c = sym (length-take-le _ _ (omega (arith, (counts_few _ c.read_case.ensures.answer c.in-Accepted.is).2, c.read_case.auto.owners)))
 
 pub slice_bounds-froms-end : goal.slice_bounds-froms-end
 slice_bounds-froms-end c = omega (arith, (counts_few _ c.read_case.ensures.answer c.in-Accepted.is).1)
 
 pub slice_bounds-load_case-end-in-Accepted-2 : goal.slice_bounds-load_case-end-in-Accepted-2
-slice_bounds-load_case-end-in-Accepted-2 c = sym (length-take-le _ _ (omega (arith, (counts_few _ c.read_case.ensures.answer c.in-Accepted.is).1, c.read_case.auto.tos)))
+slice_bounds-load_case-end-in-Accepted-2 c = sym (length-take-le _ _ (omega (arith, (counts_few _ c.read_case.ensures.answer c.in-Accepted.is).1, c.read_case.auto.froms)))
 
 pub slice_bounds-tos-end : goal.slice_bounds-tos-end
 slice_bounds-tos-end c = omega (arith, (counts_few _ c.read_case.ensures.answer c.in-Accepted.is).1)
 
 pub slice_bounds-load_case-end-in-Accepted-3 : goal.slice_bounds-load_case-end-in-Accepted-3
-slice_bounds-load_case-end-in-Accepted-3 c = sym (length-take-le _ _ (omega (arith, (counts_few _ c.read_case.ensures.answer c.in-Accepted.is).1, c.read_case.auto.tos.1.0)))
+slice_bounds-load_case-end-in-Accepted-3 c = sym (length-take-le _ _ (omega (arith, (counts_few _ c.read_case.ensures.answer c.in-Accepted.is).1, c.read_case.auto.tos)))
 
 pub load_case-count-requires : goal.load_case-count-requires
 load_case-count-requires c =
     let s = c.requires in
-    let k = c.read_case.auto.owners in
-    tables_ask _ c.read_case.ensures c.in-Accepted.is (omega arith, omega arith) (omega arith, omega arith) (k.0, k.1.0, k.1.1.0, k.1.1.1.0) s
+    tables_ask _ c.read_case.ensures c.in-Accepted.is (omega arith, omega arith) (omega arith, omega arith) (c.read_case.auto.marks, c.read_case.auto.owners, c.read_case.auto.froms, c.read_case.auto.tos) s
 
 pub load_loops-edges-requires : goal.load_loops-edges-requires
 load_loops-edges-requires c =
     let s = c.requires in
-    let k = c.read_case.auto.owners in
-    loops_ask _ c.read_case.ensures c.in-Accepted.is (omega arith, omega arith) (omega arith, omega arith) (k.0, k.1.0, k.1.1.0, k.1.1.1.0) s c.load_case-count.ensures
+    loops_ask _ c.read_case.ensures c.in-Accepted.is (omega arith, omega arith) (omega arith, omega arith) (c.read_case.auto.marks, c.read_case.auto.owners, c.read_case.auto.froms, c.read_case.auto.tos) s c.load_case-count.ensures
 
 pub returns-in-Refused : goal.returns-in-Refused
 returns-in-Refused c = text_refused _ c.read_case.ensures.answer _ _ c.in-Refused.is
@@ -53,5 +51,4 @@ returns-in-Refused c = text_refused _ c.read_case.ensures.answer _ _ c.in-Refuse
 pub returns-else-out_of_range : goal.returns-else-out_of_range
 returns-else-out_of_range c =
     let s = c.requires in
-    let k = c.read_case.auto.owners in
-    case_laid _ c.read_case.ensures c.in-Accepted.is (omega arith, omega arith) (omega arith, omega arith) (k.0, k.1.0, k.1.1.0, k.1.1.1.0) s c.load_case-count.ensures _ (sym c.out_of_range.ensures ∙ c.if-out_of_range.false) c.load_loops-edges.ensures c.load_loops-edges.auto.0
+    case_laid _ c.read_case.ensures c.in-Accepted.is (omega arith, omega arith) (omega arith, omega arith) (c.read_case.auto.marks, c.read_case.auto.owners, c.read_case.auto.froms, c.read_case.auto.tos) s c.load_case-count.ensures _ (sym c.out_of_range.ensures ∙ c.if-out_of_range.false) c.load_loops-edges.ensures c.load_loops-edges.auto.work

@@ -24,4 +24,4 @@ pub returns-in-Refused : goal.returns-in-Refused
 returns-in-Refused c = rw c.refused-in-Refused.ensures (list_turned _ _ _ _ (sym c.too_short.ensures ∙ c.if-too_short.false) _ _ (loads_refused _ _ c.load_text.ensures c.in-Refused.is))
 
 pub returns-in-Laid : goal.returns-in-Laid
-returns-in-Laid c = list_says _ _ _ _ _ _ _ (loads_laid c.load_text.ensures c.in-Laid.is) _ _ c.fresh-fresh.ensures _ _ _ (sym c.too_short.ensures ∙ c.if-too_short.false) c.act_list-run.ensures c.finish.ensures (omega (arith, c.act_list-run.auto.work, c.fresh-fresh.auto.0, c.load_text.auto.1.1.0))
+returns-in-Laid c = list_says _ _ _ _ _ _ _ (loads_laid c.load_text.ensures c.in-Laid.is) _ _ c.fresh-fresh.ensures _ _ _ (sym c.too_short.ensures ∙ c.if-too_short.false) c.act_list-run.ensures c.finish.ensures (omega (arith, c.act_list-run.auto.work, c.fresh-fresh.auto.work, c.load_text.auto.work))

@@ -10,9 +10,6 @@ loop-i-init c = (omega arith, fill_start _ _ _)
 pub overflow_add-z : goal.overflow_add-z
 overflow_add-z c = omega (arith, c.loop-i.invariant.1.long)
 
-pub offset_bounds-work-at : goal.offset_bounds-work-at
-offset_bounds-work-at c = record { fits = omega (arith, c.loop-i.invariant.1.long, c.well-formed.0.1, c.loop-i-test.true) }
-
 pub bounds-work-at : goal.bounds-work-at
 bounds-work-at c = omega (arith, c.loop-i.invariant.1.long)
 

@@ -30,7 +30,7 @@ overflow_sub-from c = omega (arith, c.if-from-next.false)
 pub fill_number-requires : goal.fill_number-requires
 fill_number-requires c =
     let p = c.requires in
-    (omega (arith, p.from, p.most, p.long, c.if-from-next.false, c.store_number-2.auto.work, c.store_number.auto.0), omega (arith, p.number))
+    (omega (arith, p.from, p.most, p.long, c.if-from-next.false, c.store_number-2.auto.work, c.store_number.auto.work), omega (arith, p.number))
 
 pub overflow_add-result : goal.overflow_add-result
 overflow_add-result c = omega (arith, c.requires.from)

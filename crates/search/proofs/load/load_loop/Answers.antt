@@ -39,7 +39,7 @@ overflow_add-k-2 c =
 pub store_number-requires-3 : goal.store_number-requires-3
 store_number-requires-3 c =
     let s = c.requires in
-    (omega (arith, room s.looping s.below, s.looping.filed.long, c.store_number.auto.work, c.store_number-2.auto.0), omega (arith, s.below, s.looping.filed.within.vertices))
+    (omega (arith, room s.looping s.below, s.looping.filed.long, c.store_number.auto.work, c.store_number-2.auto.work), omega (arith, s.below, s.looping.filed.within.vertices))
 
 pub overflow_add-result : goal.overflow_add-result
 overflow_add-result c =

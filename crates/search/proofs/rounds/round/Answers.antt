@@ -20,7 +20,7 @@ slice_bounds-sweep-end c =
     Rep q x a.run a.work.now → Moment q x → a.p ≡ q.workers → a.p ≤ length a.heads.now → no_message x.cells ≡ true
     → TurnsLeave q (acted q (range q.workers 0) x) c.turns-turned.result c.turns-turned.new.work c.turns-turned.new.heads = λ q x rep m w r e. c.turns-turned.ensures q x rep m w (omega (arith, c.turns-turned.auto.run)) e in
     let room : c.turns-turned.result.scanned ≤ length c.turns-turned.new.heads = let s = c.requires in
-    omega (arith, (turned s.case s.state s.rep s.moment s.workers s.room s.empty).few, s.workers, s.room, c.turns-turned.auto.1) in
+    omega (arith, (turned s.case s.state s.rep s.moment s.workers s.room s.empty).few, s.workers, s.room, c.turns-turned.auto.run) in
     room
 
 pub slice_bounds-sweep-end-2 : goal.slice_bounds-sweep-end-2
@@ -30,7 +30,7 @@ slice_bounds-sweep-end-2 c =
     Rep q x a.run a.work.now → Moment q x → a.p ≡ q.workers → a.p ≤ length a.heads.now → no_message x.cells ≡ true
     → TurnsLeave q (acted q (range q.workers 0) x) c.turns-turned.result c.turns-turned.new.work c.turns-turned.new.heads = λ q x rep m w r e. c.turns-turned.ensures q x rep m w (omega (arith, c.turns-turned.auto.run)) e in
     let room : c.turns-turned.result.scanned ≤ length c.turns-turned.new.heads = let s = c.requires in
-    omega (arith, (turned s.case s.state s.rep s.moment s.workers s.room s.empty).few, s.workers, s.room, c.turns-turned.auto.1) in
+    omega (arith, (turned s.case s.state s.rep s.moment s.workers s.room s.empty).few, s.workers, s.room, c.turns-turned.auto.run) in
     sym (length-take-le _ _ room)
 
 pub sweep-swept-requires : goal.sweep-swept-requires
@@ -40,7 +40,7 @@ sweep-swept-requires c =
     Rep q x a.run a.work.now → Moment q x → a.p ≡ q.workers → a.p ≤ length a.heads.now → no_message x.cells ≡ true
     → TurnsLeave q (acted q (range q.workers 0) x) c.turns-turned.result c.turns-turned.new.work c.turns-turned.new.heads = λ q x rep m w r e. c.turns-turned.ensures q x rep m w (omega (arith, c.turns-turned.auto.run)) e in
     let room : c.turns-turned.result.scanned ≤ length c.turns-turned.new.heads = let s = c.requires in
-    omega (arith, (turned s.case s.state s.rep s.moment s.workers s.room s.empty).few, s.workers, s.room, c.turns-turned.auto.1) in
+    omega (arith, (turned s.case s.state s.rep s.moment s.workers s.room s.empty).few, s.workers, s.room, c.turns-turned.auto.run) in
     let s = c.requires in
     let t = turned s.case s.state s.rep s.moment s.workers s.room s.empty in
     record {
@@ -60,7 +60,7 @@ returns c =
     Rep q x a.run a.work.now → Moment q x → a.p ≡ q.workers → a.p ≤ length a.heads.now → no_message x.cells ≡ true
     → TurnsLeave q (acted q (range q.workers 0) x) c.turns-turned.result c.turns-turned.new.work c.turns-turned.new.heads = λ q x rep m w r e. c.turns-turned.ensures q x rep m w (omega (arith, c.turns-turned.auto.run)) e in
     let room : c.turns-turned.result.scanned ≤ length c.turns-turned.new.heads = let s = c.requires in
-    omega (arith, (turned s.case s.state s.rep s.moment s.workers s.room s.empty).few, s.workers, s.room, c.turns-turned.auto.1) in
+    omega (arith, (turned s.case s.state s.rep s.moment s.workers s.room s.empty).few, s.workers, s.room, c.turns-turned.auto.run) in
     λ q x rep m w r e.
     let t = turned q x rep m w r e in
     let y = acted q (range q.workers 0) x in
