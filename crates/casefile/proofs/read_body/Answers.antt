@@ -8,10 +8,6 @@ use native.Mathlib.Omega.{arith}
 use borrow.Author.Rules.{rules}
 use Rattle.casefile.proofs.read_body.Goals as goal
 
--- TURN: no goal slice-aggregate-name-line
--- slice-aggregate-name-line : tie.Need-slice-aggregate-name-line
--- slice-aggregate-name-line c = search rules
-
 pub returns-then-end-text : goal.returns-then-end-text
 returns-then-end-text c =
     let v = c.vertex_block.ensures in

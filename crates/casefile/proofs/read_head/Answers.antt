@@ -12,19 +12,11 @@ use Rattle.casefile.proofs.read_head.Goals as goal
 pub returns-then-text-gt-LONGEST_FILE : goal.returns-then-text-gt-LONGEST_FILE
 returns-then-text-gt-LONGEST_FILE c = head_1 _ c.if-text-gt-LONGEST_FILE.true
 
--- TURN: no goal slice-aggregate-begins-at
--- slice-aggregate-begins-at : tie.Need-slice-aggregate-begins-at
--- slice-aggregate-begins-at c = search rules
-
 pub returns-then-not-begins_at : goal.returns-then-not-begins_at
 returns-then-not-begins_at c = head_2 _ c.if-text-gt-LONGEST_FILE.false (sym c.begins_at.ensures ∙ refuted _ _ (not_from_false _ c.if-not-begins_at.true) refl)
 
 pub returns-then-other_version : goal.returns-then-other_version
 returns-then-other_version c = head_3 _ c.if-text-gt-LONGEST_FILE.false (sym c.begins_at.ensures ∙ upheld _ _ (not_from_true _ c.if-not-begins_at.false) refl) (sym c.other_version.ensures ∙ c.if-other_version.true)
-
--- TURN: no goal slice-aggregate-name-line
--- slice-aggregate-name-line : tie.Need-slice-aggregate-name-line
--- slice-aggregate-name-line c = search rules
 
 pub returns-in_default : goal.returns-in_default
 returns-in_default c =
@@ -37,23 +29,11 @@ returns-in_default-row_of_5 c =
     let named : LineNamed c.args.text.now 0 head_names c.in-Past.second = named_read refl c.name_line.ensures c.in-Past.is in
     head_torn opened named (row5_fault _ _ c.row_of_5.ensures c.in_default-row_of_5.is)
 
--- TURN: no goal overflow-cast-t13
--- cast-t13 : tie.Need-overflow-cast-t13
--- cast-t13 c = search rules
-
--- TURN: no goal overflow-cast-t25
--- cast-t25 : tie.Need-overflow-cast-t25
--- cast-t25 c = search rules
-
 pub returns-then-not-in_range : goal.returns-then-not-in_range
 returns-then-not-in_range c =
     let opened : Opened known_version c.args.text.now = record { short = c.if-text-gt-LONGEST_FILE.false; begun = sym c.begins_at.ensures ∙ upheld _ _ (not_from_true _ c.if-not-begins_at.false) refl; version = sym c.other_version.ensures ∙ c.if-other_version.false } in
     let named : LineNamed c.args.text.now 0 head_names c.in-Past.second = named_read refl c.name_line.ensures c.in-Past.is in
     head_miscounted opened named (row5_read c.row_of_5.ensures c.in-Read.is) (sym c.in_range.ensures ∙ refuted _ _ (not_from_false _ c.if-not-in_range.true) refl)
-
--- TURN: no goal slice-aggregate-name-line-2
--- slice-aggregate-name-line-2 : tie.Need-slice-aggregate-name-line-2
--- slice-aggregate-name-line-2 c = search rules
 
 pub returns-in_default-name_line : goal.returns-in_default-name_line
 returns-in_default-name_line c =

@@ -15,16 +15,8 @@ loop-i-init c = good_start _ c.good_modes-i.ensures
 pub bounds-pairs-i : goal.bounds-pairs-i
 bounds-pairs-i c = omega (arith, c.requires.0)
 
--- TURN: no goal nonzero-div-t9
--- div-t9 : tie.Need-nonzero-div-t9 invariant-loop decreases-loop
--- div-t9 c = search rules
-
 pub overflow_cast-result : goal.overflow_cast-result
 overflow_cast-result c = omega (arith, c.requires.1, div-le_self c.loop-i.i c.args.count)
-
--- TURN: no goal nonzero-rem-t11
--- rem-t11 : tie.Need-nonzero-rem-t11 invariant-loop decreases-loop
--- rem-t11 c = search rules
 
 pub overflow_cast-result-then-refusal-ne0 : goal.overflow_cast-result-then-refusal-ne0
 overflow_cast-result-then-refusal-ne0 c = omega (arith, c.requires.1, mod-le c.loop-i.i c.args.count)

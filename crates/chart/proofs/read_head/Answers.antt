@@ -13,10 +13,6 @@ use Rattle.chart.proofs.read_head.Goals as goal
 pub returns-then-text-gt-LONGEST_FILE : goal.returns-then-text-gt-LONGEST_FILE
 returns-then-text-gt-LONGEST_FILE c = head_long _ c.if-text-gt-LONGEST_FILE.true
 
--- TURN: no goal slice-aggregate-name-line
--- slice-aggregate-name-line : tie.Need-slice-aggregate-name-line
--- slice-aggregate-name-line c = search rules
-
 pub returns-in_default : goal.returns-in_default
 returns-in_default c = head_unnamed _ (named_other chart_names _ 0 refl c.name_line.ensures c.in_default.is)
 
@@ -30,23 +26,11 @@ returns-in_default-row_of_3 c =
     let named : LineNamed c.args.text.now 0 chart_names c.in-Past.second = named_read refl c.name_line.ensures c.in-Past.is in
     head_torn named (no_row_later (leading_read c.leading_number.ensures c.in-Read.is) (row3_fault _ _ c.row_of_3.ensures c.in_default-row_of_3.is))
 
--- TURN: no goal overflow-cast-t13
--- cast-t13 : tie.Need-overflow-cast-t13
--- cast-t13 c = search rules
-
--- TURN: no goal overflow-cast-t21
--- cast-t21 : tie.Need-overflow-cast-t21
--- cast-t21 c = search rules
-
 pub returns-then-not-counts_good : goal.returns-then-not-counts_good
 returns-then-not-counts_good c =
     let named : LineNamed c.args.text.now 0 chart_names c.in-Past.second = named_read refl c.name_line.ensures c.in-Past.is in
     let counts : Row c.args.text.now c.in-Past.second (c.in-Read.version ∷ c.in-Read-row_of_3.modes ∷ c.in-Read-row_of_3.start ∷ c.in-Read-row_of_3.flags ∷ []) c.in-Read-row_of_3.third = row_more (leading_read c.leading_number.ensures c.in-Read.is) (row3_read c.row_of_3.ensures c.in-Read-row_of_3.is) in
     head_miscounted named counts (sym c.counts_good.ensures ∙ refuted _ _ (not_from_false _ c.if-not-counts_good.true) refl)
-
--- TURN: no goal slice-aggregate-name-line-2
--- slice-aggregate-name-line-2 : tie.Need-slice-aggregate-name-line-2
--- slice-aggregate-name-line-2 c = search rules
 
 pub returns-in_default-name_line : goal.returns-in_default-name_line
 returns-in_default-name_line c =

@@ -6,10 +6,6 @@ use Rattle.model.specs.Chart.{rule_names}
 use Rattle.chart.proofs.Whole.{rest_unnamed, rest_untitled, rest_read}
 use Rattle.chart.proofs.read_rest.Goals as goal
 
--- TURN: no goal slice-aggregate-name-line
--- slice-aggregate-name-line : tie.Need-slice-aggregate-name-line
--- slice-aggregate-name-line c = search rules
-
 pub rule_block-requires : goal.rule_block-requires
 rule_block-requires c = c.requires
 

@@ -10,10 +10,6 @@ use Rattle.search.proofs.run_rounds.Goals as goal
 pub returns-then-too_short : goal.returns-then-too_short
 returns-then-too_short c = rw c.refused.ensures (rounds_short _ [] _ _ (sym c.too_short.ensures ∙ c.if-too_short.true))
 
--- TURN: no goal slice-aggregate-load-text
--- slice-aggregate-load-text : tie.Need-slice-aggregate-load-text
--- slice-aggregate-load-text c = search rules
-
 pub load_text-requires : goal.load_text-requires
 load_text-requires c =
     let a = c.args in

@@ -6,10 +6,6 @@ use Rattle.checker.proofs.Openings.{said_empty, empty_untitled, empty_rest}
 use borrow.Author.Rules.{rules}
 use Rattle.checker.proofs.listing.check_empty.Goals as goal
 
--- TURN: no goal slice-aggregate-name-line
--- slice-aggregate-name-line : tie.Need-slice-aggregate-name-line
--- slice-aggregate-name-line c = search rules
-
 pub returns-in_default : goal.returns-in_default
 returns-in_default c = λ g t u n. empty_untitled (said_empty _ c.requires.0) g (named_other empty_names _ _ refl c.name_line.ensures c.in_default.is)
 

@@ -18,26 +18,14 @@ returns-in_default c = head_torn _ _ c.leading_number.ensures c.in_default.is
 pub overflow_add-end : goal.overflow_add-end
 overflow_add-end c = omega (arith, ap length c.field-verdict.ensures.bytes, field_low c.args.text.now c.in-Read.p 18446744073709551615 (omega arith) (omega arith))
 
--- TURN: no goal slice-aggregate-begins-at
--- slice-aggregate-begins-at : tie.Need-slice-aggregate-begins-at
--- slice-aggregate-begins-at c = search rules
-
 pub returns-then-not-begins_at : goal.returns-then-not-begins_at
 returns-then-not-begins_at c = head_unspaced (leading_read c.leading_number.ensures c.in-Read.is) c.field-verdict.ensures.bytes (sym c.begins_at.ensures ∙ refuted _ _ (not_from_false _ c.if-not-begins_at.true) refl)
-
--- TURN: no goal slice-aggregate-same
--- slice-aggregate-same : tie.Need-slice-aggregate-same
--- slice-aggregate-same c = search rules
 
 pub overflow_add-end-then-same : goal.overflow_add-end-then-same
 overflow_add-end-then-same c = omega (arith, named_end c.args.text.now (c.in-Read.p + length c.field-verdict.result.now) (ascii " ") (sym (sym c.begins_at.ensures ∙ upheld _ _ (not_from_true _ c.if-not-begins_at.false) refl)))
 
 pub returns-then-same : goal.returns-then-same
 returns-then-same c = c.read_counts.ensures ∙ head_lasso (leading_read c.leading_number.ensures c.in-Read.is) c.field-verdict.ensures.bytes (sym c.begins_at.ensures ∙ upheld _ _ (not_from_true _ c.if-not-begins_at.false) refl) (sym c.same.ensures ∙ c.if-same.true)
-
--- TURN: no goal slice-aggregate-same-2
--- slice-aggregate-same-2 : tie.Need-slice-aggregate-same-2
--- slice-aggregate-same-2 c = search rules
 
 pub overflow_add-end-then-same-2 : goal.overflow_add-end-then-same-2
 overflow_add-end-then-same-2 c = omega (arith, named_end c.args.text.now (c.in-Read.p + length c.field-verdict.result.now) (ascii " ") (sym (sym c.begins_at.ensures ∙ upheld _ _ (not_from_true _ c.if-not-begins_at.false) refl)))

@@ -13,19 +13,11 @@ use Rattle.checker.proofs.opening.read_opening.Goals as goal
 pub returns-then-text-gt-LONGEST_FILE : goal.returns-then-text-gt-LONGEST_FILE
 returns-then-text-gt-LONGEST_FILE c = too_long _ c.if-text-gt-LONGEST_FILE.true
 
--- TURN: no goal slice-aggregate-begins-at
--- slice-aggregate-begins-at : tie.Need-slice-aggregate-begins-at
--- slice-aggregate-begins-at c = search rules
-
 pub returns-then-not-begins_at : goal.returns-then-not-begins_at
 returns-then-not-begins_at c = no_version _ c.if-text-gt-LONGEST_FILE.false (sym c.begins_at.ensures ∙ refuted _ _ (not_from_false _ c.if-not-begins_at.true) refl)
 
 pub returns-then-other_version : goal.returns-then-other_version
 returns-then-other_version c = another_version _ c.if-text-gt-LONGEST_FILE.false (sym c.begins_at.ensures ∙ upheld _ _ (not_from_true _ c.if-not-begins_at.false) refl) (sym c.other_version.ensures ∙ c.if-other_version.true)
-
--- TURN: no goal slice-aggregate-name-line
--- slice-aggregate-name-line : tie.Need-slice-aggregate-name-line
--- slice-aggregate-name-line c = search rules
 
 pub returns-in_default : goal.returns-in_default
 returns-in_default c =

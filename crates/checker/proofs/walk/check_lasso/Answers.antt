@@ -6,10 +6,6 @@ use Rattle.checker.proofs.Openings.{said_lasso, lasso_untitled, lasso_rest}
 use borrow.Author.Rules.{rules}
 use Rattle.checker.proofs.walk.check_lasso.Goals as goal
 
--- TURN: no goal slice-aggregate-name-line
--- slice-aggregate-name-line : tie.Need-slice-aggregate-name-line
--- slice-aggregate-name-line c = search rules
-
 pub returns-in_default : goal.returns-in_default
 returns-in_default c = λ g t u. lasso_untitled (said_lasso _ c.requires) g (named_other lasso_names _ _ refl c.name_line.ensures c.in_default.is)
 

@@ -3,13 +3,5 @@ use borrow.Author.Rules.{rules}
 use Rattle.search.proofs.Answers.{empty_says}
 use Rattle.search.proofs.answer.write_empty.Goals as goal
 
--- TURN: no goal slice-aggregate-write-head
--- slice-aggregate-write-head : tie.Need-slice-aggregate-write-head
--- slice-aggregate-write-head c = search rules
-
--- TURN: no goal slice-aggregate-write-bytes
--- slice-aggregate-write-bytes : tie.Need-slice-aggregate-write-bytes
--- slice-aggregate-write-bytes c = search rules
-
 pub returns : goal.returns
 returns c = empty_says c.reached-k.ensures c.write_head-at.ensures c.write_bytes-at.ensures c.write_vertices.ensures

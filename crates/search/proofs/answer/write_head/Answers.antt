@@ -4,10 +4,6 @@ use Rattle.text.proofs.Chains.{puts, puts_as, puts_then}
 use Rattle.search.proofs.Rows.{head_parts}
 use Rattle.search.proofs.answer.write_head.Goals as goal
 
--- TURN: no goal slice-aggregate-write-bytes
--- slice-aggregate-write-bytes : tie.Need-slice-aggregate-write-bytes
--- slice-aggregate-write-bytes c = search rules
-
 pub returns : goal.returns
 returns c =
     puts_as (head_parts _ _ _ _)
