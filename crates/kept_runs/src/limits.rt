@@ -1,8 +1,7 @@
 // Runs at the limits, and one past them: vertices, edges, workers, bytes, and the lent buffers.
-use crate::line::{Wanted, list_in, list_of, rounds_in, rounds_of};
+use crate::line::{Wanted, list_in, list_of, print, rounds_in, rounds_of};
 use crate::sizes;
 use bench_kit::buffers::{CELL, MARK, front, front_acts};
-use desk::print;
 
 // K4 by rounds in these buffers.
 fn buffers_of_k4(

@@ -1,11 +1,11 @@
 // One run, one line: an entry is called on marked buffers, and a line says what came back and whether it is what must come.
 use bench_kit::buffers::{CELL, MARK, all_are, front, untouched};
 use checker::check_answer;
-use desk::print;
-use libc::STDOUT_FILENO;
 use model::Outcome;
 use search::{run_list, run_rounds};
 use text::write::write_bytes;
+
+const STDOUT: i32 = 1;
 
 // The longest answer that is printed.
 const SHORT: usize = 100;
@@ -71,8 +71,13 @@ enum Work {
     Mixed,
 }
 
+// Prints the bytes.
+pub(crate) fn print(bytes: &[u8]) {
+    io::write_all(STDOUT, bytes);
+}
+
 pub(crate) fn print_number(n: u32) {
-    io::print_decimal(STDOUT_FILENO, n as u64);
+    io::print_decimal(STDOUT, n as u64);
 }
 
 fn print_verdict(verdict: u32) {
@@ -143,7 +148,7 @@ fn print_outcome(o: Outcome) {
     print(b", ");
     print_verdict(o.verdict);
     print(b", acts ");
-    io::print_decimal(STDOUT_FILENO, o.acts);
+    io::print_decimal(STDOUT, o.acts);
     print_tallies(o);
     print(b", written ");
     print_number(o.written);

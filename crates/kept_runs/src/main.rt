@@ -27,8 +27,7 @@ mod rules;
 mod sizes;
 mod versions;
 
-use desk::print;
-use line::print_number;
+use line::{print, print_number};
 
 fn main() {
     let a = rules::shortcuts(rules::refusals_and_lists(kept::table(0)));
