@@ -18,8 +18,8 @@ slice_bounds-read_into-end-3 c = sym (length-take-le {A = ℕ} 3900 c.clear.new.
 pub read_into-requires-2 : goal.read_into-requires-2
 read_into-requires-2 c =
     rw c.clear.ensures (
-      let z = zeros_front (length c.args.cells.now) 3900 (omega (arith, c.if-cells-lt-CELLS.false, c.clear.auto.cells)) in
-      record { claim_cells_in_bounds = z.0; cells_value = z.1 }
+    let z = zeros_front (length c.args.cells.now) 3900 (omega (arith, c.if-cells-lt-CELLS.false, c.clear.auto.cells)) in
+    record { claim_cells_in_bounds = z.0; cells_value = z.1 }
     )
 
 pub returns : goal.returns

@@ -1,10 +1,9 @@
 -- `labels::atom`, `and_level` and `or_level` meet their contracts: each call goes deeper, or one level down. Assumes nothing.
 use mathlib.Core.Path.{sym, ◌∙◌}
 use native.Mathlib.Omega.{arith}
-use borrow.Author.Rules.{rules}
 use Rattle.model.specs.ClaimLabels.{not_byte, open_byte}
 use Rattle.claim.proofs.Signs.{not_sign, open_sign, close_sign, sign_inside, sign_not}
-use Rattle.claim.proofs.LabelCode.{nots_none, nots_more, nots_carried, nots_deep, atom_closed, and_first_due, and_broken, and_ended, and_again, and_ahead, or_first_due, or_broken, or_ended, or_again, or_ahead}
+use Rattle.claim.proofs.LabelCode.{nots_more, nots_carried, nots_deep, atom_closed, and_first_due, and_broken, and_ended, and_again, and_ahead, or_first_due, or_broken, or_ended, or_again, or_ahead}
 use Rattle.claim.proofs.labels.+and_level_atom_or_level.Goals as goal
 
 pub and_level-loop-w-init : goal.and_level-loop-w-init
@@ -16,17 +15,11 @@ and_level-returns-in_default t c = and_broken _ c.loop-w.invariant c.atom-more.r
 pub and_level-returns-then-byte_at-ne38 : goal.and_level-returns-then-byte_at-ne38
 and_level-returns-then-byte_at-ne38 t c = and_ended _ c.loop-w.invariant c.atom-more.result _ _ c.in-Is.is c.atom-more.ensures _ c.intersection-values.ensures (λ q. c.if-byte_at-ne38.true (c.byte_at.ensures ∙ q))
 
-pub and_level-overflow_add-here : goal.and_level-overflow_add-here
-and_level-overflow_add-here t c = let h = and_ahead _ c.loop-w.invariant c.atom-more.result _ _ c.in-Is.is c.atom-more.ensures _ c.intersection-values.ensures (sym c.byte_at.ensures ∙ c.if-byte_at-ne38.false) in omega (arith, h.inside)
-
 pub and_level-loop-w-smaller : goal.and_level-loop-w-smaller
 and_level-loop-w-smaller t c = let h = and_ahead _ c.loop-w.invariant c.atom-more.result _ _ c.in-Is.is c.atom-more.ensures _ c.intersection-values.ensures (sym c.byte_at.ensures ∙ c.if-byte_at-ne38.false) in omega (arith, h.more, h.inside)
 
 pub and_level-loop-w-preserved : goal.and_level-loop-w-preserved
 and_level-loop-w-preserved t c = and_again _ c.loop-w.invariant c.atom-more.result _ _ c.in-Is.is c.atom-more.ensures _ c.intersection-values.ensures (sym c.byte_at.ensures ∙ c.if-byte_at-ne38.false)
-
-pub atom-loop-at-init : goal.atom-loop-at-init
-atom-loop-at-init t c = nots_none _ _ _ _ _ c.past_blanks-here.ensures
 
 pub atom-returns-then-down-ge-DEEPEST : goal.atom-returns-then-down-ge-DEEPEST
 atom-returns-then-down-ge-DEEPEST t c = nots_deep c.loop-at.invariant not_byte not_sign (sym c.byte_at.ensures ∙ c.loop-at-test.true) c.if-down-ge-DEEPEST.true
@@ -69,9 +62,6 @@ or_level-returns-in_default t c = or_broken _ c.loop-w.invariant c.and_level-mor
 
 pub or_level-returns-then-byte_at-ne124 : goal.or_level-returns-then-byte_at-ne124
 or_level-returns-then-byte_at-ne124 t c = or_ended _ c.loop-w.invariant c.and_level-more.result _ _ c.in-Is.is c.and_level-more.ensures _ c.union-values.ensures (λ q. c.if-byte_at-ne124.true (c.byte_at.ensures ∙ q))
-
-pub or_level-overflow_add-here : goal.or_level-overflow_add-here
-or_level-overflow_add-here t c = let h = or_ahead _ c.loop-w.invariant c.and_level-more.result _ _ c.in-Is.is c.and_level-more.ensures _ c.union-values.ensures (sym c.byte_at.ensures ∙ c.if-byte_at-ne124.false) in omega (arith, h.inside)
 
 pub or_level-loop-w-smaller : goal.or_level-loop-w-smaller
 or_level-loop-w-smaller t c = let h = or_ahead _ c.loop-w.invariant c.and_level-more.result _ _ c.in-Is.is c.and_level-more.ensures _ c.union-values.ensures (sym c.byte_at.ensures ∙ c.if-byte_at-ne124.false) in omega (arith, h.more, h.inside)

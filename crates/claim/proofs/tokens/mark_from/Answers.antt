@@ -1,5 +1,4 @@
 -- `tokens::mark_from` meets its contract. Assumes nothing.
-use borrow.Author.Rules.{rules}
 use native.Mathlib.Omega.{arith}
 use mathlib.Core.Path.{sym, ◌∙◌}
 use Rattle.claim.proofs.Lexing.{mark_body, mark_end, mark_none, mark_fits, end_fits}
