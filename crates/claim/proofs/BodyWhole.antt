@@ -12,7 +12,6 @@ use lib.ListN.{length, length-append}
 use types.Run.{OneOf, miss}
 use denote.Enum.Declared.{tag_of}
 use Rattle.text.proofs.Tests.{Same, same, other, same?}
-use Rattle.model.specs.ClaimTokens as T
 use Rattle.model.specs.ClaimLabels.{bit}
 use Rattle.model.specs.ClaimGrammar.{Item, State, has_line, count_in, propositions_in, most_states}
 use Rattle.model.specs.ClaimTable.{in_lines, in_line, wants_state, numbered, bare, line_at, snoc, edge_step, go, told}

@@ -248,7 +248,7 @@ module _ (s : List ℕ) (k d at : ℕ) where
   pub or_first_due : (v : Values) → v ≡ nothing → OrDue v at
   or_first_due v e = rw e (record { more = λ w q a. or_nothing k d _ w q (or_first k d _ (Got w q) a); fault = λ j a. or_first k d _ (No j) a; past = omega arith })
 
-module _ {s : List ℕ} {k d at : ℕ} {v : Values} {here : ℕ} (n : AndDue s k d at v here) where
+module _ {s : List ℕ} (k : ℕ) {d at : ℕ} {v : Values} {here : ℕ} (n : AndDue s k d at v here) where
   pub and_broken : (l : Truth) → OneOf (1 ∷ []) (tag_of truth_type l) → AtomRead s k d here l → AndRead s k d at l
   and_broken (Is w z) h b = absurd (miss (1 ∷ []) 0 tt h)
   and_broken (Fault j) h b = n.fault j b
@@ -271,7 +271,7 @@ module _ {s : List ℕ} {k d at : ℕ} {v : Values} {here : ℕ} (n : AndDue s k
     pub and_ahead : byte_of s e ≡ and_byte → Ahead s here (e + 1)
     and_ahead b = ahead atom_there.1 (sign_past s e and_byte and_sign b)
 
-module _ {s : List ℕ} {k d at : ℕ} {v : Values} {here : ℕ} (n : OrDue s k d at v here) where
+module _ {s : List ℕ} (k : ℕ) {d at : ℕ} {v : Values} {here : ℕ} (n : OrDue s k d at v here) where
   pub or_broken : (l : Truth) → OneOf (1 ∷ []) (tag_of truth_type l) → AndRead s k d here l → OrRead s k d at l
   or_broken (Is w z) h b = absurd (miss (1 ∷ []) 0 tt h)
   or_broken (Fault j) h b = n.fault j b

@@ -335,11 +335,11 @@ move_append (x ∷ es) gs f d =
 -- one
 target_one : (e : Edge) (d : ℕ) → some_target (edges_of (e ∷ [])) d ≡ eqb d e.to
 unfolding some_target edges_of
-target_one e d = or_false (eqb e.to d) ∙ eqb_turn e.to d
+target_one e d = or-false (eqb e.to d) ∙ eqb_turn e.to d
 
 move_one : (e : Edge) (f d : ℕ) → some_edge (edges_of (e ∷ [])) f d ≡ (truth e.label f && eqb d e.to)
 unfolding some_edge edges_of
-move_one e f d = or_false (eqb e.to d && truth e.label f) ∙ (ap (λ (b : Bool). b && truth e.label f) (eqb_turn e.to d) ∙ and_comm (eqb d e.to) (truth e.label f))
+move_one e f d = or-false (eqb e.to d && truth e.label f) ∙ (ap (λ (b : Bool). b && truth e.label f) (eqb_turn e.to d) ∙ and_comm (eqb d e.to) (truth e.label f))
 
 target_snoc : (es : List Edge) (e : Edge) (d : ℕ) → some_target (edges_of (snoc es e)) d ≡ (some_target (edges_of es) d || eqb d e.to)
 target_snoc es e d = target_append es (e ∷ []) d ∙ ap (λ (b : Bool). some_target (edges_of es) d || b) (target_one e d)

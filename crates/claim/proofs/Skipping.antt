@@ -44,7 +44,7 @@ module _ (is : List Item) (h : List ℕ) (ts : List T.Token) (s : List ℕ) (r :
   -- another is read as after a whole item
   plain_not : (t : T.Token) → is_plain t ≡ false → told (go (in_skipped is h ts)) (t ∷ r) ≡ told (go (in_items whole (snoc is (skipped h ts)))) (t ∷ r)
   unfolding told step
-  plain_not t q = rw q refl
+  plain_not t q = rw (told, q) refl
 
   -- the header under way, or the next one, goes on
   passed_step : (t : Token) → passed_of s t ≡ true → Skipping is h ts (spelt s t r) r

@@ -1,6 +1,7 @@
 // The reader of claims in the Hanoi format: refusals 14 to 16 or the claim, in one pass over the lent text. The claim goes
 // into cells of the caller's. Contracts cite specs/Judging.antt and specs/Cells.antt.
 #![tactic(auto)]
+
 ghost use Rattle.std.specs.Prelude.{◌≡◌, true, ◌+◌, ◌≤◌, length, replicate};
 ghost use Rattle.model.specs.ClaimTokens.{opens};
 ghost use Rattle.model.specs.ClaimEntry.{ClaimSays, MovesSay};

@@ -1,7 +1,6 @@
 -- `opening` meets its contract: a law for each return. Assumes nothing.
 use mathlib.Core.Path.{sym, ◌∙◌}
 use Rattle.claim.proofs.OpeningCode.{opening_is, opening_other, opening_none}
-use borrow.Author.Rules.{rules}
 use borrow.Enum.Refused.{opened}
 use Rattle.claim.proofs.opening.Goals as goal
 

@@ -6,7 +6,7 @@ use Rattle.claim.proofs.read_opened.Goals as goal
 pub read_body-requires : goal.read_body-requires
 read_body-requires c =
     let g = given_low _ _ c.header_at.result c.header_at.ensures _ _ c.in-Read.is in
-    (g.0, (g.1, c.requires.claim_cells_in_bounds))
+    record { states_le_most_states = g.0; count_le_most_propositions = g.1; claim_cells_in_bounds = c.requires.claim_cells_in_bounds }
 
 pub returns-in-Fault : goal.returns-in-Fault
 returns-in-Fault c = opened_torn c.args.text.now c.requires.text_value [] [] c.opening.result c.opening.ensures _ c.in-Fault.is

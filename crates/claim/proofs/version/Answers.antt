@@ -1,7 +1,6 @@
 -- `version` meets its contract: a law for each return. Assumes nothing.
 use mathlib.Core.Path.{sym, ◌∙◌}
 use Rattle.claim.proofs.OpeningCode.{version_is, version_other, version_none}
-use borrow.Author.Rules.{rules}
 use borrow.Enum.Refused.{opened}
 use Rattle.claim.proofs.version.Goals as goal
 

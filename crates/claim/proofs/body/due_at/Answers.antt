@@ -1,5 +1,4 @@
 -- `body::due_at` meets its contract. Assumes nothing.
-use borrow.Author.Rules.{rules}
 use mathlib.Core.Path.{sym, ◌∙◌}
 use Rattle.claim.proofs.LineCode.{line_due, line_other, line_many, end_early, end_due, due_not}
 use borrow.Enum.Refused.{opened}

@@ -22,7 +22,7 @@ pub loop-sets-smaller : goal.loop-sets-smaller
 loop-sets-smaller c = let h = edges_ahead c.loop-sets.invariant (sym c.byte_at.ensures ∙ c.loop-sets-test.true) _ c.edge.result c.edge.ensures _ _ c.in-Is.is in omega (arith, h.more, h.inside)
 
 pub loop-sets-preserved : goal.loop-sets-preserved
-loop-sets-preserved c = edges_more c.loop-sets.invariant (sym c.byte_at.ensures ∙ c.loop-sets-test.true) _ c.edge.result c.edge.ensures _ _ c.in-Is.is c.requires.states_le_most_states c.edge.auto.1.1.1.1.0
+loop-sets-preserved c = edges_more c.loop-sets.invariant (sym c.byte_at.ensures ∙ c.loop-sets-test.true) _ c.edge.result c.edge.ensures _ _ c.in-Is.is c.requires.states_le_most_states c.edge.auto.sets
 
 pub add_edges-requires : goal.add_edges-requires
 add_edges-requires c = let i = c.loop-sets.invariant in record { c_lt_most_states = c.requires.c_lt_most_states; claim_cells_in_bounds = c.requires.claim_cells_in_bounds; set_words_in_bounds = omega (arith, i.long); by_index = i.near_all }

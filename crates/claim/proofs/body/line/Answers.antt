@@ -1,13 +1,12 @@
 -- `body::line` meets its contract: a law for each return. Assumes nothing.
 use native.Mathlib.Omega.{arith}
 use Rattle.claim.proofs.BodyWhole.{number_low, line_unnumbered, line_broken, line_whole}
-use borrow.Enum.Refused.{opened}
 use Rattle.claim.proofs.body.line.Goals as goal
 
 pub returns-in_default : goal.returns-in_default
 returns-in_default c =
     let a = c.args in
-    line_unnumbered a.text.now a.states a.count a.listed a.at a.cells.now a.cells.now c.line_number-number.result c.line_number-number.ensures (opened c.in_default.in_default-own.keys2)
+    line_unnumbered a.text.now a.states a.count a.listed a.at a.cells.now a.cells.now c.line_number-number.result c.line_number-number.ensures c.in_default.in_default-own.keys2
 
 pub line_rest-requires : goal.line_rest-requires
 line_rest-requires c =

@@ -11,7 +11,7 @@ pub returns-in_default : goal.returns-in_default
 returns-in_default c = items_ended c.loop-a.invariant c.claim_token-seen.ensures (opened c.in_default.in_default-own.keys2) c.items_end.result c.items_end.ensures
 
 pub returns-in_default-read : goal.returns-in_default-read
-returns-in_default-read c = items_broken c.loop-a.invariant c.claim_token-seen.ensures _ _ c.in-Header.is c.kind_of-kind.result c.kind_of-kind.ensures c.item-read.result (opened c.in_default-read.in_default-read-own.keys2) c.item-read.ensures
+returns-in_default-read c = items_broken c.loop-a.invariant c.claim_token-seen.ensures _ _ c.in-Header.is c.kind_of-kind.result c.kind_of-kind.ensures c.item-read.result c.in_default-read.in_default-read-own.keys2 c.item-read.ensures
 
 pub loop-a-smaller : goal.loop-a-smaller
 loop-a-smaller c = let h = items_ahead c.loop-a.invariant c.claim_token-seen.ensures _ _ c.in-Header.is c.kind_of-kind.result c.kind_of-kind.ensures c.item-read.result _ _ c.in-Read.is c.item-read.ensures in omega (arith, h.more, h.inside)

@@ -1,5 +1,4 @@
 -- `header::inf_on` meets its contract. Assumes nothing.
-use borrow.Author.Rules.{rules}
 use mathlib.Core.Path.{sym, ◌∙◌}
 use Rattle.claim.proofs.HeaderCode.{inf_is, inf_other, inf_bracket, inf_not}
 use borrow.Enum.Refused.{opened}

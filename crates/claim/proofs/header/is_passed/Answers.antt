@@ -4,7 +4,7 @@ use borrow.Enum.Refused.{opened}
 use Rattle.claim.proofs.header.is_passed.Goals as goal
 
 pub returns-in-Name : goal.returns-in-Name
-returns-in-Name c = passed_plain _ c.args.t (opened c.in-Name.in-Name-own.keys1)
+returns-in-Name c = passed_plain _ c.args.t c.in-Name.in-Name-own.keys1
 
 pub returns-in-Header : goal.returns-in-Header
 returns-in-Header c = passed_header _ c.args.t _ _ _ c.in-Header.is c.first_byte-b.ensures

@@ -1,5 +1,4 @@
 -- `header::kind_of` meets its contract. Assumes nothing.
-use borrow.Author.Rules.{rules}
 use mathlib.Core.Path.{refl, sym, ◌∙◌}
 use Rattle.model.specs.ClaimTokens.{is_small}
 use Rattle.claim.proofs.HeaderLoop.{small_skipped}

@@ -3,7 +3,6 @@ use mathlib.Core.Path.{sym}
 use native.Mathlib.Omega.{arith}
 use Rattle.claim.proofs.LabelCode.{letter_is, leaf_number, leaf_name, name_is, leaf_refused}
 use Rattle.claim.proofs.HeaderCode.{number_is}
-use borrow.Author.Rules.{rules}
 use borrow.Enum.Refused.{opened}
 use Rattle.claim.proofs.labels.leaf.Goals as goal
 
