@@ -102,14 +102,13 @@ tree changed
 mkdir changed/target
 cp -a "$root/target/bin" "$root/target/build" changed/target
 # What rt kept of the libraries below, and of the program.
-for name in $(sed -n 's/^loopfind: //p' "$root/crates.txt"); do
+read -ra below < <(sed -n 's/^loopfind: //p' "$root/crates.txt")
+for name in "${below[@]}"; do
     mkdir "changed/crates/$name/out"
     cp -a "$root/crates/$name/out/rlib" "changed/crates/$name/out"
 done
 cp -a "$root/crates/loopfind/out" changed/crates/loopfind
 ends 0 'edit: before' "$lasso_1" '' changed/bin/loopfind k1
 sed -i 's/desk::print(/desk::complain(/' changed/crates/loopfind/src/main.rt
-sed -i 's/aggregate_print/aggregate_complain/g; s/print_requires/complain_requires/g' changed/crates/loopfind/proofs/print_found/*.antt
-: >changed/crates/loopfind/stdout
-errors_alone() { "$@" 2>&1 >/dev/null; }
+errors_alone() { { "$@" >/dev/null; } 2>&1; }
 trial 'edit: K1 after it' "${built/text proved$'\n'/}$lasso_1" '' errors_alone changed/bin/loopfind k1
