@@ -1,4 +1,4 @@
-/* Rezkundo's C interface: librezkundo.a, built by `rt staticlib rezkundo`. C99 and C++.
+/* Rezkundo's C interface: librezkundo.a, built by `tools/build rezkundo`. C99 and C++.
  *
  * Buffers. Every pointer must be valid for its length, and no two buffers may overlap. A buffer of length 0 is neither
  * read nor written, so its pointer may be null: null text is a file of no bytes (2, as a claim 14), null acts a list of no

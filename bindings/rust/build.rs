@@ -1,5 +1,5 @@
 //! Tells the compiler where librezkundo.a is: in the folder that REZKUNDO_LIB names, else where this repository's
-//! `rt staticlib rezkundo` puts it.
+//! `tools/build rezkundo` puts it.
 
 fn main() {
     println!("cargo:rerun-if-env-changed=REZKUNDO_LIB");

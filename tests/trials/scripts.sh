@@ -298,7 +298,8 @@ ends 2 'bin/rezkundo, another word' '' "usage: rezkundo [$words] [ARGUMENT]..."$
 
 tree() { # FOLDER: the sources, and nothing built
     mkdir -p "$1"
-    cp -a "$root/crates" "$root/crates.txt" "$root/bin" "$root/share" "$root/tools" "$1"
+    tar -C "$root" --anchored --no-wildcards-match-slash --exclude='crates/*/out' -c crates crates.txt bin share tools |
+        tar -x -C "$1"
 }
 tree 'bare tree'
 mkdir without_rt

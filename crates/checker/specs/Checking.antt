@@ -171,7 +171,7 @@ abbrev pub ListingSays : (text : List ℕ) → (at k n : ℕ) → (numbers : Lis
 ListingSays s at k n t (BadBlock j) = (listed_vertices_refusal k n none (lines (drop at s)) ≡ j) × (0 < j)
 ListingSays s at k n t (Past z) = ListingRead s at k n t z
 
--- the length of an edge that leaves a vertex of this mark: model's edge-length, since a mark is 0 or 1
+-- the length of an edge that leaves a vertex of this mark: model's edge_length, since a mark is 0 or 1
 unfoldable pub length_by : (mark : ℕ) → ℤ
 length_by zero = pos 0
 length_by (suc k) = negsuc 0

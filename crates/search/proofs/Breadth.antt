@@ -15,7 +15,6 @@ use Rattle.model.proofs.Tools.{getD_replicate_same}
 use Rattle.model.proofs.Pigeon.{pigeon_twice}
 use Rattle.search.specs.Show.{Le, Less, tip, Made, Tree, Scanned, at_source, by_edge}
 use Rattle.search.proofs.Regions.{same_or, below_or}
-use Rattle.search.proofs.Ranges as Ranges
 
 -- ORDER
 lex_same : (p : List ℕ) → Lex p p

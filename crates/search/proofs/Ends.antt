@@ -16,7 +16,6 @@ use Rattle.model.proofs.Fits.{cycle_few, answer_fits}
 use Rattle.search.specs.Cells.{more, cycle_at, cells_end}
 use Rattle.search.specs.Rep.{Rep}
 use Rattle.search.specs.Asks.{OverSays}
-use Rattle.search.specs.Show as show
 use Rattle.search.specs.Show.{Lies, Broke, Showable, Shows, LassoThere, Written}
 use Rattle.search.specs.Writing.{EdgesAt, DistancesAt, LassoAsks, LassoSays, EmptySays, Answers}
 use Rattle.search.specs.Finish.{Gone, LassoDone, AnswerDone, FinishSays, verdict_of}

@@ -1,6 +1,6 @@
 // The lent work cells: where each table stands, and loads and stores of single cells. All casts between cells and
 // indices are here. Contracts cite specs/Cells.antt.
-ghost use Rattle.std.specs.Prelude.{◌≡◌, ℕ, ◌+◌, ◌<◌, ◌≤◌, ◌^◌, ℤ, pos, length, get_or, set};
+ghost use Rattle.std.specs.Prelude.{◌≡◌, ◌+◌, ◌<◌, ◌≤◌, ◌^◌, pos, length, get_or, set};
 ghost use Rattle.search.specs.Cells.{Below, Filled};
 ghost use Rattle.model.specs.Entry.{zeros};
 

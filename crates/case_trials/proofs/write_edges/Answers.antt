@@ -1,6 +1,5 @@
 -- `case_trials::write_edges`: the output keeps its length.
 use native.Mathlib.Omega.{arith}
-use borrow.Author.Rules.{rules}
 use Rattle.case_trials.proofs.write_edges.Goals as goal
 
 pub loop-e-preserved : goal.loop-e-preserved

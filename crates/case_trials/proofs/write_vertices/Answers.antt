@@ -1,6 +1,5 @@
 -- `case_trials::write_vertices`: the output keeps its length.
 use native.Mathlib.Omega.{arith}
-use borrow.Author.Rules.{rules}
 use Rattle.case_trials.proofs.write_vertices.Goals as goal
 
 pub loop-v-preserved : goal.loop-v-preserved

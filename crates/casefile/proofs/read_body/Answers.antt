@@ -5,7 +5,6 @@ use Rattle.model.specs.CaseFile.{edge_names}
 use Rattle.casefile.proofs.Whole.{headed, vertices_stop, names_stop, rest_place, before_right, edges_refused, end_refused, all_accepted}
 use Rattle.casefile.proofs.Tables.{rows_read, case_read}
 use native.Mathlib.Omega.{arith}
-use borrow.Author.Rules.{rules}
 use Rattle.casefile.proofs.read_body.Goals as goal
 
 pub returns-then-end-text : goal.returns-then-end-text

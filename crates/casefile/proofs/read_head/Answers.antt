@@ -5,7 +5,6 @@ use Rattle.text.proofs.Reading.{LineNamed, named_read, named_other, row5_read, r
 use Rattle.model.specs.Case.{known_version}
 use Rattle.model.specs.CaseFile.{head_names, vertex_names}
 use Rattle.casefile.proofs.Whole.{Opened, head_1, head_2, head_3, head_unnamed, head_torn, head_miscounted, head_untitled, head_whole}
-use borrow.Author.Rules.{rules}
 use Rattle.std.proofs.lemmas.Bool.{not_from_false, not_from_true}
 use Rattle.casefile.proofs.read_head.Goals as goal
 

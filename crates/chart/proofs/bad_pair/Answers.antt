@@ -3,7 +3,6 @@ use native.Mathlib.Omega.{arith}
 use native.Mathlib.Nat.{div-le_self, mod-le}
 use mathlib.Core.Path.{◌∙◌}
 use Rattle.chart.proofs.BadPairs.{good_start, good_more, good_not, good_end}
-use borrow.Author.Rules.{rules}
 use Rattle.chart.proofs.bad_pair.Goals as goal
 
 pub good_modes-i-requires : goal.good_modes-i-requires

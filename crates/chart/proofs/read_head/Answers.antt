@@ -1,7 +1,6 @@
 -- `chart::read_head`: lines 1 to 3, fault by fault.
 use mathlib.Core.Path.{refl, sym, ◌∙◌}
 use mathlib.Core.List.{[], ◌∷◌}
-use borrow.Author.Rules.{rules}
 use Rattle.text.proofs.Tests.{refuted, upheld}
 use Rattle.text.proofs.ReadingRows.{leading_number, not_parted}
 use Rattle.text.proofs.Reading.{LineNamed, named_read, named_other, Row, row_more, no_row_here, no_row_later, leading_read, row3_read, row3_fault}

@@ -1,6 +1,5 @@
 -- `chart::read_rest`: the names, the rules' names and the rules, fault by fault.
 use mathlib.Core.Path.{refl, sym, ◌∙◌}
-use borrow.Author.Rules.{rules}
 use Rattle.text.proofs.Reading.{named_read, named_other}
 use Rattle.model.specs.Chart.{rule_names}
 use Rattle.chart.proofs.Whole.{rest_unnamed, rest_untitled, rest_read}

@@ -4,7 +4,6 @@ use mathlib.Core.List.{[]}
 use native.Mathlib.Omega.{arith}
 use lib.ListN.{length}
 use Rattle.search.proofs.Entries.{buffers_enough, rounds_short, rounds_turned, loads_refused, loads_laid, fresh_asks, rounds_asks, rounds_finish, rounds_say}
-use borrow.Author.Rules.{rules}
 use Rattle.search.proofs.run_rounds.Goals as goal
 
 pub returns-then-too_short : goal.returns-then-too_short

@@ -8,7 +8,6 @@ use Rattle.text.proofs.Tests.{refuted, upheld}
 use Rattle.text.proofs.ReadingSteps.{field_low, named_end}
 use Rattle.text.proofs.Reading.{leading_read}
 use Rattle.checker.proofs.Heads.{head_unspaced, head_lasso, head_empty, head_neither, head_torn}
-use borrow.Author.Rules.{rules}
 use Rattle.std.proofs.lemmas.Bool.{not_from_false, not_from_true}
 use Rattle.checker.proofs.opening.read_head.Goals as goal
 

@@ -6,7 +6,6 @@ use Rattle.casefile.proofs.Whole.{Opened}
 use Rattle.model.specs.Case.{answer_version}
 use Rattle.model.specs.Answer.{answer_names}
 use Rattle.checker.proofs.Openings.{headed, no_head, too_long, no_version, another_version, unnamed, unheaded, miscounted, says_a_lasso, says_none}
-use borrow.Author.Rules.{rules}
 use Rattle.std.proofs.lemmas.Bool.{not_from_false, not_from_true}
 use Rattle.checker.proofs.opening.read_opening.Goals as goal
 

@@ -3,7 +3,6 @@ use mathlib.Core.Path.{refl, ◌∙◌}
 use Rattle.text.proofs.Reading.{named_read, named_other}
 use Rattle.model.specs.Answer.{lasso_names}
 use Rattle.checker.proofs.Openings.{said_lasso, lasso_untitled, lasso_rest}
-use borrow.Author.Rules.{rules}
 use Rattle.checker.proofs.walk.check_lasso.Goals as goal
 
 pub returns-in_default : goal.returns-in_default

@@ -1,5 +1,4 @@
 -- `write_empty` meets its contract: a count, and three writers one after the other.
-use borrow.Author.Rules.{rules}
 use Rattle.search.proofs.Answers.{empty_says}
 use Rattle.search.proofs.answer.write_empty.Goals as goal
 

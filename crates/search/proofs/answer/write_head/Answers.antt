@@ -1,5 +1,4 @@
 -- `write_head` meets its contract: seven writers, one after the other.
-use borrow.Author.Rules.{rules}
 use Rattle.text.proofs.Chains.{puts, puts_as, puts_then}
 use Rattle.search.proofs.Rows.{head_parts}
 use Rattle.search.proofs.answer.write_head.Goals as goal

@@ -1,5 +1,4 @@
 -- `write_lasso` meets its contract: four writers, one after the other.
-use borrow.Author.Rules.{rules}
 use Rattle.search.proofs.Answers.{lasso_says}
 use Rattle.search.proofs.answer.write_lasso.Goals as goal
 

@@ -1,6 +1,5 @@
 -- `rounds::turns` meets its contract: the workers before w have had their turns, and every message is on an edge of a vertex in the list. Assumes nothing.
 use mathlib.Core.Path.{refl}
-use mathlib.Core.Bool.{true}
 use native.Mathlib.Omega.{arith}
 use Rattle.search.specs.Asks.{ActSays, TurnsSay}
 use Rattle.search.proofs.Steps.{head_there, head_is}
