@@ -1,14 +1,16 @@
 // Builds the case file of a chart and a claim, both files named on the command line, for so many workers: prints it, or
 // `refused` and the number, and the chart's first bad pair where there is one.
 #![tactic(auto)]
+
 ghost use Rattle.std.specs.Prelude.{◌≤◌, length};
 ghost use Rattle.desk.specs.Lines.{Shows};
 ghost use Rattle.casebuild.specs.Printing.{page_room, printed};
 
 use casefile::Case;
-use desk::Filled;
+use desk::{ErrorOutput, Filled};
 use model::Built;
 use product::{build_case, workers_right};
+use std::rt::{Env, Files};
 use text::read::Number;
 
 // One byte more than a file may have, so that a longer one is seen to be too long.
@@ -36,43 +38,43 @@ fn show(chart: &[u8], claim: &[u8], workers: u32, page: &mut [u8]) -> usize
     built.written as usize
 }
 
-fn print_built(chart: &[u8], claim: &[u8], workers: u32) {
+fn print_built<R: Print + ErrorOutput>(rt: &R, chart: &[u8], claim: &[u8], workers: u32) {
     let mut page = [0u8; PAGE];
     let n = show(chart, claim, workers, &mut page);
-    desk::print(&page[..n]);
+    desk::print(rt, &page[..n]);
 }
 
 // The claim is read once the chart has been.
-fn build_from(chart: &[u8], workers: u32) {
+fn build_from<R: Env + Files + Print + ErrorOutput>(rt: &R, chart: &[u8], workers: u32) {
     let mut claim = [0u8; ENOUGH];
-    if let Filled::Bytes(n) = desk::read_argument(CLAIM, &mut claim) {
-        print_built(chart, &claim[..n], workers);
+    if let Filled::Bytes(n) = desk::read_argument(rt, CLAIM, &mut claim) {
+        print_built(rt, chart, &claim[..n], workers);
     }
 }
 
 // "A worker count outside 01's range gets 5, before either file is read": with any files it is the same.
-fn build(workers: u32) {
+fn build<R: Env + Files + Print + ErrorOutput>(rt: &R, workers: u32) {
     if !workers_right(workers) {
-        print_built(&[], &[], workers);
+        print_built(rt, &[], &[], workers);
         return;
     }
     let mut chart = [0u8; ENOUGH];
-    if let Filled::Bytes(n) = desk::read_argument(CHART, &mut chart) {
-        build_from(&chart[..n], workers);
+    if let Filled::Bytes(n) = desk::read_argument(rt, CHART, &mut chart) {
+        build_from(rt, &chart[..n], workers);
     }
 }
 
 // How many workers, if the arguments are as they should be.
-fn workers_asked() -> Number {
-    if os::arg_count() != 4 {
+fn workers_asked<R: Env>(rt: &R) -> Number {
+    if !desk::argument_count_is(rt, 3) {
         return Number::Not;
     }
-    desk::number_argument(WORKERS)
+    desk::number_argument(rt, WORKERS)
 }
 
-fn main() {
-    match workers_asked() {
-        Number::Is(workers) => build(workers),
-        Number::Not => desk::complain(b"usage: casebuild CHART CLAIM WORKERS\n"),
+fn main(rt: HostRuntime) {
+    match workers_asked(&rt) {
+        Number::Is(workers) => build(&rt, workers),
+        Number::Not => desk::complain(&rt, b"usage: casebuild CHART CLAIM WORKERS\n"),
     }
 }

@@ -1,6 +1,7 @@
 // Checks a chart, named on the command line: prints `pass`, or `refused` and the number, and the first bad pair where there
 // is one; standard error then shows its mode by name and its flags bit by bit.
 #![tactic(auto)]
+
 mod page;
 
 ghost use Rattle.std.specs.Prelude.{◌≤◌, length};
@@ -9,7 +10,7 @@ ghost use Rattle.chartcheck.specs.Printing.{page_room, printed, told};
 
 use casefile::Case;
 use chart::{Read, check_chart, mode_name, read_chart};
-use desk::Filled;
+use desk::{ErrorOutput, Filled};
 use page::{write_charted, write_pair};
 
 // One byte more than a file may have, so that a longer one is seen to be too long.
@@ -44,21 +45,21 @@ fn tell(text: &[u8], page: &mut [u8]) -> usize
     }
 }
 
-fn print_checked(text: &[u8]) {
+fn print_checked<R: Print + ErrorOutput>(rt: &R, text: &[u8]) {
     let mut page = [0u8; PAGE];
     let n = show(text, &mut page);
-    desk::print(&page[..n]);
+    desk::print(rt, &page[..n]);
     let m = tell(text, &mut page);
-    desk::complain(&page[..m]);
+    desk::complain(rt, &page[..m]);
 }
 
-fn main() {
-    if os::arg_count() != 2 {
-        desk::complain(b"usage: chartcheck CHART\n");
+fn main(rt: HostRuntime) {
+    if !desk::argument_count_is(&rt, 1) {
+        desk::complain(&rt, b"usage: chartcheck CHART\n");
         return;
     }
     let mut text = [0u8; ENOUGH];
-    if let Filled::Bytes(n) = desk::read_argument(CHART, &mut text) {
-        print_checked(&text[..n]);
+    if let Filled::Bytes(n) = desk::read_argument(&rt, CHART, &mut text) {
+        print_checked(&rt, &text[..n]);
     }
 }

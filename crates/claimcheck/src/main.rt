@@ -1,5 +1,6 @@
 // Reads a claim from standard input and prints its counts and states; on a refusal, `refused` and the number.
 #![tactic(auto)]
+
 mod page;
 
 ghost use Rattle.std.specs.Prelude.{◌≤◌, length};
@@ -8,8 +9,7 @@ ghost use Rattle.desk.specs.Lines.{Shows};
 ghost use Rattle.claimcheck.specs.Printing.{page_room, printed};
 
 use claim::{Counts, Judged, read_claim};
-use desk::Filled;
-use libc::STDIN_FILENO;
+use desk::{ErrorOutput, Filled};
 use page::write_claim;
 
 // One byte more than a file of this house may have; a claim has at most 16,384.
@@ -29,21 +29,22 @@ fn show(text: &[u8], page: &mut [u8], cells: &mut [u32]) -> usize
     }
 }
 
-fn print_claim(text: &[u8]) {
+fn print_claim<R: Print + ErrorOutput>(rt: &R, text: &[u8]) {
     let mut page = [0u8; PAGE];
     let mut cells = [0u32; Counts::CELLS];
     let n = show(text, &mut page, &mut cells);
-    desk::print(&page[..n]);
+    desk::print(rt, &page[..n]);
 }
 
-fn main() {
-    if os::arg_count() > 1 {
-        desk::complain(b"usage: claimcheck < CLAIM\n");
+fn main(rt: HostRuntime) {
+    if desk::is_given(&rt, 1) {
+        desk::complain(&rt, b"usage: claimcheck < CLAIM\n");
         return;
     }
     let mut text = [0u8; ENOUGH];
-    match desk::fill(STDIN_FILENO, &mut text) {
-        Filled::Bytes(n) => print_claim(&text[..n]),
-        Filled::Failed => os::fail(b"standard input"),
+    let mut input = rt.stdin();
+    match desk::fill(&mut input, &mut text) {
+        Filled::Bytes(n) => print_claim(&rt, &text[..n]),
+        Filled::Failed(error) => desk::fail(&rt, b"standard input", error),
     }
 }

@@ -8,7 +8,7 @@ use Rattle.desk.specs.declared.input.Filled.TheVariants.{Bytes, Failed}
 -- the bytes said to be there are within the room. That they are the file's, no contract of the kit can say
 abbrev pub Fills : Filled → (room : ℕ) → Type 0
 Fills (Bytes n) room = n ≤ room
-Fills Failed room = Unit {0}
+Fills (Failed e) room = Unit {0}
 
 -- what is said of a number is what some word says. That this word is the argument, no contract of the kit can say
 pub record SaidByWord (r : Number) : Type 0 where

@@ -3,82 +3,128 @@
 ghost use Rattle.std.specs.Prelude.{◌-◌, ◌≤◌, length};
 ghost use Rattle.desk.specs.Filling.{Fills, SaidByWord};
 
+use crate::{ErrorOutput, fail};
+use std::env::FillError;
+use std::io::{Error, Read};
+use std::rt::{Env, Files};
+use std::{fs, str};
 use text::read::{Number, number_in};
 
-// How many bytes of the file stand at the buffer's front; or a read failed, and errno says why.
+// Room for an argument: a longer one names no file, and is no number.
+const LONGEST_ARGUMENT: usize = 4096;
+
+// Linux's numbers for what is wrong with an argument that names no file.
+const INVALID: i32 = 22;
+
+const NAME_TOO_LONG: i32 = 36;
+
+const NO_TEXT: i32 = 84;
+
+// How many bytes of the file stand at the buffer's front; or a read failed, and why.
 #[derive(Clone, Copy)]
 pub enum Filled {
     Bytes(usize),
-    Failed,
+    Failed(Error),
 }
 
 // One read behind the bytes that are there; no byte at the file's end.
-fn read_more(fd: i32, buffer: &mut [u8], done: usize) -> Filled
+fn read_more<R: Read>(reader: &mut R, buffer: &mut [u8], done: usize) -> Filled
     requires { done ≤ length buffer.old }
     ensures { Fills result (length buffer.old - done) }
 {
-    let got = libc::read(fd, &mut buffer[done..]);
-    if got < 0 {
-        return Filled::Failed;
+    match reader.read(&mut buffer[done..]) {
+        Ok(n) => Filled::Bytes(n),
+        Err(error) => Filled::Failed(error),
     }
-    Filled::Bytes(io::count(got, &buffer[done..]))
 }
 
 // Reads until the file ends or the buffer is full.
-pub fn fill(fd: i32, buffer: &mut [u8]) -> Filled
+pub fn fill<R: Read>(reader: &mut R, buffer: &mut [u8]) -> Filled
     ensures { Fills result (length buffer.new) }
 {
     let mut done: usize = 0;
     while done < buffer.len() {
-        let Filled::Bytes(n) = read_more(fd, buffer, done) else {
-            return Filled::Failed;
-        };
-        if n == 0 {
-            return Filled::Bytes(done);
+        match read_more(reader, buffer, done) {
+            Filled::Failed(error) => return Filled::Failed(error),
+            Filled::Bytes(n) => {
+                if n == 0 {
+                    return Filled::Bytes(done);
+                }
+                done += n;
+            }
         }
-        done += n;
     }
     Filled::Bytes(done)
 }
 
-// Fills the buffer from the file of this name; where that fails, standard error says which file and why.
-fn read_file(path: &[u8], buffer: &mut [u8]) -> Filled
+// Fills the buffer from the file of this name. A name that is not text names no file that std opens.
+fn fill_from<R: Files>(rt: &R, path: &[u8], buffer: &mut [u8]) -> Filled
     ensures { Fills result (length buffer.new) }
 {
-    let fd = os::open_read(path);
-    if fd < 0 {
-        os::fail(path);
-        return Filled::Failed;
+    let Ok(name) = str::from_utf8(path) else {
+        return Filled::Failed(Error::from_raw_os_error(NO_TEXT));
+    };
+    match fs::open(rt, name) {
+        Ok(mut file) => fill(&mut file, buffer),
+        Err(error) => Filled::Failed(error),
     }
-    let filled = fill(fd, buffer);
-    if let Filled::Failed = filled {
-        os::fail(path);
+}
+
+// The same; where that fails, standard error says which file and why.
+fn read_file<R: Files + ErrorOutput>(rt: &R, path: &[u8], buffer: &mut [u8]) -> Filled
+    ensures { Fills result (length buffer.new) }
+{
+    let filled = fill_from(rt, path, buffer);
+    if let Filled::Failed(error) = filled {
+        fail(rt, path, error);
     }
-    libc::close(fd);
     filled
 }
 
+// Why an argument names no file.
+fn nameless(error: FillError) -> Error {
+    match error {
+        FillError::NotPresent => Error::from_raw_os_error(INVALID),
+        FillError::TooLong => Error::from_raw_os_error(NAME_TOO_LONG),
+    }
+}
+
 // The same of the file that an argument names.
-pub fn read_argument(i: usize, buffer: &mut [u8]) -> Filled
+pub fn read_argument<R: Env + Files + ErrorOutput>(rt: &R, i: usize, buffer: &mut [u8]) -> Filled
     ensures { Fills result (length buffer.new) }
 {
-    let mut path = io::buffer();
-    let n = os::arg(i, &mut path);
-    if os::errno() != 0 {
-        os::fail(b"file name");
-        return Filled::Failed;
+    let mut path = [0u8; LONGEST_ARGUMENT];
+    match rt.arg(i, &mut path) {
+        Ok(n) => read_file(rt, &path[..n], buffer),
+        Err(e) => {
+            let error = nameless(e);
+            fail(rt, b"file name", error);
+            Filled::Failed(error)
+        }
     }
-    read_file(&path[..n], buffer)
 }
 
 // An argument as a number; one that is missing, or too long to be read, is none.
-pub fn number_argument(i: usize) -> Number
+pub fn number_argument<R: Env>(rt: &R, i: usize) -> Number
     ensures { SaidByWord result }
 {
-    let mut word = io::buffer();
-    let n = os::arg(i, &mut word);
-    if os::errno() != 0 {
-        return Number::Not;
+    let mut word = [0u8; LONGEST_ARGUMENT];
+    match rt.arg(i, &mut word) {
+        Ok(n) => number_in(&word[..n]),
+        Err(_) => Number::Not,
     }
-    number_in(&word[..n])
+}
+
+// Whether there is an argument of this number; the program's name is argument 0.
+pub fn is_given<R: Env>(rt: &R, i: usize) -> bool {
+    match rt.arg(i, &mut []) {
+        Ok(_) => true,
+        Err(FillError::TooLong) => true,
+        Err(FillError::NotPresent) => false,
+    }
+}
+
+// Whether there are so many arguments behind the program's name, one or more.
+pub fn argument_count_is<R: Env>(rt: &R, count: usize) -> bool {
+    is_given(rt, count) && !is_given(rt, count.saturating_add(1))
 }

@@ -1,29 +1,22 @@
-// Lines on standard output and standard error.
+// Lines on standard output.
 ghost use Rattle.std.specs.Prelude.{◌≡◌, [], ◌∷◌};
 ghost use Rattle.text.specs.Numbers.{decimal};
 ghost use Rattle.text.specs.Writing.{Chain};
 ghost use Rattle.model.specs.BuiltEntry.{names_pair};
 ghost use Rattle.desk.specs.Lines.{refused_parts, all_parts};
-ghost use Rattle.desk.specs.Offering.{Offered, standard_output, standard_error};
+ghost use Rattle.desk.specs.Offering.{Offered, standard_output};
 
-use libc::{STDERR_FILENO, STDOUT_FILENO};
+use crate::{ErrorOutput, fail};
 use model::Charted;
 use text::write::{write_bytes, write_number};
 
 // Prints the bytes; if standard output does not take them, standard error says why.
-pub fn print(bytes: &[u8])
+pub fn print<R: Print + ErrorOutput>(rt: &R, bytes: &[u8])
     ensures { Offered standard_output bytes.now }
 {
-    if !io::write_all(STDOUT_FILENO, bytes) {
-        os::fail(b"standard output");
+    if let Err(error) = rt.write_all(bytes) {
+        fail(rt, b"standard output", error);
     }
-}
-
-// Writes the bytes to standard error.
-pub fn complain(bytes: &[u8])
-    ensures { Offered standard_error bytes.now }
-{
-    io::write_all(STDERR_FILENO, bytes);
 }
 
 // A number between words, from a place on; the place past them, or no room.

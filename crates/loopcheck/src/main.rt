@@ -1,6 +1,7 @@
 // Checks an answer to a case, both files named on the command line: prints `pass` and the verdict, or `refused` and the
 // number.
 #![tactic(auto)]
+
 ghost use Rattle.std.specs.Prelude.{◌≤◌, length};
 ghost use Rattle.text.specs.Writing.{Puts};
 ghost use Rattle.desk.specs.Lines.{Shows};
@@ -8,8 +9,9 @@ ghost use Rattle.loopcheck.specs.Printing.{checked_line, printed};
 
 use casefile::Case;
 use checker::check_answer;
-use desk::Filled;
+use desk::{ErrorOutput, Filled};
 use model::{Checked, Outcome};
+use std::rt::{Env, Files};
 use text::write::write_bytes;
 
 // One byte more than a file may have, so that a longer one is seen to be too long.
@@ -44,27 +46,27 @@ fn check(case: &[u8], answer: &[u8], line: &mut [u8]) -> usize
     write_checked(line, check_answer(case, answer))
 }
 
-fn print_checked(case: &[u8], answer: &[u8]) {
+fn print_checked<R: Print + ErrorOutput>(rt: &R, case: &[u8], answer: &[u8]) {
     let mut line = [0u8; LINE];
     let n = check(case, answer, &mut line);
-    desk::print(&line[..n]);
+    desk::print(rt, &line[..n]);
 }
 
 // The answer is read once the case has been.
-fn check_answer_to(case: &[u8]) {
+fn check_answer_to<R: Env + Files + Print + ErrorOutput>(rt: &R, case: &[u8]) {
     let mut answer = [0u8; ENOUGH];
-    if let Filled::Bytes(n) = desk::read_argument(ANSWER, &mut answer) {
-        print_checked(case, &answer[..n]);
+    if let Filled::Bytes(n) = desk::read_argument(rt, ANSWER, &mut answer) {
+        print_checked(rt, case, &answer[..n]);
     }
 }
 
-fn main() {
-    if os::arg_count() != 3 {
-        desk::complain(b"usage: loopcheck CASE ANSWER\n");
+fn main(rt: HostRuntime) {
+    if !desk::argument_count_is(&rt, 2) {
+        desk::complain(&rt, b"usage: loopcheck CASE ANSWER\n");
         return;
     }
     let mut case = [0u8; ENOUGH];
-    if let Filled::Bytes(n) = desk::read_argument(CASE, &mut case) {
-        check_answer_to(&case[..n]);
+    if let Filled::Bytes(n) = desk::read_argument(&rt, CASE, &mut case) {
+        check_answer_to(&rt, &case[..n]);
     }
 }

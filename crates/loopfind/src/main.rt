@@ -1,13 +1,13 @@
 // Reads a case from standard input, runs it by rounds and prints its answer; on a refusal, `refused` and the number.
 #![tactic(auto)]
+
 ghost use Rattle.std.specs.Prelude.{◌≤◌, length};
 ghost use Rattle.model.specs.Case.{least_output, least_work};
 ghost use Rattle.desk.specs.Lines.{Shows};
 ghost use Rattle.loopfind.specs.Printing.{printed};
 
 use casefile::Case;
-use desk::Filled;
-use libc::STDIN_FILENO;
+use desk::{ErrorOutput, Filled};
 use search::run_rounds;
 
 // One byte more than a case may have, so that a longer one is seen to be too long.
@@ -25,21 +25,22 @@ fn find(case: &[u8], output: &mut [u8], work: &mut [i32]) -> usize
     desk::write_refusal(output, outcome.refusal)
 }
 
-fn print_found(case: &[u8]) {
+fn print_found<R: Print + ErrorOutput>(rt: &R, case: &[u8]) {
     let mut output = [0u8; Case::LEAST_OUTPUT];
     let mut work = [0i32; Case::LEAST_WORK];
     let n = find(case, &mut output, &mut work);
-    desk::print(&output[..n]);
+    desk::print(rt, &output[..n]);
 }
 
-fn main() {
-    if os::arg_count() > 1 {
-        desk::complain(b"usage: loopfind < CASE\n");
+fn main(rt: HostRuntime) {
+    if desk::is_given(&rt, 1) {
+        desk::complain(&rt, b"usage: loopfind < CASE\n");
         return;
     }
     let mut text = [0u8; ENOUGH];
-    match desk::fill(STDIN_FILENO, &mut text) {
-        Filled::Bytes(n) => print_found(&text[..n]),
-        Filled::Failed => os::fail(b"standard input"),
+    let mut input = rt.stdin();
+    match desk::fill(&mut input, &mut text) {
+        Filled::Bytes(n) => print_found(&rt, &text[..n]),
+        Filled::Failed(error) => desk::fail(&rt, b"standard input", error),
     }
 }

@@ -3,36 +3,42 @@ ghost use Rattle.std.specs.Prelude.{◌+◌, ◌≤◌, length};
 ghost use Rattle.looplist.specs.Printing.{complaint_room};
 
 use crate::ACTS;
-use desk::{complain, write_between};
+use desk::{ErrorOutput, complain, write_between};
+use std::rt::Env;
 
 // Room for the words and the number.
 const LINE: usize = 128;
 
+// Room for the name: a longer one was not opened.
+const NAME: usize = 4096;
+
 // The name of the list's file.
-fn complain_file() {
-    let mut name = io::buffer();
-    let n = os::arg(ACTS, &mut name);
-    complain(&name[..n]);
+fn complain_file<R: Env + ErrorOutput>(rt: &R) {
+    let mut name = [0u8; NAME];
+    if let Ok(n) = rt.arg(ACTS, &mut name) {
+        complain(rt, &name[..n]);
+    }
 }
 
 // Prints the name of the list's file, and then the number between the words.
-fn complain_between(before: &[u8], number: u32, after: &[u8])
+fn complain_between<R: Env + ErrorOutput>(rt: &R, before: &[u8], number: u32, after: &[u8])
     requires { length before.now + 10 + length after.now ≤ complaint_room }
 {
     let mut line = [0u8; LINE];
     let n = write_between(&mut line, 0, before, number, after);
-    complain_file();
-    complain(&line[..n]);
+    complain_file(rt);
+    complain(rt, &line[..n]);
 }
 
-pub(crate) fn complain_of_line(line: u32) {
+pub(crate) fn complain_of_line<R: Env + ErrorOutput>(rt: &R, line: u32) {
     complain_between(
+        rt,
         b": line ",
         line,
         b": expected an act, a number of 1 to 9 digits without leading zeros, and a line feed\n",
     );
 }
 
-pub(crate) fn complain_of_length(most: u32) {
-    complain_between(b": more than ", most, b" acts\n");
+pub(crate) fn complain_of_length<R: Env + ErrorOutput>(rt: &R, most: u32) {
+    complain_between(rt, b": more than ", most, b" acts\n");
 }

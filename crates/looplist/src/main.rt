@@ -1,6 +1,7 @@
 // Replays a recorded order of acts on a case, both files named on the command line, and prints what came of it: refusal,
 // verdict, acts and tallies, a line each, then the answer where there is one. No act is guessed: a bad list is not run.
 #![tactic(auto)]
+
 mod acts;
 mod complaint;
 mod page;
@@ -13,9 +14,10 @@ ghost use Rattle.looplist.specs.Printing.{head_room, printed};
 use acts::{Listed, list_acts};
 use casefile::Case;
 use complaint::{complain_of_length, complain_of_line};
-use desk::Filled;
+use desk::{ErrorOutput, Filled};
 use page::write_head;
 use search::run_list;
+use std::rt::{Env, Files};
 use text::write::write_bytes;
 
 // One byte more than a case may have, so that a longer one is seen to be too long.
@@ -47,40 +49,40 @@ fn replay(case: &[u8], acts: &[u32], output: &mut [u8], work: &mut [i32], page: 
     write_bytes(page, at, &output[..size])
 }
 
-fn print_replay(case: &[u8], acts: &[u32])
+fn print_replay<R: Print + ErrorOutput>(rt: &R, case: &[u8], acts: &[u32])
     requires { length acts.now < 2 ^ 32 }
 {
     let mut output = [0u8; Case::LEAST_OUTPUT];
     let mut work = [0i32; Case::LEAST_WORK];
     let mut page = [0u8; PAGE];
     let n = replay(case, acts, &mut output, &mut work, &mut page);
-    desk::print(&page[..n]);
+    desk::print(rt, &page[..n]);
 }
 
-fn replay_text(case: &[u8], text: &[u8]) {
+fn replay_text<R: Env + Print + ErrorOutput>(rt: &R, case: &[u8], text: &[u8]) {
     let mut acts = [0u32; MOST_ACTS];
     match list_acts(text, &mut acts) {
-        Listed::Acts(n) => print_replay(case, &acts[..n]),
-        Listed::NoAct(line) => complain_of_line(line as u32),
-        Listed::TooMany => complain_of_length(MOST_ACTS as u32),
+        Listed::Acts(n) => print_replay(rt, case, &acts[..n]),
+        Listed::NoAct(line) => complain_of_line(rt, line as u32),
+        Listed::TooMany => complain_of_length(rt, MOST_ACTS as u32),
     }
 }
 
 // The list is read once the case has been.
-fn replay_file(case: &[u8]) {
+fn replay_file<R: Env + Files + Print + ErrorOutput>(rt: &R, case: &[u8]) {
     let mut text = [0u8; TEXT];
-    if let Filled::Bytes(n) = desk::read_argument(ACTS, &mut text) {
-        replay_text(case, &text[..n]);
+    if let Filled::Bytes(n) = desk::read_argument(rt, ACTS, &mut text) {
+        replay_text(rt, case, &text[..n]);
     }
 }
 
-fn main() {
-    if os::arg_count() != 3 {
-        desk::complain(b"usage: looplist CASE ACTS\n");
+fn main(rt: HostRuntime) {
+    if !desk::argument_count_is(&rt, 2) {
+        desk::complain(&rt, b"usage: looplist CASE ACTS\n");
         return;
     }
     let mut case = [0u8; ENOUGH];
-    if let Filled::Bytes(n) = desk::read_argument(CASE, &mut case) {
-        replay_file(&case[..n]);
+    if let Filled::Bytes(n) = desk::read_argument(&rt, CASE, &mut case) {
+        replay_file(&rt, &case[..n]);
     }
 }

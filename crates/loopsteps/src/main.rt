@@ -2,14 +2,16 @@
 // passing lasso's steps by names and nothing for a passing "empty", or `refused` and the number, and the chart's first bad
 // pair where there is one.
 #![tactic(auto)]
+
 ghost use Rattle.std.specs.Prelude.{◌≤◌, length};
 ghost use Rattle.desk.specs.Lines.{Shows};
 ghost use Rattle.loopsteps.specs.Printing.{page_room, printed};
 
 use casefile::Case;
-use desk::Filled;
+use desk::{ErrorOutput, Filled};
 use model::Built;
 use product::list_steps;
+use std::rt::{Env, Files};
 
 // One byte more than a file may have, so that a longer one is seen to be too long.
 const ENOUGH: usize = Case::LONGEST_FILE + 1;
@@ -36,35 +38,40 @@ fn show<'a>(chart: &'a [u8], claim: &'a [u8], answer: &[u8], page: &mut [u8]) ->
     listed.written as usize
 }
 
-fn print_steps<'a>(chart: &'a [u8], claim: &'a [u8], answer: &[u8]) {
+fn print_steps<'a, R: Print + ErrorOutput>(
+    rt: &R,
+    chart: &'a [u8],
+    claim: &'a [u8],
+    answer: &[u8],
+) {
     let mut page = [0u8; PAGE];
     let n = show(chart, claim, answer, &mut page);
-    desk::print(&page[..n]);
+    desk::print(rt, &page[..n]);
 }
 
 // The answer is read once the chart and the claim have been.
-fn list_answer<'a>(chart: &'a [u8], claim: &'a [u8]) {
+fn list_answer<'a, R: Env + Files + Print + ErrorOutput>(rt: &R, chart: &'a [u8], claim: &'a [u8]) {
     let mut answer = [0u8; ENOUGH];
-    if let Filled::Bytes(n) = desk::read_argument(ANSWER, &mut answer) {
-        print_steps(chart, claim, &answer[..n]);
+    if let Filled::Bytes(n) = desk::read_argument(rt, ANSWER, &mut answer) {
+        print_steps(rt, chart, claim, &answer[..n]);
     }
 }
 
 // The claim is read once the chart has been.
-fn list_from(chart: &[u8]) {
+fn list_from<R: Env + Files + Print + ErrorOutput>(rt: &R, chart: &[u8]) {
     let mut claim = [0u8; ENOUGH];
-    if let Filled::Bytes(n) = desk::read_argument(CLAIM, &mut claim) {
-        list_answer(chart, &claim[..n]);
+    if let Filled::Bytes(n) = desk::read_argument(rt, CLAIM, &mut claim) {
+        list_answer(rt, chart, &claim[..n]);
     }
 }
 
-fn main() {
-    if os::arg_count() != 4 {
-        desk::complain(b"usage: loopsteps CHART CLAIM ANSWER\n");
+fn main(rt: HostRuntime) {
+    if !desk::argument_count_is(&rt, 3) {
+        desk::complain(&rt, b"usage: loopsteps CHART CLAIM ANSWER\n");
         return;
     }
     let mut chart = [0u8; ENOUGH];
-    if let Filled::Bytes(n) = desk::read_argument(CHART, &mut chart) {
-        list_from(&chart[..n]);
+    if let Filled::Bytes(n) = desk::read_argument(&rt, CHART, &mut chart) {
+        list_from(&rt, &chart[..n]);
     }
 }
