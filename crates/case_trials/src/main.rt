@@ -1,6 +1,7 @@
 // Tries the case file's reader by running it: the limits from both sides, and each reason of each refusal. It prints a
 // line for each text, with the refusal or 0; the file stdout has what must come.
 #![tactic(auto)]
+
 use casefile::{Judged, judge, read_case};
 use text::write::{write_byte, write_bytes, write_number};
 

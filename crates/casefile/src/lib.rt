@@ -1,6 +1,7 @@
 // The case file's reader: refusals 1 to 8 or the case, judged in one pass over the lent text. What it reads on the way goes
 // into tables of the caller's, as far as they have room. Contracts cite specs/Judging.antt and specs/Tables.antt.
 #![tactic(auto)]
+
 ghost use Rattle.std.specs.Prelude.{◌≡◌, ◌&&◌, ltb, eqb, drop, set};
 ghost use Rattle.std.proofs.Math.Option.{none};
 ghost use Rattle.text.specs.Lines.{lines};

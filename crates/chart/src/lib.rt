@@ -1,6 +1,7 @@
 // The chart's reader: 17 for a fault of the text, 18 or 19 with the first bad pair, or the chart, in one pass over the lent
 // text. Contracts cite specs/Reading.antt and specs/Pairs.antt.
 #![tactic(auto)]
+
 ghost use Rattle.std.specs.Prelude.{◌≡◌, true, ◌^◌, ◌≤◌, ◌<◌, length};
 ghost use Rattle.text.specs.Reading.{Part};
 ghost use Rattle.model.specs.Chart.{chart_counts_good, chart_says, most_flags};

@@ -1,6 +1,7 @@
 // Tries the checker on answers by other tools that must pass, on each way of 12 and 13, and on what the versions mean, and
 // writes what it says.
 #![tactic(auto)]
+
 use checker::check_answer;
 use model::{Checked, Outcome};
 

@@ -1,6 +1,7 @@
 // The checker of answers: refusals 1 to 8 of the case, then 1, 3, 12 and 13 of the answer, or the verdict of one that passes.
 // Contracts cite specs/Checking.antt.
 #![tactic(auto)]
+
 ghost use Rattle.model.specs.Entry.{CheckSays};
 ghost use Rattle.checker.specs.Checking.{Told, Room, AgainstSays};
 

@@ -1,5 +1,6 @@
 // The judges for bench/, each on its own: the refusal of a case file and that of a claim, 0 where there is none.
 #![tactic(auto)]
+
 ghost use Rattle.std.specs.Prelude.{◌≡◌};
 ghost use Rattle.model.specs.CaseFile.{case_refusal};
 ghost use Rattle.model.specs.ClaimTable.{claim_refusal};

@@ -18,6 +18,7 @@
 //   "Act numbers still cover file edges only"             D, the one act 2
 //   "the checker judges version 1 answers by the old meaning"   check K4, ..; check D, ..; check, dead end out of reach ..
 #![tactic(auto)]
+
 mod answers;
 mod kept;
 mod limits;

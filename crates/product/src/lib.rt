@@ -1,6 +1,7 @@
 // From chart and claim to a case file, and the listing of a lasso's steps by names. Contracts cite model's BuiltEntry and
 // specs/Entries.antt.
 #![tactic(auto)]
+
 ghost use Rattle.std.specs.Prelude.{◌≡◌, ◌≤◌};
 ghost use Rattle.model.specs.Case.{longest_file};
 ghost use Rattle.model.specs.BuiltEntry.{BuildSays, StepsSay};

@@ -2,6 +2,7 @@
 // workers, every answer put to the checker, one also as version 1, the tallies summed up. It prints totals; the file stdout
 // has what must come.
 #![tactic(auto)]
+
 mod graph;
 mod nested;
 mod runs;

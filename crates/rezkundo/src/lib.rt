@@ -2,6 +2,7 @@
 // slice crosses as a pointer and a length. The entries' contracts are `model`'s Entry, ClaimEntry, BuiltEntry and Chart
 // definitions.
 #![tactic(auto)]
+
 ghost use Rattle.std.specs.Prelude.{◌≡◌};
 ghost use Rattle.model.specs.Entry.{CheckSays, ListSays, RoundsSay};
 ghost use Rattle.model.specs.ClaimEntry.{ClaimSays, MovesSay};

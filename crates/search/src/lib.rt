@@ -1,6 +1,7 @@
 // Runs of the search in lent buffers: by a list of acts, and by rounds. No entry trusts its caller; their contracts are
 // `model`'s Entry definitions.
 #![tactic(auto)]
+
 mod answer;
 mod cells;
 mod edges;

@@ -4,10 +4,6 @@ use Rattle.claim.proofs.OpeningCode.{opening_is, opening_other, opening_none}
 use borrow.Enum.Refused.{opened}
 use Rattle.claim.proofs.opening.Goals as goal
 
--- TURN: no goal slice-aggregate-word
--- slice-aggregate-word : tie.Need-slice-aggregate-word
--- slice-aggregate-word c = search rules
-
 pub returns-then-word : goal.returns-then-word
 returns-then-word c =
     let a = c.args in

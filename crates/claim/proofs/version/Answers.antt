@@ -4,10 +4,6 @@ use Rattle.claim.proofs.OpeningCode.{version_is, version_other, version_none}
 use borrow.Enum.Refused.{opened}
 use Rattle.claim.proofs.version.Goals as goal
 
--- TURN: no goal slice-aggregate-word
--- slice-aggregate-word : tie.Need-slice-aggregate-word
--- slice-aggregate-word c = search rules
-
 pub returns-then-word : goal.returns-then-word
 returns-then-word c =
     let a = c.args in

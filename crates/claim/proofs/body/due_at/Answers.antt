@@ -4,10 +4,6 @@ use Rattle.claim.proofs.LineCode.{line_due, line_other, line_many, end_early, en
 use borrow.Enum.Refused.{opened}
 use Rattle.claim.proofs.body.due_at.Goals as goal
 
--- TURN: no goal slice-aggregate-word
--- slice-aggregate-word : tie.Need-slice-aggregate-word
--- slice-aggregate-word c = search rules
-
 pub returns-then-word : goal.returns-then-word
 returns-then-word c = line_due c.claim_token-seen.ensures _ _ _ _ c.in-Header.is (sym c.word.ensures ∙ c.if-word.true) c.if-lines-states.true
 

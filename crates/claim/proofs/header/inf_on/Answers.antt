@@ -4,10 +4,6 @@ use Rattle.claim.proofs.HeaderCode.{inf_is, inf_other, inf_bracket, inf_not}
 use borrow.Enum.Refused.{opened}
 use Rattle.claim.proofs.header.inf_on.Goals as goal
 
--- TURN: no goal slice-aggregate-word
--- slice-aggregate-word : tie.Need-slice-aggregate-word
--- slice-aggregate-word c = search rules
-
 pub returns-then-word : goal.returns-then-word
 returns-then-word c = inf_is c.claim_token-seen.ensures _ _ c.in-Name.is (sym c.word.ensures ∙ c.if-word.true) c.open_on.result c.open_on.ensures
 

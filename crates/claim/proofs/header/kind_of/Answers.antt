@@ -7,37 +7,17 @@ use Rattle.claim.proofs.header.kind_of.Goals as goal
 pub returns-then-b : goal.returns-then-b
 returns-then-b c = small_skipped _ _ c.first_byte-b.ensures c.if-b.true
 
--- TURN: no goal slice-aggregate-word
--- slice-aggregate-word : tie.Need-slice-aggregate-word
--- slice-aggregate-word c = search rules
-
 pub returns-then-word : goal.returns-then-word
 returns-then-word c = sym (rw (sym c.word.ensures ∙ c.if-word.true))
-
--- TURN: no goal slice-aggregate-word-2
--- slice-aggregate-word-2 : tie.Need-slice-aggregate-word-2
--- slice-aggregate-word-2 c = search rules
 
 pub returns-then-word-2 : goal.returns-then-word-2
 returns-then-word-2 c = sym (rw (sym c.word.ensures ∙ c.if-word.false, sym c.word-2.ensures ∙ c.if-word-2.true))
 
--- TURN: no goal slice-aggregate-word-3
--- slice-aggregate-word-3 : tie.Need-slice-aggregate-word-3
--- slice-aggregate-word-3 c = search rules
-
 pub returns-then-word-3 : goal.returns-then-word-3
 returns-then-word-3 c = sym (rw (sym c.word.ensures ∙ c.if-word.false, sym c.word-2.ensures ∙ c.if-word-2.false, sym c.word-3.ensures ∙ c.if-word-3.true))
 
--- TURN: no goal slice-aggregate-word-4
--- slice-aggregate-word-4 : tie.Need-slice-aggregate-word-4
--- slice-aggregate-word-4 c = search rules
-
 pub returns-then-word-4 : goal.returns-then-word-4
 returns-then-word-4 c = sym (rw (sym c.word.ensures ∙ c.if-word.false, sym c.word-2.ensures ∙ c.if-word-2.false, sym c.word-3.ensures ∙ c.if-word-3.false, sym c.word-4.ensures ∙ c.if-word-4.true))
-
--- TURN: no goal slice-aggregate-word-5
--- slice-aggregate-word-5 : tie.Need-slice-aggregate-word-5
--- slice-aggregate-word-5 c = search rules
 
 pub returns-then-word-5 : goal.returns-then-word-5
 returns-then-word-5 c = sym (rw (sym c.word.ensures ∙ c.if-word.false, sym c.word-2.ensures ∙ c.if-word-2.false, sym c.word-3.ensures ∙ c.if-word-3.false, sym c.word-4.ensures ∙ c.if-word-4.false, sym c.word-5.ensures ∙ c.if-word-5.true))

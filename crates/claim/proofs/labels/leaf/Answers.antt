@@ -18,14 +18,6 @@ overflow_add-at-then-b-ne0 c = let h = (c.lone_letter-b.ensures c.if-b-ne0.true)
 pub returns-then-b-ne0 : goal.returns-then-b-ne0
 returns-then-b-ne0 c = λ d. leaf_name _ _ d _ _ _ _ (c.lone_letter-b.ensures c.if-b-ne0.true) c.past_blanks-then-b-ne0.ensures _ _ (letter_is _ _) (letter_is _ _) _ c.constant.ensures
 
--- TURN: no goal slice-aggregate-word
--- slice-aggregate-word : tie.Need-slice-aggregate-word
--- slice-aggregate-word c = search rules
-
--- TURN: no goal slice-aggregate-word-2
--- slice-aggregate-word-2 : tie.Need-slice-aggregate-word-2
--- slice-aggregate-word-2 c = search rules
-
 pub returns-in-Name : goal.returns-in-Name
 returns-in-Name c = λ d. leaf_name _ _ d _ _ _ _ (name_is c.claim_token-seen.ensures _ _ c.in-Name.is) c.past_blanks-past.ensures _ _ (sym c.word.ensures) (sym c.word-in-Name.ensures) _ c.constant-in-Name.ensures
 

@@ -15,7 +15,7 @@ pub loop-v-preserved : goal.loop-v-preserved
 loop-v-preserved c =
     let loaded : SFits w32 c.load.result = record { sfits = c.load.type_inv } in
     elim c.if-load-le0.branch [
-      then-load-le0 w ↦ rw w.k-is (counted_some c.loop-v.invariant c.loop-v-test.true (to_z-of_z loaded ∙ c.load.ensures) w.if-load-le0.true)
+      | then-load-le0 w ↦ rw w.k-is (counted_some c.loop-v.invariant c.loop-v-test.true (to_z-of_z loaded ∙ c.load.ensures) w.if-load-le0.true)
       | else-load-le0 w ↦ rw w.k-is (counted_none c.loop-v.invariant c.loop-v-test.true (to_z-of_z loaded ∙ c.load.ensures) w.if-load-le0.false)
     ]
 

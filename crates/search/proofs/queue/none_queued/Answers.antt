@@ -37,13 +37,12 @@ pub loop-w-smaller : goal.loop-w-smaller
 loop-w-smaller c = omega (arith, c.loop-w-test.true)
 
 pub loop-w-preserved : goal.loop-w-preserved
-loop-w-preserved c =
-    (
-      omega (arith, c.loop-w-test.true),
-      λ q x k rep e.
-          one_more x.queues c.loop-w.w (c.loop-w.invariant.1 q x k rep e)
-          (link_one (get_or x.queues c.loop-w.w []) (head_is q x _ _ _ rep (omega (arith, c.loop-w-test.true)) _ (rw c.if-head-ne-QUEUE_END.false at c.load_below-head.ensures.0))),
-    )
+loop-w-preserved c = (
+  omega (arith, c.loop-w-test.true),
+  λ q x k rep e.
+      one_more x.queues c.loop-w.w (c.loop-w.invariant.1 q x k rep e)
+      (link_one (get_or x.queues c.loop-w.w []) (head_is q x _ _ _ rep (omega (arith, c.loop-w-test.true)) _ (rw c.if-head-ne-QUEUE_END.false at c.load_below-head.ensures.0))),
+)
 
 pub returns : goal.returns
 unfolding QueuesSay

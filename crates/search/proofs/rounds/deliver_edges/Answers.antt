@@ -63,18 +63,17 @@ loop-e-smaller c = omega (arith, c.loop-e-test.true)
 
 pub loop-e-preserved : goal.loop-e-preserved
 unfolding DeliverSays
-loop-e-preserved c =
-    (
-      omega (arith, c.deliver-r.auto.work, c.loop-e.invariant.0),
-      λ q x rep m w l.
-          let p = c.args.p in
-          let e = c.loop-e.e in
-          let z : p + (e + 1) ≡ p + e + 1 = omega arith in
-          let t = c.loop-e-test.true in
-          let u = c.loop-e.invariant.1 q x rep m w l in
-          let whole = broken_none u.rep c.if-r-ne-NONE.false in
-          rw z (along_step q x _ _ (p + e) _ _ _ _ u (omega arith) (act_rep q e p u.at _ _ w u.moment whole (c.deliver-r.ensures q u.at u.rep whole (omega arith)))),
-    )
+loop-e-preserved c = (
+  omega (arith, c.deliver-r.auto.work, c.loop-e.invariant.0),
+  λ q x rep m w l.
+      let p = c.args.p in
+      let e = c.loop-e.e in
+      let z : p + (e + 1) ≡ p + e + 1 = omega arith in
+      let t = c.loop-e-test.true in
+      let u = c.loop-e.invariant.1 q x rep m w l in
+      let whole = broken_none u.rep c.if-r-ne-NONE.false in
+      rw z (along_step q x _ _ (p + e) _ _ _ _ u (omega arith) (act_rep q e p u.at _ _ w u.moment whole (c.deliver-r.ensures q u.at u.rep whole (omega arith)))),
+)
 
 pub shape_of-work : goal.shape_of-work
 shape_of-work c = c.loop-e.invariant.0

@@ -18,14 +18,13 @@ act-r-requires c =
 
 pub loop-i-preserved : goal.loop-i-preserved
 unfolding ActSays
-loop-i-preserved c =
-    (
-      omega arith,
-      omega (arith, c.act-r.auto.work),
-      λ q x rep m w l.
-          let u = c.loop-i.invariant.2 q x rep m w l in
-          onward_step q x _ _ _ _ _ _ u (omega arith) (c.act-r.ensures q u.at u.rep u.moment w (l c.loop-i.i (omega arith))),
-    )
+loop-i-preserved c = (
+  omega arith,
+  omega (arith, c.act-r.auto.work),
+  λ q x rep m w l.
+      let u = c.loop-i.invariant.2 q x rep m w l in
+      onward_step q x _ _ _ _ _ _ u (omega arith) (c.act-r.ensures q u.at u.rep u.moment w (l c.loop-i.i (omega arith))),
+)
 
 pub shape_of-work : goal.shape_of-work
 shape_of-work c = c.loop-i.invariant.1

@@ -109,8 +109,7 @@ loop-e-preserved c =
     (stepped s.case s.state s.depth u (ranged s.case laid s.below) (owner_is s.case _ _ laid s.below _ c.load_below-own.ensures.0)
     (to_z-of_z fits ∙ offer-is s.case s.depth laid s.below s.is))
     (rw z at c.loop-e.invariant.4) in
-    let test = c.loop-e-test.true in
-    (
+    let test = c.loop-e-test.true in (
       omega (arith, test),
       omega (arith, c.scan_edge-r.auto.work, c.loop-e.invariant.1),
       λ q x o rep own p i. half_step q x _ o _ _ own c.loop-e.e _ _ _ _ (c.loop-e.invariant.2 q x o rep own p i) test (stepped q x o (c.loop-e.invariant.2 q x o rep own p i) own p i),

@@ -58,8 +58,7 @@ returns c =
     let grown : let s = c.args in
     (q : Case) (ps : List (Option ℕ)) → Lies q ps s.work.now → Broke q ps s.broken → s.source ≡ q.graph.source → s.n ≡ q.graph.vertices → Grown q c.go_back-start.result c.find_stem.new.work = λ q ps l k s n. let t = start q ps l k n in
     c.find_stem.ensures.1 q l.laid s n (omega (arith, chained_below q ps _ _ l t.1)) k.walk (subst (λ (v : ℕ). Reaches q.graph v k.walk) (sym t.0) k.reaches) in
-    let kept : Kept found_at c.args.work.now c.take_stem-stem.new.work = kept_more _ _ _ _ c.find_stem.ensures.0 (kept_less stem_at found_at _ _ (omega arith) c.take_stem-stem.ensures.0) in
-    (
+    let kept : Kept found_at c.args.work.now c.take_stem-stem.new.work = kept_more _ _ _ _ c.find_stem.ensures.0 (kept_less stem_at found_at _ _ (omega arith) c.take_stem-stem.ensures.0) in (
       kept_more _ _ _ _ kept (kept_less cycle_at found_at _ _ (omega arith) c.take_cycle-cycle.ensures.0),
       λ q ps l k s n.
           let t = start q ps l k n in
