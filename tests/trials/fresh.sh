@@ -111,4 +111,4 @@ cp -a "$root/crates/loopfind/out" changed/crates/loopfind
 ends 0 'edit: before' "$lasso_1" '' changed/bin/loopfind k1
 sed -i 's/desk::print(/desk::complain(/' changed/crates/loopfind/src/main.rt
 errors_alone() { { "$@" >/dev/null; } 2>&1; }
-trial 'edit: K1 after it' "${built/text proved$'\n'/}$lasso_1" '' errors_alone changed/bin/loopfind k1
+ends 2 'edit: K1 after it' "${built/text proved$'\n'/}$lasso_1" '' errors_alone changed/bin/loopfind k1
