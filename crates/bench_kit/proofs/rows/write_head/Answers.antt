@@ -1,5 +1,4 @@
 -- `rows::write_head`: the names and the version, a row of four, and the names again.
-use borrow.Author.Rules.{rules}
 use Rattle.text.proofs.Chains.{chain_more, chain_last, chain_then}
 use Rattle.bench_kit.proofs.rows.write_head.Goals as goal
 

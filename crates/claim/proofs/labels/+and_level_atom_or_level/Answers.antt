@@ -3,7 +3,7 @@ use mathlib.Core.Path.{sym, ◌∙◌}
 use native.Mathlib.Omega.{arith}
 use Rattle.model.specs.ClaimLabels.{not_byte, open_byte}
 use Rattle.claim.proofs.Signs.{not_sign, open_sign, close_sign, sign_inside, sign_not}
-use Rattle.claim.proofs.LabelCode.{nots_more, nots_carried, nots_deep, atom_closed, and_first_due, and_broken, and_ended, and_again, and_ahead, or_first_due, or_broken, or_ended, or_again, or_ahead}
+use Rattle.claim.proofs.LabelCode.{nots_none, nots_more, nots_carried, nots_deep, atom_closed, and_first_due, and_broken, and_ended, and_again, and_ahead, or_first_due, or_broken, or_ended, or_again, or_ahead}
 use Rattle.claim.proofs.labels.+and_level_atom_or_level.Goals as goal
 
 pub and_level-loop-w-init : goal.and_level-loop-w-init
@@ -20,6 +20,9 @@ and_level-loop-w-smaller t c = let h = and_ahead _ c.loop-w.invariant c.atom-mor
 
 pub and_level-loop-w-preserved : goal.and_level-loop-w-preserved
 and_level-loop-w-preserved t c = and_again _ c.loop-w.invariant c.atom-more.result _ _ c.in-Is.is c.atom-more.ensures _ c.intersection-values.ensures (sym c.byte_at.ensures ∙ c.if-byte_at-ne38.false)
+
+pub atom-loop-at-init : goal.atom-loop-at-init
+atom-loop-at-init t c = nots_none _ _ _ _ _ c.past_blanks-here.ensures
 
 pub atom-returns-then-down-ge-DEEPEST : goal.atom-returns-then-down-ge-DEEPEST
 atom-returns-then-down-ge-DEEPEST t c = nots_deep c.loop-at.invariant not_byte not_sign (sym c.byte_at.ensures ∙ c.loop-at-test.true) c.if-down-ge-DEEPEST.true

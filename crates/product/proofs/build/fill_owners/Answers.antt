@@ -2,7 +2,6 @@
 use native.Mathlib.Nat.{mod-lt}
 use native.Mathlib.Omega.{arith}
 use Rattle.product.proofs.Writing.{owners_start, owners_next, owners_last}
-use borrow.Author.Rules.{rules}
 use Rattle.product.proofs.build.fill_owners.Goals as goal
 
 pub loop-v-init : goal.loop-v-init

@@ -3,7 +3,6 @@ use native.Mathlib.Nat.{mod-lt}
 use native.Mathlib.Omega.{arith}
 use lib.ListN.{get_or}
 use Rattle.product.proofs.Writing.{marks_start, marks_next, marks_last}
-use borrow.Author.Rules.{rules}
 use Rattle.product.proofs.build.mark_starts.Goals as goal
 
 pub loop-e-init : goal.loop-e-init

@@ -1,6 +1,5 @@
 -- `write_case` meets its contract: four writers, one after the other.
 use Rattle.product.proofs.CaseLines.{case_says}
-use borrow.Author.Rules.{rules}
 use Rattle.product.proofs.case.write_case.Goals as goal
 
 pub returns : goal.returns

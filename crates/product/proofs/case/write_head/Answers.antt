@@ -1,7 +1,6 @@
 -- `write_head` meets its contract: six writers, one after the other.
 use Rattle.text.proofs.Chains.{puts, puts_as, puts_then, field_puts}
 use Rattle.product.proofs.CaseLines.{head_parts}
-use borrow.Author.Rules.{rules}
 use Rattle.product.proofs.case.write_head.Goals as goal
 
 pub returns : goal.returns

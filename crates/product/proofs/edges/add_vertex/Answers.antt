@@ -2,7 +2,6 @@
 use mathlib.Core.Path.{refl}
 use native.Mathlib.Omega.{arith}
 use Rattle.product.proofs.EdgeTables.{place, vertex_asks, vertex_adds}
-use borrow.Author.Rules.{rules}
 use Rattle.product.proofs.edges.add_vertex.Goals as goal
 
 pub overflow_mul-at : goal.overflow_mul-at

@@ -2,7 +2,6 @@
 use native.Mathlib.Nat.{mod-lt}
 use native.Mathlib.Omega.{arith}
 use Rattle.product.proofs.StepRows.{step_puts}
-use borrow.Author.Rules.{rules}
 use Rattle.product.proofs.steps.write_step.Goals as goal
 
 pub write_state-next-requires : goal.write_state-next-requires

@@ -1,6 +1,5 @@
 -- `graph::below`: a remainder is below what divides.
 use native.Mathlib.Omega.{arith}
-use borrow.Author.Rules.{rules}
 use native.Mathlib.Nat.{le_of_lt, mod-lt}
 use Rattle.random_runs.proofs.graph.below.Goals as goal
 
