@@ -1,0 +1,8 @@
+-- `replay_text`: the line that is no act is near.
+use Rattle.std.proofs.Common.{ℕ, arith}
+use lib.ListN.{length-replicate}
+use Rattle.looplist.proofs.Listing.{few_lines}
+use Rattle.looplist.proofs.replay_text.Goals as goal
+
+pub overflow_cast-line : goal.overflow_cast-line
+overflow_cast-line g c = omega (arith, few_lines c.list_acts.ensures c.in-NoAct.is (length-replicate {0} {A = ℕ} 400000 0))
