@@ -1,0 +1,7 @@
+-- `page::write_counts`: three fields, one after the other.
+use Rattle.text.proofs.Chains.{puts_then, puts_as, field_puts}
+use Rattle.claimcheck.proofs.Printing.{count_parts}
+use Rattle.claimcheck.proofs.page.write_counts.Goals as goal
+
+pub returns : goal.returns
+returns c = puts_as (count_parts _ _ _) (puts_then (puts_then (field_puts _ _ c.write_field-a.ensures) (field_puts _ _ c.write_field-b.ensures)) (field_puts _ _ c.write_field.ensures))
