@@ -3,3 +3,4 @@ pub mod Writing
 pub mod Words
 pub mod Built
 pub mod Buffers
+mod Filling

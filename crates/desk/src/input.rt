@@ -1,7 +1,7 @@
 // Files read whole into a lent buffer, and arguments that are numbers. A failed read is never taken for the file's end, so
 // that a file is not cut to a shorter one.
 ghost use Rattle.std.specs.Prelude.{◌-◌, ◌≤◌, length};
-ghost use Rattle.desk.specs.Filling.{Fills, SaidByWord};
+ghost use Rattle.desk.specs.Filling.{Fills, Takes, TakesMore, SaidByWord};
 
 use crate::{ErrorOutput, fail};
 use std::env::FillError;
@@ -30,7 +30,8 @@ pub enum Filled {
 // One read behind the bytes that are there; no byte at the file's end.
 fn read_more<R: Read>(reader: &mut R, buffer: &mut [u8], done: usize) -> Filled
     requires { done ≤ length buffer.old }
-    ensures { Fills result (length buffer.old - done) }
+    ensures within { Fills result (length buffer.old - done) }
+    ensures more { TakesMore result (R.remaining reader.old) (R.remaining reader.new) done buffer.old buffer.new }
 {
     match reader.read(&mut buffer[done..]) {
         Ok(n) => Filled::Bytes(n),
@@ -40,7 +41,8 @@ fn read_more<R: Read>(reader: &mut R, buffer: &mut [u8], done: usize) -> Filled
 
 // Reads until the file ends or the buffer is full.
 pub fn fill<R: Read>(reader: &mut R, buffer: &mut [u8]) -> Filled
-    ensures { Fills result (length buffer.new) }
+    ensures within { Fills result (length buffer.new) }
+    ensures front { Takes result (R.remaining reader.old) (R.remaining reader.new) buffer.new }
 {
     let mut done: usize = 0;
     while done < buffer.len() {

@@ -1,6 +1,6 @@
 // What the desk programs share: files read whole into lent buffers, arguments that are numbers, printing, and the lines of
-// a refusal. What is read or written no contract can say (Offered in specs/ names that part); that the bytes of a line are
-// right, its writer's does.
+// a refusal. What a file of the system holds and what it takes no contract can say (Offered in specs/ names the second);
+// that a reader's known bytes come whole, fill's does, and that the bytes of a line are right, its writer's.
 #![tactic(auto)]
 
 mod errors;
