@@ -26,7 +26,7 @@ const ENOUGH: usize = Case::LONGEST_FILE + 1;
 // The most acts of a list: with its text, which has at most 10 bytes a line, what 8 MB of stack hold.
 const MOST_ACTS: usize = 400000;
 
-// One byte more than the most acts need: what is read of a longer list is then what all of it says (Front-decides in
+// One byte more than the most acts need: what is read of a longer list is then what all of it says (FrontDecides in
 // specs/Listing.antt).
 const TEXT: usize = 4000001;
 

@@ -111,24 +111,24 @@ ends_body (suc m) is ss g e =
     begins s r = unfold state_tokens in at_state _ _
 
 -- a text goes on from a place
-pub record Goes_on (p : Place) : Type 0 where
+pub record GoesOn (p : Place) : Type 0 where
   pub rest : List Token
   pub tree : Syntax
   pub comes : told (go p) rest ≡ taken_as tree
 
-lines_go : (is : List Item) (ss : List State) → BodyGood is ss → Goes_on (in_lines is ss)
+lines_go : (is : List Item) (ss : List State) → BodyGood is ss → GoesOn (in_lines is ss)
 lines_go is ss g =
     let r = ends_body (count_in is - length ss) is ss g (omega (arith, g.few)) in
     record { rest = r.rest; tree = r.tree; comes = lines_read is ss r.rest ∙ r.comes }
 
-line_goes : (is : List Item) (ss : List State) (p : Part) → LineGood is ss (state_of p) → Goes_on (in_line is ss p)
+line_goes : (is : List Item) (ss : List State) (p : Part) → LineGood is ss (state_of p) → GoesOn (in_line is ss p)
 line_goes is ss p g =
     let b = line_more is ss (state_of p) g in
     let r = ends_body (count_in is - length (snoc ss (state_of p))) is (snoc ss (state_of p)) b (omega (arith, b.few)) in
     record { rest = r.rest; tree = r.tree; comes = part_end is ss p r.rest r.ends_line ∙ r.comes }
 
 -- one token, and then from the place that it leads to
-one_more : (p q : Place) (t : Token) → step p t ≡ go q → Goes_on q → Goes_on p
+one_more : (p q : Place) (t : Token) → step p t ≡ go q → GoesOn q → GoesOn p
 one_more p q t e r = record { rest = t ∷ r.rest; tree = r.tree; comes = first p q t r.rest e ∙ r.comes }
   where
     first : (p q : Place) (t : Token) (ts : List Token) → step p t ≡ go q → told (go p) (t ∷ ts) ≡ told (go q) ts
@@ -155,10 +155,10 @@ label_goes k (due us u) =
     record { rest = name (ascii "t") ∷ r.rest; label = r.label; comes = λ ts. r.comes ts }
 
 -- one token that a place takes, and then from the next place, which is good
-by_token : (p q : Place) (t : Token) → Good p → step p t ≡ go q → (Good q → Goes_on q) → Goes_on p
+by_token : (p q : Place) (t : Token) → Good p → step p t ≡ go q → (Good q → GoesOn q) → GoesOn p
 by_token p q t g e r = one_more p q t e (r (subst (λ (n : Next). GoodNext n) e (good_step p t g)))
 
-target_goes : (l : Line) (o : Label or_level) → Good (wants_target l o) → Goes_on (wants_target l o)
+target_goes : (l : Line) (o : Label or_level) → Good (wants_target l o) → GoesOn (wants_target l o)
 target_goes l o g =
     by_token (wants_target l o) (in_line l.items l.states (edged (with_edge l.state (record { label = o; to = 0 })))) (number 0) g
     (takes l o (lt-ltb 0 (count_in l.items) (omega (arith, g.0.room))))
@@ -182,7 +182,7 @@ label_fits k (on r) [] g = tt
 label_fits k (on r) (t ∷ ts) g = label_fits k (label_step k r t) ts (good_label k r t g)
 
 -- a place in a label: through the label's end to its edge's target
-in_label_goes : (l : Line) (r : Reading) → Good (in_label l r) → Goes_on (in_label l r)
+in_label_goes : (l : Line) (r : Reading) → Good (in_label l r) → GoesOn (in_label l r)
 in_label_goes l r g =
     let x = label_goes (propositions_in l.items) r in
     let f : Fits (propositions_in l.items) 0 x.label = subst (λ (z : LabelRead). ReadGood (propositions_in l.items) z) (x.comes []) (label_fits (propositions_in l.items) (on r) (x.rest ++ []) g.1) in
@@ -192,7 +192,7 @@ in_label_goes l r g =
     through : (l : Line) (r : Reading) (ts : List Token) → told (go (in_label l r)) ts ≡ finish l (label_told (propositions_in l.items) (on r) ts)
     through l r ts = unfold from_label in through_label l (on r) ts
 
-state_goes : (is : List Item) (ss : List State) → Good (wants_state is ss) → Goes_on (wants_state is ss)
+state_goes : (is : List Item) (ss : List State) → Good (wants_state is ss) → GoesOn (wants_state is ss)
 state_goes is ss g =
     let v = missing (count_in is) ss g.1 in
     by_token (wants_state is ss) (in_line is ss (numbered v.state)) (number v.state) g
@@ -202,7 +202,7 @@ state_goes is ss g =
     takes : (is : List Item) (ss : List State) (v : ℕ) → (ltb v (count_in is) && not (has_line v ss)) ≡ true → step (wants_state is ss) (number v) ≡ go (in_line is ss (numbered v))
     takes is ss v e = unfold step is_sign on_number in (rw e refl)
 
-marks_go : (is : List Item) (ss : List State) (v : ℕ) (o : Option (List ℕ)) (ms : List ℕ) → Good (in_marks is ss v o ms) → Goes_on (in_marks is ss v o ms)
+marks_go : (is : List Item) (ss : List State) (v : ℕ) (o : Option (List ℕ)) (ms : List ℕ) → Good (in_marks is ss v o ms) → GoesOn (in_marks is ss v o ms)
 marks_go is ss v o ms g = by_token (in_marks is ss v o ms) (in_line is ss (marked v o ms)) close_mark g (takes is ss v o ms) (λ h. line_goes is ss (marked v o ms) h)
   where
     takes : (is : List Item) (ss : List State) (v : ℕ) (o : Option (List ℕ)) (ms : List ℕ) → step (in_marks is ss v o ms) close_mark ≡ go (in_line is ss (marked v o ms))
@@ -335,14 +335,14 @@ heads is g =
     let c = made_whole b.further.items b.further.good b.count b.begun in
     further_heads is a.further (further_heads _ b.further (further_heads _ c.further (whole_heads _ c.further.good c.whole_head)))
 
-items_go : (l : Last) (is : List Item) → ItemsGood is → Goes_on (in_items l is)
+items_go : (l : Last) (is : List Item) → ItemsGood is → GoesOn (in_items l is)
 items_go l is g = let h = heads is g in record { rest = h.rest; tree = h.tree; comes = items_boundary l is h.rest h.bounds ∙ h.comes }
 
-skipped_goes : (is : List Item) (w : List ℕ) (us : List Token) → Good (in_skipped is w us) → Goes_on (in_skipped is w us)
+skipped_goes : (is : List Item) (w : List ℕ) (us : List Token) → Good (in_skipped is w us) → GoesOn (in_skipped is w us)
 skipped_goes is w us g = let h = heads (snoc is (skipped w us)) (item_more is (skipped w us) g.0 g.1) in record { rest = h.rest; tree = h.tree; comes = skipped_boundary is w us h.rest h.bounds ∙ h.comes }
 
 -- a place that waits for something in the header
-count_goes : (is : List Item) → Good (wants_count is) → Goes_on (wants_count is)
+count_goes : (is : List Item) → Good (wants_count is) → GoesOn (wants_count is)
 count_goes is g =
     by_token (wants_count is) (in_items whole (snoc is (states most_states))) (number most_states) g
     (takes is (states_fits is (sane is g.0) g.1)) (λ h. items_go whole (snoc is (states most_states)) h)
@@ -350,7 +350,7 @@ count_goes is g =
     takes : (is : List Item) → item_fits is (states most_states) ≡ true → step (wants_count is) (number most_states) ≡ go (in_items whole (snoc is (states most_states)))
     takes is e = unfold step on_number with_item in (rw e refl)
 
-start_goes : (is : List Item) → Good (wants_start is) → Goes_on (wants_start is)
+start_goes : (is : List Item) → Good (wants_start is) → GoesOn (wants_start is)
 start_goes is g =
     by_token (wants_start is) (in_items after_start (snoc is (start 0))) (number 0) g
     (takes is (start_fits is (sane is g.0) g.1)) (λ h. items_go after_start (snoc is (start 0)) h)
@@ -358,14 +358,14 @@ start_goes is g =
     takes : (is : List Item) → item_fits is (start 0) ≡ true → step (wants_start is) (number 0) ≡ go (in_items after_start (snoc is (start 0)))
     takes is e = unfold step on_number with_item in (rw e refl)
 
-propositions_go : (is : List Item) → Good (wants_propositions is) → Goes_on (wants_propositions is)
+propositions_go : (is : List Item) → Good (wants_propositions is) → GoesOn (wants_propositions is)
 propositions_go is g =
     by_token (wants_propositions is) (in_items whole (snoc is (propositions []))) (number 0) g (takes is) (λ h. items_go whole (snoc is (propositions [])) h)
   where
     takes : (is : List Item) → step (wants_propositions is) (number 0) ≡ go (in_items whole (snoc is (propositions [])))
     takes is = unfold step on_number named in refl
 
-names_go : (is : List Item) (l : ℕ) (ns : List (List ℕ)) → Good (wants_names is l ns) → Goes_on (wants_names is l ns)
+names_go : (is : List Item) (l : ℕ) (ns : List (List ℕ)) → Good (wants_names is l ns) → GoesOn (wants_names is l ns)
 names_go is zero ns g = by_token (wants_names is zero ns) (in_items whole (snoc is (propositions (snoc ns [])))) (string []) g (takes is ns) (λ h. items_go whole _ h)
   where
     takes : (is : List Item) (ns : List (List ℕ)) → step (wants_names is zero ns) (string []) ≡ go (in_items whole (snoc is (propositions (snoc ns []))))
@@ -375,50 +375,50 @@ names_go is (suc l) ns g = by_token (wants_names is (suc l) ns) (wants_names is 
     takes : (is : List Item) (l : ℕ) (ns : List (List ℕ)) → step (wants_names is (suc l) ns) (string []) ≡ go (wants_names is l (snoc ns []))
     takes is l ns = unfold step on_string named in refl
 
-close_goes : (is : List Item) → Good (wants_close is) → Goes_on (wants_close is)
+close_goes : (is : List Item) → Good (wants_close is) → GoesOn (wants_close is)
 close_goes is g = by_token (wants_close is) (in_items after_acceptance (snoc is acceptance)) close_bracket g (takes is) (λ h. items_go after_acceptance (snoc is acceptance) h)
   where
     takes : (is : List Item) → step (wants_close is) close_bracket ≡ go (in_items after_acceptance (snoc is acceptance))
     takes is = unfold step is_sign in refl
 
-set_goes : (is : List Item) → Good (wants_set is) → Goes_on (wants_set is)
+set_goes : (is : List Item) → Good (wants_set is) → GoesOn (wants_set is)
 set_goes is g = by_token (wants_set is) (wants_close is) (number 0) g (takes is) (λ h. close_goes is h)
   where
     takes : (is : List Item) → step (wants_set is) (number 0) ≡ go (wants_close is)
     takes is = unfold step is_sign on_number in refl
 
-open_goes : (is : List Item) → Good (wants_open is) → Goes_on (wants_open is)
+open_goes : (is : List Item) → Good (wants_open is) → GoesOn (wants_open is)
 open_goes is g = by_token (wants_open is) (wants_set is) open_bracket g (takes is) (λ h. set_goes is h)
   where
     takes : (is : List Item) → step (wants_open is) open_bracket ≡ go (wants_set is)
     takes is = unfold step is_sign in refl
 
-inf_goes : (is : List Item) → Good (wants_inf is) → Goes_on (wants_inf is)
+inf_goes : (is : List Item) → Good (wants_inf is) → GoesOn (wants_inf is)
 inf_goes is g = by_token (wants_inf is) (wants_open is) (name (ascii "Inf")) g (takes is) (λ h. open_goes is h)
   where
     takes : (is : List Item) → step (wants_inf is) (name (ascii "Inf")) ≡ go (wants_open is)
     takes is = unfold step is_name equal in refl
 
-sets_go : (is : List Item) → Good (wants_sets is) → Goes_on (wants_sets is)
+sets_go : (is : List Item) → Good (wants_sets is) → GoesOn (wants_sets is)
 sets_go is g = by_token (wants_sets is) (wants_inf is) (number 1) g (takes is) (λ h. inf_goes is h)
   where
     takes : (is : List Item) → step (wants_sets is) (number 1) ≡ go (wants_inf is)
     takes is = unfold step on_number in refl
 
-version_goes : Goes_on version
+version_goes : GoesOn version
 version_goes = by_token version (in_items whole []) (name (ascii "v1")) tt takes (λ h. items_go whole [] h)
   where
     takes : step version (name (ascii "v1")) ≡ go (in_items whole [])
     takes = unfold step is_name equal in refl
 
-opening_goes : Goes_on opening
+opening_goes : GoesOn opening
 opening_goes = by_token opening version (header (ascii "HOA")) tt takes (λ h. version_goes)
   where
     takes : step opening (header (ascii "HOA")) ≡ go version
     takes = unfold step is_header equal in refl
 
 -- EVERY PLACE that is reached goes on
-pub goes_on : (p : Place) → Good p → Goes_on p
+pub goes_on : (p : Place) → Good p → GoesOn p
 goes_on opening g = opening_goes
 goes_on version g = version_goes
 goes_on (in_items l is) g = items_go l is g
