@@ -224,6 +224,8 @@ check_fails 'a folder for the answer' $'folder: Is a directory\n' k1 folder
 check_fails 'a name without letters' $': No such file or directory\n' '' a1
 check_fails 'a name too long' $'file name: File name too long\n' k1 "$(printf '%05000d' 0)"
 check_fails 'a file below a file' $'k1/a1: Not a directory\n' k1 k1/a1
+cp a1 $'n\xff'
+check_fails 'a name that is no UTF-8 text' $'n\xff: Invalid or incomplete multibyte or wide character\n' k1 $'n\xff'
 
 # ---- looplist: what an order does
 

@@ -7,6 +7,8 @@ use text::write::write_bytes;
 
 const STDOUT: i32 = 1;
 
+const STDERR: i32 = 2;
+
 // The longest answer that is printed.
 const SHORT: usize = 100;
 
@@ -71,9 +73,11 @@ enum Work {
     Mixed,
 }
 
-// Prints the bytes.
+// Prints the bytes; if standard output does not take them, standard error says so.
 pub(crate) fn print(bytes: &[u8]) {
-    io::write_all(STDOUT, bytes);
+    if !io::write_all(STDOUT, bytes) {
+        io::write_all(STDERR, b"standard output: not written\n");
+    }
 }
 
 pub(crate) fn print_number(n: u32) {
