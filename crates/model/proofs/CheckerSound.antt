@@ -16,7 +16,6 @@ use Rattle.text.specs.Numbers.{is_number, value, number_at}
 use Rattle.model.specs.Graph.{Graph, edge, edge_depth, edge_length, is_walk, walk_end, walk_depth, walk_length, is_lasso, HasLasso, NoLasso}
 use Rattle.model.specs.Case.{known_version, answer_version}
 use Rattle.model.specs.CaseFile.{other_version}
-use Rattle.model.specs.Answer.{cycle, stem}
 use Rattle.model.specs.Passing.{says_lasso, Listed, number_of, is_listed, leads, all_lead, passes_empty, stem_in, cycle_in, listed_in, lasso_refusal, empty_refusal, refusal_against, meant, answer_refusal, older_refusal, answer_verdict}
 use Rattle.model.specs.Promise.{CheckerSound, AsBefore}
 use Rattle.text.proofs.Tests.{Test, test, Same, same?, and_both, clash, holds, fails, same, other}

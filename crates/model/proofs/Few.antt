@@ -10,7 +10,7 @@ use lib.ListN.{length, get_or, set}
 use lib.Seq.{get_or-set_same, get_or-set_other}
 use Rattle.model.specs.Graph.{edge, edge_depth, accepting_count}
 use Rattle.model.specs.Case.{Case, owner, most_acts, Sound}
-use Rattle.model.specs.Run.{State, is_some, ended_lasso, has_ended, fresh, with_queues, emptied, takes, member, enqueue, relax, send, scan, no_vertex, no_message, depth_or, turn, delivery, by_list}
+use Rattle.model.specs.Run.{State, is_some, ended_lasso, has_ended, fresh, with_queues, emptied, takes, member, enqueue, relax, send, scan, no_vertex, no_message, depth_or, by_list}
 use Rattle.text.proofs.Tests.{Test, test, Same, same?, or_left, or_right, holds, fails, same, other}
 use Rattle.model.proofs.Tools.{sum, sum_le, sum_lt, sum_bound, sum_has, none_of, some_of, once_head, member_later, member_first, getD_replicate_same, no_queue, no_queues, no_cells, snoc_in}
 use Rattle.model.proofs.Steps.{relax_cases, scan_keeps, Acts, acted_keeps}

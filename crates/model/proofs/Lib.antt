@@ -1,5 +1,6 @@
 -- Proofs about the definitions, by topic: laws over plain lists first, the promises last.
 pub mod Tools
+pub mod RefusalNumbers
 pub mod Bits
 pub mod Pairs
 pub mod Pigeon

@@ -11,14 +11,14 @@ use lib.ListN.{length, get_or, set}
 use lib.Seq.{get_or-set_same, get_or-set_other}
 use Rattle.model.specs.Graph.{edge, edge_depth}
 use Rattle.model.specs.Case.{Case, owner, Sound}
-use Rattle.model.specs.Run.{Tallies, State, is_some, fresh, with_queues, with_cells, emptied, takes, member, taken, relax, lower, send, scan, no_vertex, no_message, counted, depth_or, turn, delivery, by_list}
+use Rattle.model.specs.Run.{Tallies, State, is_some, fresh, with_queues, with_cells, emptied, takes, member, taken, relax, lower, send, scan, no_vertex, no_message, counted, depth_or, by_list}
 use Rattle.text.proofs.Tests.{Same, same?, and_both, clash, same, other}
 use Rattle.model.proofs.Tools.{some_not_none, member_first, no_queue, no_cell, member_end, member_before, some_inj, member_rest}
 use Rattle.model.proofs.Walks.{Relaxed}
 use Rattle.model.proofs.Steps.{relax_cases, scan_keeps, Acts, acted_keeps}
 use Rattle.model.proofs.Shapes.{Shape, enqueue_cases, not_broken, shape_relax, shape_cell, shape_queue, cell_in, head_depth, fresh_depth, source_queued, sent_in, file_in}
 use Rattle.model.proofs.Few.{waiting, Paid}
-use Rattle.model.proofs.Walked.{lower_offer, lower_old, takes_not, to_owned, taken_at, taken_other, taken_deeper, Walked, walked_relax, walked_cell, walked_queue, walked_counted, walked_scan, walked_fresh, walked}
+use Rattle.model.proofs.Walked.{lower_offer, lower_old, takes_not, to_owned, taken_at, taken_other, taken_deeper, Walked, walked_relax, walked_cell, walked_queue, walked_counted, walked_scan, walked_fresh}
 
 pub data Settled (c : Case) (x : State) (f du : ℕ) : Type 0 where
   later : waiting c x (edge c.graph f).from ≡ true → Settled c x f du

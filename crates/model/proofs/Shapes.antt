@@ -13,7 +13,6 @@ use lib.Seq.{get_or-set_same, get_or-set_other}
 use Rattle.model.specs.Graph.{edge, accepting_count}
 use Rattle.model.specs.Case.{Case, owner, Sound}
 use Rattle.model.specs.Run.{Tallies, State, is_some, ended_lasso, has_ended, fresh, with_queues, with_cells, member, enqueue, below_floor, relax, counted, depth_or}
-use Rattle.model.specs.Passing.{above}
 use Rattle.text.proofs.Tests.{Test, test, Same, same?, or_false, clash, holds, fails, same, other}
 use Rattle.model.proofs.Tools.{Once, once_snoc, some_not_none, none_of, once_tail, member_later, member_first, getD_replicate_same, set_some, some_inj, snoc_in, some_after}
 use Rattle.model.proofs.Steps.{relax_cases}

@@ -14,7 +14,6 @@ use Rattle.model.specs.Graph.{Graph, edge, is_walk, walk_end, Reaches, Lex, Fewe
 use Rattle.model.specs.Case.{Case, Sound}
 use Rattle.model.specs.Run.{member}
 use Rattle.model.specs.Answer.{with_edge, or_walk, walk_of, walk_or, stem_from, stem}
-use Rattle.model.specs.KeptRuns.{comes}
 use Rattle.text.proofs.Tests.{Test, test, Same, same?, clash, holds, fails, same, other}
 use Rattle.model.proofs.Tools.{Once, once_tail, snoc_in}
 use Rattle.model.proofs.Pigeon.{pigeon}

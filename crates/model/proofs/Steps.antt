@@ -12,7 +12,6 @@ use lib.ListN.{length, get_or, set}
 use Rattle.model.specs.Graph.{edge, edge_depth}
 use Rattle.model.specs.Case.{Case, owner}
 use Rattle.model.specs.Run.{State, is_some, ended_lasso, has_ended, with_queues, emptied, takes, taken, relax, send, scan_edge, scan_from, scan, counted, depth_or, turn_of, turn, delivery_of, delivery, act, acted}
-use Rattle.text.proofs.Tests.{other}
 
 -- a try: the offer is not taken, or it is
 pub relax_cases : (P : State → Type 0) (c : Case) (e d : ℕ) (x : State) → (takes (get_or x.depths (edge c.graph e).to none) d ≡ false → P x) →

@@ -13,7 +13,7 @@ use lib.ListN.{length, get_or, set}
 use lib.Seq.{get_or-set_same, get_or-set_other}
 use Rattle.model.specs.Graph.{Graph, edge, edge_depth, accepting_count}
 use Rattle.model.specs.Case.{Case, Sound}
-use Rattle.model.specs.Run.{Tallies, State, fresh, with_queues, with_cells, emptied, takes, below_floor, taken, relax, send, scan, counted, depth_or, turn, delivery, by_list}
+use Rattle.model.specs.Run.{Tallies, State, fresh, with_queues, with_cells, emptied, takes, below_floor, taken, relax, send, scan, counted, depth_or, by_list}
 use Rattle.text.proofs.Tests.{Same, same?, same, other}
 use Rattle.model.proofs.Tools.{some_not_none, getD_replicate_same, set_some, some_inj}
 use Rattle.model.proofs.Steps.{relax_cases, scan_keeps, Acts, acted_keeps}

@@ -11,7 +11,7 @@ use lib.ListN.{length, get_or, set}
 use lib.Seq.{get_or-set_same, get_or-set_other}
 use Rattle.model.specs.Graph.{edge, edge_depth, is_walk, walk_end, walk_depth}
 use Rattle.model.specs.Case.{Case, owner, Sound}
-use Rattle.model.specs.Run.{Tallies, State, is_some, fresh, with_queues, with_cells, takes, taken, relax, lower, send, scan, counted, turn, delivery, by_list}
+use Rattle.model.specs.Run.{Tallies, State, is_some, fresh, with_queues, with_cells, takes, taken, relax, lower, send, scan, counted, by_list}
 use Rattle.text.proofs.Tests.{Same, same?, clash, same, other}
 use Rattle.model.proofs.Tools.{some_not_none, is_some_of, getD_replicate_same, set_some, some_inj, some_after}
 use Rattle.model.proofs.Walks.{Walk, walk_on}

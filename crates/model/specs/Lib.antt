@@ -1,4 +1,5 @@
 -- What a reader must believe, in reading order.
+pub mod Refusals
 pub mod Graph
 pub mod Case
 pub mod CaseFile

@@ -1,6 +1,12 @@
 // What the entries return. All else of this crate is definitions (specs/) and their proofs (proofs/).
 #![tactic(auto)]
 
+mod refusal;
+mod verdict;
+
+pub use refusal::Refusal;
+pub use verdict::Verdict;
+
 // Of a run: refusal 0 or its number; the verdict; the acts counted; the answer's length; the offers put into message
 // cells, the messages delivered, the offers that joined a waiting message.
 #[repr(C)]
