@@ -1,22 +1,21 @@
 -- Whole: lines 1 to 3, then the blocks: what the judge answers at each fault, and the case where there is none.
 -- Assumes nothing.
 use mathlib.Core.Path.{◌≡◌, refl, sym, ap, ◌∙◌}
-use mathlib.Core.Bool.{Bool, true, false, ◌&&◌, not, cond, and-false}
+use mathlib.Core.Bool.{Bool, true, false, ◌&&◌, ◌||◌, not, cond, and-false}
 use mathlib.Core.List.{List, [], ◌∷◌}
 use mathlib.Core.Option.{none}
 use Prim.Native.Nat.{ℕ, suc, ◌+◌, ◌-◌, ◌≤◌, ◌<◌}
 use native.Mathlib.Omega.{arith}
 use lib.Dec.{ltb, leb, eqb}
 use lib.ListN.{length, drop, length-drop}
-use borrow.Author.Tests.{eqb-true, eqb-false, ltb-true, ltb-false, lt-ltb, le-ltb, le-leb, lt-leb, ne_eqb}
-use Rattle.std.specs.Prelude.{Result, Ok, Err}
+use borrow.Author.Tests.{eqb-true, eqb-false, lt-ltb, le-ltb, ne_eqb}
+use Rattle.std.proofs.lemmas.Bool.Decides.{nat_tests}
+use Rattle.std.specs.Prelude.{Option, Some, None, Result, Ok, Err}
 use Rattle.text.specs.Lines.{Line, lines, line_at, line_is, field}
-use Rattle.text.specs.Numbers.{numbers_line, number_at}
+use Rattle.text.specs.Numbers.{is_number, value, numbers_line, number_at}
 use Rattle.text.specs.Reading.{line_here, past_line, field_here, number_in, skip}
-use Rattle.text.specs.declared.read.Number.{Number}
-use Rattle.text.specs.declared.read.Number.TheVariants.{Is, Not}
-use Rattle.text.proofs.Reading.{Row, NoRow, no_lines, some_lines, LineNamed, number_is, number_not}
-use Rattle.text.proofs.Tests.{Test, test, holds, fails, both_true}
+use Rattle.text.proofs.Reading.{Row, NoRow, no_lines, some_lines, LineNamed}
+use Rattle.text.proofs.Tests.{both_true}
 use Rattle.model.specs.Case.{most_vertices, most_edges, most_workers, longest_file, known_version}
 use Rattle.model.specs.CaseFile.{refuse, first_of, head_names, vertex_names, edge_names, begins_version, other_version, counts_good, vertices_refusal, edges_refusal, case_refusal, accepted, case_in}
 use Rattle.model.specs.Refusals.{number, refusal_of}
@@ -302,27 +301,18 @@ module _ {s : List ℕ} {n m u p rows : ℕ} (h : Headed s n m u p rows) where
 version_field : (s w : List ℕ) → w ≡ field_here s (past_line s 0) → w ≡ field (line_at (lines s) 1) 0
 version_field s w e = e ∙ ap (λ (l : Line). field l 0) (rw (← skip_one s 0) (skip_line 1 s 0))
 
-newer : (k v : ℕ) → not (leb v k) ≡ ltb k v
-newer k v = go (test (ltb k v))
+-- whether a number is that of a version that is not known
+abbrev pub unknown : (newest : ℕ) → Option ℕ → Bool
+unknown k None = false
+unknown k (Some v) = ltb v 1 || ltb k v
+
+pub version_says : (k : ℕ) (s w : List ℕ) → w ≡ field_here s (past_line s 0) → unknown k (number_in w) ≡ other_version k (lines s)
+unfolding other_version number_in
+version_says k s w e = rw (← version_field s w e) (go (is_number w) (value w))
   where
-    go : Test (ltb k v) → not (leb v k) ≡ ltb k v
-    go (holds h) = rw (h, lt-leb v k (ltb-true k v h)) refl
-    go (fails h) = rw (h, le-leb v k (ltb-false k v h)) refl
-
-module _ (k : ℕ) (s w : List ℕ) (e : w ≡ field_here s (past_line s 0)) {r : Number} (f : r ≡ number_in w) where
-  pub version_none : r ≡ Not → false ≡ other_version k (lines s)
-  unfolding other_version
-  version_none g = rw (← version_field s w e, number_not w f g) refl
-
-  version_some : {v : ℕ} → r ≡ Is v → not (leb 1 v && leb v k) ≡ other_version k (lines s)
-  unfolding other_version
-  version_some g = let n = number_is w f g in rw (← version_field s w e, n.0, n.1) refl
-
-  pub version_zero : {v : ℕ} → r ≡ Is v → v < 1 → ltb v 1 ≡ other_version k (lines s)
-  version_zero {v} g h = lt-ltb v 1 h ∙ (rw (lt-leb 1 v h) at (version_some g))
-
-  pub version_newer : {v : ℕ} → r ≡ Is v → 1 ≤ v → ltb k v ≡ other_version k (lines s)
-  version_newer {v} g h = rw (le-leb 1 v h, newer k v) at (version_some g)
+    go : (b : Bool) (v : ℕ) → unknown k (cond b (Some v) None) ≡ (b && not (leb 1 v && leb v k))
+    go true v = grind (arith, nat_tests)
+    go false v = refl
 
 -- THE JUDGE'S ANSWER gives the case, or the refusal, whose number is the text's
 pub refused_number : (s : List ℕ) → (case_refusal s ≡ 0 → ⊥) → number (refusal_of (case_refusal s)) ≡ case_refusal s

@@ -10,9 +10,7 @@ ghost use Rattle.casefile.specs.Judging.{counts_in_range, edge_before, head_says
 ghost use Rattle.casefile.specs.Tables.{BlockRead, CaseRead, SameTables};
 
 use model::Refusal;
-use text::read::{
-    Named, Number, Row2, Row3, Row5, begins_at, name_line, number_in, row_of_2, row_of_3, row_of_5,
-};
+use text::read::{begins_at, name_line, number_in, numbers_row};
 use text::reader::second_line_field;
 
 // The counts of an accepted case.
@@ -63,10 +61,7 @@ pub struct CaseTables<'a> {
 pub fn other_version(text: &[u8], newest: u32) -> bool
     ensures { result ≡ other_version newest (lines text.now) }
 {
-    match number_in(second_line_field(text)) {
-        Number::Not => false,
-        Number::Is(v) => v < 1 || newest < v,
-    }
+    number_in(second_line_field(text)).is_some_and(|v| v < 1 || newest < v)
 }
 
 // Whether the counts and the source are in range.
@@ -93,12 +88,11 @@ fn read_head(text: &[u8]) -> Result<(Case, usize), Refusal>
     if other_version(text, Case::VERSION) {
         return Err(Refusal::OtherVersion);
     }
-    let Named::Past(second) = name_line(text, 0, b"version vertices edges source workers") else {
-        return Err(Refusal::CaseLayout);
-    };
-    let Row5::Read(_, vertices, edges, source, workers, third) = row_of_5(text, second) else {
-        return Err(Refusal::CaseLayout);
-    };
+    let second = name_line(text, 0, b"version vertices edges source workers").ok_or(
+        Refusal::CaseLayout,
+    )?;
+    let row = numbers_row::<5>(text, second).ok_or(Refusal::CaseLayout)?;
+    let [_, vertices, edges, source, workers] = row.numbers;
     let case = Case {
         vertices: vertices as usize,
         edges: edges as usize,
@@ -108,9 +102,7 @@ fn read_head(text: &[u8]) -> Result<(Case, usize), Refusal>
     if !in_range(case) {
         return Err(Refusal::OutOfRange);
     }
-    let Named::Past(rows) = name_line(text, third, b"vertex accepting owner") else {
-        return Err(Refusal::CaseLayout);
-    };
+    let rows = name_line(text, row.next, b"vertex accepting owner").ok_or(Refusal::CaseLayout)?;
     Ok((case, rows))
 }
 
@@ -142,15 +134,14 @@ fn vertex_block(
 {
     let mut here = at;
     for v in 0..case.vertices {
-        let Row3::Read(vertex, mark, owner, next) = row_of_3(text, here) else {
-            return Err(Refusal::CaseLayout);
-        };
+        let row = numbers_row::<3>(text, here).ok_or(Refusal::CaseLayout)?;
+        let [vertex, mark, owner] = row.numbers;
         if !vertex_right(v, case.workers, vertex, mark, owner) {
             return Err(Refusal::VertexLine);
         }
         put(marks, v, mark);
         put(owners, v, owner);
-        here = next;
+        here = row.next;
     }
     Ok(here)
 }
@@ -176,9 +167,8 @@ fn edge_block(
     let mut here = at;
     let mut before = None;
     for e in 0..case.edges {
-        let Row2::Read(from, to, next) = row_of_2(text, here) else {
-            return Err(Refusal::CaseLayout);
-        };
+        let row = numbers_row::<2>(text, here).ok_or(Refusal::CaseLayout)?;
+        let [from, to] = row.numbers;
         if case.vertices <= from as usize || case.vertices <= to as usize {
             return Err(Refusal::EdgeEnd);
         }
@@ -188,7 +178,7 @@ fn edge_block(
         put(froms, e, from);
         put(tos, e, to);
         before = Some((from, to));
-        here = next;
+        here = row.next;
     }
     Ok(here)
 }
@@ -200,9 +190,7 @@ pub fn read_case(text: &[u8], tables: &mut CaseTables) -> Result<Case, Refusal>
 {
     let (case, rows) = read_head(text)?;
     let names = vertex_block(text, rows, case, tables.marks, tables.owners)?;
-    let Named::Past(edge_rows) = name_line(text, names, b"from to") else {
-        return Err(Refusal::CaseLayout);
-    };
+    let edge_rows = name_line(text, names, b"from to").ok_or(Refusal::CaseLayout)?;
     let end = edge_block(text, edge_rows, case, tables.froms, tables.tos)?;
     if end < text.len() {
         return Err(Refusal::CaseLayout);
