@@ -1,7 +1,7 @@
 -- Blocks: vertex lines and edge lines read one by one. What is left to read decides as the whole block does. Assumes
 -- nothing.
 use mathlib.Core.Path.{◌≡◌, refl, sym, ap, ◌∙◌}
-use mathlib.Core.Bool.{Bool, true, false, ◌&&◌, ◌||◌, not, cond}
+use mathlib.Core.Bool.{Bool, true, false, ◌&&◌, not, cond}
 use mathlib.Core.List.{List, [], ◌∷◌}
 use mathlib.Core.Option as maths
 use mathlib.Core.Option.{none, some}

@@ -16,7 +16,7 @@ use Rattle.text.specs.Numbers.{is_number, value, numbers_line, number_at}
 use Rattle.text.specs.Reading.{line_here, past_line, field_here, number_in, skip}
 use Rattle.text.proofs.Reading.{Row, NoRow, no_lines, some_lines, LineNamed}
 use Rattle.text.proofs.Tests.{both_true}
-use Rattle.model.specs.Case.{most_vertices, most_edges, most_workers, longest_file, known_version}
+use Rattle.model.specs.Case.{longest_file, known_version}
 use Rattle.model.specs.CaseFile.{refuse, first_of, head_names, vertex_names, edge_names, begins_version, other_version, counts_good, vertices_refusal, edges_refusal, case_refusal, accepted, case_in}
 use Rattle.model.specs.Refusals.{number, refusal_of}
 use Rattle.model.specs.declared.refusal.Refusal.{Refusal}
