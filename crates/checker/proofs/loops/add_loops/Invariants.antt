@@ -1,7 +1,7 @@
 -- `checker::loops::add_loops`: the loops of the vertices before v stand behind the edges, and those of the others are to come.
 use mathlib.Core.Path.{◌≡◌}
 use mathlib.Core.List.{List}
-use Prim.Native.Nat.{◌+◌, ◌-◌, ◌≤◌}
+use Prim.Native.Nat.{◌+◌, ◌≤◌}
 use lib.ListN.{length}
 use Rattle.model.specs.Graph.{Edge}
 use Rattle.checker.specs.Checking.{Ends}

@@ -1,6 +1,5 @@
 -- `checker::walk::check_lasso`: the names, two walks, the end, then the rule.
-use native.Mathlib.Omega.{arith}
-use mathlib.Core.Path.{refl, sym, ◌∙◌}
+use mathlib.Core.Path.{refl}
 use Rattle.text.proofs.Tests.{refuted, upheld}
 use Rattle.text.proofs.Reading.{named_read, named_other}
 use Rattle.model.specs.Answer.{lasso_names}
