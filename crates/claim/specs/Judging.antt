@@ -1,6 +1,6 @@
 -- What the reader of a claim answers: 02's number for a refusal, or the claim's counts; and what the cells then hold.
 -- Assumes nothing: these are definitions.
-use Rattle.std.specs.Prelude.{◌≡◌, false, cond, List, [], ◌∷◌, ℕ, ◌+◌, ◌<◌, ◌≤◌, eqb, length, get_or, replicate, Result, Ok, Err}
+use Rattle.std.specs.Prelude.{◌≡◌, false, cond, List, [], ◌∷◌, ℕ, ◌<◌, ◌≤◌, eqb, length, get_or, replicate, Result, Ok, Err}
 use Rattle.text.specs.Ascii.{ascii}
 use Rattle.model.specs.ClaimTokens as T
 use Rattle.model.specs.ClaimTokens.{opens_so}
@@ -58,7 +58,3 @@ pub record ClaimRead (bs : List ℕ) (r : Result Counts Refusal) (cells cells_no
   pub held : claim_cells ≤ length cells → ClaimHeld bs (claim_in bs) cells_now
   pub rest : (i : ℕ) → claim_cells ≤ i → get_or cells_now i 0 ≡ 0
   pub short : length cells < claim_cells → cells_now ≡ replicate (length cells) 0
-
--- a part of the cells, cell by cell
-pub record Copied (cells : List ℕ) (at : ℕ) (part : List ℕ) : Type 0 where
-  pub same : (i : ℕ) → i < length part → get_or part i 0 ≡ get_or cells (at + i) 0
