@@ -4,12 +4,11 @@ use mathlib.Core.Bool.{Bool, true, false, ◌||◌}
 use mathlib.Core.List.{List, [], ◌∷◌}
 use Prim.Native.Nat.{ℕ, zero, suc, ◌+◌, ◌≤◌, ◌<◌}
 use native.Mathlib.Omega.{arith}
-use native.Mathlib.Numerals.{add-one}
 use lib.Dec.{ltb, leb}
-use lib.ListN.{length, get_or, take, drop, replicate, drop_of_length-le}
-use lib.Seq.{drop-cons}
+use lib.ListN.{length, get_or, take, replicate}
 use lib.IntN.{ℤ, pos}
-use borrow.Author.Tests.{eqb-true, lt-ltb, le-ltb, le-leb, lt-leb, leb-false}
+use borrow.Author.Tests.{eqb-true, leb-false}
+use Rattle.std.specs.List.{list_any}
 use Rattle.text.proofs.Tests.{or_false}
 use Rattle.model.specs.Case as model
 use Rattle.model.specs.Graph.{rested, accepting_count}
@@ -39,22 +38,11 @@ use Rattle.search.specs.declared.Loaded.TheVariants.{Refused as NotLoaded, Laid 
 use Rattle.search.proofs.Loads.{sound_in, within_in, whole_in, from_rises, load_asks, load_filed, load_counts}
 use Rattle.search.specs.declared.run.Run.{Run}
 
--- ACTS IN RANGE: none so far is at or above the limit
-pub any_start : (l : ℕ) (xs : List ℕ) → any_at_or_above l (drop 0 xs) ≡ any_at_or_above l xs
-any_start l xs = refl
-
-any_step : (l : ℕ) (xs : List ℕ) (i : ℕ) → i < length xs → any_at_or_above l (drop i xs) ≡ (leb l (get_or xs i 0) || any_at_or_above l (drop (i + 1) xs))
-any_step l xs i h = rw (add-one i, drop-cons xs i 0 h) (unfold any_at_or_above in refl)
-
-module _ (l : ℕ) (xs : List ℕ) (i : ℕ) (so_far : any_at_or_above l (drop i xs) ≡ any_at_or_above l xs) where
-  pub any_found : i < length xs → l ≤ get_or xs i 0 → true ≡ any_at_or_above l xs
-  any_found h g = sym (sym so_far ∙ any_step l xs i h ∙ (rw (le-leb l (get_or xs i 0) g) refl))
-
-  pub any_more : i < length xs → get_or xs i 0 < l → any_at_or_above l (drop (i + 1) xs) ≡ any_at_or_above l xs
-  any_more h g = sym (sym so_far ∙ any_step l xs i h ∙ (rw (lt-leb l (get_or xs i 0) g) refl))
-
-  pub any_end : length xs ≤ i → false ≡ any_at_or_above l xs
-  any_end h = sym (sym so_far ∙ (rw (drop_of_length-le xs h) (unfold any_at_or_above in refl)))
+-- ACTS IN RANGE
+pub any_listed : (l : ℕ) (xs : List ℕ) → any_at_or_above l xs ≡ list_any (leb l) xs
+unfolding any_at_or_above
+any_listed l [] = refl
+any_listed l (x ∷ xs) = ap (λ (b : Bool). leb l x || b) (any_listed l xs)
 
 all_below : (l : ℕ) (xs : List ℕ) → any_at_or_above l xs ≡ false → (i : ℕ) → i < length xs → get_or xs i 0 < l
 unfolding any_at_or_above
@@ -70,12 +58,6 @@ buffers_enough o w e =
   where
     ltb_at_least : (a b : ℕ) → ltb a b ≡ false → b ≤ a
     ltb_at_least a b h = borrow.Author.Tests.ltb-false a b h
-
-pub short_output : (o w : ℕ) → o < least_output → true ≡ (ltb o least_output || ltb w least_work)
-short_output o w h = sym (rw (lt-ltb o least_output h) refl)
-
-pub long_output : (o w : ℕ) → least_output ≤ o → ltb w least_work ≡ (ltb o least_output || ltb w least_work)
-long_output o w h = sym (rw (le-ltb o least_output h) refl)
 
 buffers_short : (o w : ℕ) → (ltb o least_output || ltb w least_work) ≡ true → buffer_refusal o w ≡ 11
 unfolding buffer_refusal refuse

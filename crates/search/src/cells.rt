@@ -109,11 +109,7 @@ pub(crate) fn fill(work: &mut [i32], at: usize, count: usize, z: i32)
     requires { at + count ≤ length work.old }
     ensures { Filled at count z work.old work.new }
 {
-    let mut i: usize = 0;
-    while i < count {
-        work[at + i] = z;
-        i += 1;
-    }
+    work[at..at + count].fill(z);
 }
 
 // The same of a number that fits a cell.
@@ -128,9 +124,5 @@ pub(crate) fn fill_number(work: &mut [i32], at: usize, count: usize, v: usize)
 pub(crate) fn clear(work: &mut [i32])
     ensures { work.new ≡ zeros work.old }
 {
-    let mut i: usize = 0;
-    while i < work.len() {
-        work[i] = 0;
-        i += 1;
-    }
+    work.fill(0);
 }

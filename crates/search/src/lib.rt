@@ -43,25 +43,14 @@ fn refused(k: u32) -> Outcome
 fn too_short(output: usize, work: usize) -> bool
     ensures { result ≡ (ltb output least_output || ltb work least_work) }
 {
-    if output < Case::LEAST_OUTPUT {
-        return true;
-    }
-    work < Case::LEAST_WORK
+    output < Case::LEAST_OUTPUT || work < Case::LEAST_WORK
 }
 
 // Whether an act is at or above the limit.
 fn out_of_range(acts: &[u32], limit: usize) -> bool
     ensures { result ≡ any_at_or_above limit acts.now }
 {
-    let mut i: usize = 0;
-    while i < acts.len() {
-        let a = acts[i] as usize;
-        if limit <= a {
-            return true;
-        }
-        i += 1;
-    }
-    false
+    acts.iter().any(|a| limit <= *a as usize)
 }
 
 // What came of loading: the refusal, with the cells as they were; or the case, which stands in the cells with its rest loops,

@@ -186,14 +186,12 @@ pub(crate) fn scan(work: &mut [i32], run: Run, v: usize, d: i32) -> Run
     let offer = offered(work, v, d);
     let edges = edges_of(work, v);
     let end = edges.end;
-    let mut e = edges.first;
     let mut r = run;
-    while e < end {
+    for e in edges.first..end {
         if r.broken != NONE {
             return r;
         }
         r = scan_edge(work, r, e, own, offer);
-        e += 1;
     }
     r
 }
@@ -279,11 +277,8 @@ pub(crate) fn act_list(work: &mut [i32], run: Run, acts: &[u32], p: usize) -> Ru
     ensures { ListDone p acts.now run result work.old work.new }
 {
     let mut r = run;
-    let mut i: usize = 0;
-    while i < acts.len() {
-        let a = acts[i] as usize;
-        r = act(work, r, a, p);
-        i += 1;
+    for a in acts {
+        r = act(work, r, *a as usize, p);
     }
     r
 }

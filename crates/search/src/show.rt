@@ -35,10 +35,8 @@ pub(crate) fn go_back(work: &[i32], v: usize, n: usize) -> usize
     ensures { Backed v n result work.now }
 {
     let mut u = v;
-    let mut left = n;
-    while left > 0 {
+    for _ in 0..n {
         u = one_back(work, u);
-        left -= 1;
     }
     u
 }
@@ -51,15 +49,13 @@ pub(crate) fn take_cycle(work: &mut [i32], start: usize, n: usize) -> usize
 {
     let mut at: usize = Cells::CYCLE + Case::MOST_VERTICES;
     let mut v = start;
-    let mut left = n;
-    while left > 0 {
+    for _ in 0..n {
         let e = parent_edge(work, v);
         at -= 1;
         store_number(work, at, e);
         v = one_back(work, v);
-        left -= 1;
         if v == start {
-            left = 0;
+            return at;
         }
     }
     at
@@ -88,11 +84,9 @@ pub(crate) fn scan_head(work: &mut [i32], head: usize, tail: usize) -> usize
     let v = load_below(work, Cells::QUEUE + head, Case::MOST_VERTICES);
     let edges = edges_of(work, v);
     let end = edges.end;
-    let mut e = edges.first;
     let mut last = tail;
-    while e < end {
+    for e in edges.first..end {
         last = try_edge(work, e, last);
-        e += 1;
     }
     last
 }

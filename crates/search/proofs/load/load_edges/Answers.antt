@@ -2,7 +2,7 @@
 use native.Mathlib.Omega.{arith}
 use Prim.Native.Nat.{◌<◌}
 use lib.ListN.{get_or}
-use Rattle.model.specs.Case.{most_vertices, most_edges}
+use Rattle.model.specs.Case.{most_vertices}
 use Rattle.search.proofs.Loads.{pairs_start, pairs_end, pair_asks, pairs_step}
 use Rattle.search.proofs.load.load_edges.Goals as goal
 
@@ -28,14 +28,6 @@ pub load_edge-next-requires : goal.load_edge-next-requires
 load_edge-next-requires c =
     let s = c.requires in
     pair_asks c.loop-e.invariant s c.loop-e-test.true
-
-pub overflow_add-e : goal.overflow_add-e
-overflow_add-e c =
-    let few : c.loop-e.e < most_edges = omega (arith, c.loop-e-test.true, c.requires.many) in
-    omega (arith, few)
-
-pub loop-e-smaller : goal.loop-e-smaller
-loop-e-smaller c = omega (arith, c.loop-e-test.true)
 
 pub loop-e-preserved : goal.loop-e-preserved
 loop-e-preserved c =

@@ -76,12 +76,6 @@ scan_edge-r-requires c =
       room = record { sent = omega (arith, c.loop-e.invariant.4.sent, test); joined = omega (arith, c.loop-e.invariant.4.joined, test) };
     }
 
-pub overflow_add-e : goal.overflow_add-e
-overflow_add-e c = omega (arith, c.loop-e-test.true)
-
-pub loop-e-smaller : goal.loop-e-smaller
-loop-e-smaller c = omega (arith, c.loop-e-test.true)
-
 pub loop-e-preserved : goal.loop-e-preserved
 unfolding EdgeSays RangeSays OfferedIs
 loop-e-preserved c =
