@@ -28,7 +28,7 @@ use Rattle.search.specs.Asks.{none_waits, Inserted, Among, Listed, Only, TurnsLe
 use Rattle.search.proofs.Regions.{same_or, below_or}
 use Rattle.search.proofs.Inserts.{among_new, among_old, listed_more, each_more}
 use Rattle.search.proofs.Queues.{link_one, all_empty, one_more}
-use Rattle.search.proofs.Acts.{none_full, broken_none, nothing_left, link_split, link_two, turn_none, turn_is, delivery_none, delivery_some, act_turn, act_delivery, delivery_act}
+use Rattle.search.proofs.Acts.{none_full, nothing_left, link_split, link_two, turn_none, turn_is, delivery_none, delivery_some, act_turn, act_delivery, delivery_act}
 
 -- ACTS BY NUMBER
 step_range : (c : Case) (k i : ℕ) (x : State) → acted c (range (suc k) i) x ≡ acted c (range k (suc i)) (act c i x)
@@ -489,11 +489,11 @@ module _ (c : Case) (x : State) (many : ℕ) where
   pub left_start : (k : Run) (w : List ℤ) → Rep c x k w → Moment c x → no_message x.cells ≡ true → Left c x many (many - 0) k w
   left_start k w rep p e = record { at = x; rep = rep; moment = p; empty = λ _. e; rest = rw sub-zero refl }
 
-  pub left_empty : (left : ℕ) (k : Run) (w : List ℤ) → (u : Left c x many left k w) → k.broken ≡ 0 → no_message u.at.cells ≡ true
-  left_empty left k w u z = go (has_ended u.at) refl
+  pub left_empty : (left : ℕ) (k : Run) (w : List ℤ) → (u : Left c x many left k w) → u.at.broken ≡ none → no_message u.at.cells ≡ true
+  left_empty left k w u whole = go (has_ended u.at) refl
     where
       go : (b : Bool) → has_ended u.at ≡ b → no_message u.at.cells ≡ true
-      go true o = (nothing_left c u.at u.rep.held.laid.sound u.moment (broken_none u.rep z) o).cells
+      go true o = (nothing_left c u.at u.rep.held.laid.sound u.moment whole o).cells
       go false o = u.empty o
 
   pub left_step : (left next : ℕ) (k k' : Run) (w w' : List ℤ) → (u : Left c x many left k w) → left ≡ suc next → Rep c (acted c (round_acts c) u.at) k' w' → Left c x many next k' w'

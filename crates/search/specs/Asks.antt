@@ -1,6 +1,6 @@
 -- What the functions over a run ask and say: each asks that the cells hold some run, and speaks of every run that they
 -- hold. Assumes nothing: these are definitions.
-use Rattle.std.specs.Prelude.{◌≡◌, Bool, true, false, List, [], ◌∷◌, ℕ, ◌+◌, ◌-◌, ◌≤◌, ◌<◌, ◌^◌, eqb, length, get_or, set, replicate, ℤ, pos, neg_ℤ}
+use Rattle.std.specs.Prelude.{◌≡◌, Bool, true, false, List, [], ◌∷◌, ℕ, ◌+◌, ◌-◌, ◌≤◌, ◌<◌, ◌^◌, eqb, length, get_or, set, replicate, ℤ, pos, neg_ℤ, None}
 use Rattle.std.proofs.Math.Option.{Option, none, some}
 use Rattle.model.specs.Graph.{Graph, edge, mark, edge_depth, edge_length, accepting_count}
 use Rattle.model.specs.Case.{Case, owner, most_vertices}
@@ -187,7 +187,7 @@ blank c =
     }
 
 abbrev pub blank_run : (marks : ℕ) → Run
-blank_run a = record { turns = 0; sent = 0; delivered = 0; joined = 0; marks = a; broken = 0 }
+blank_run a = record { turns = 0; sent = 0; delivered = 0; joined = 0; marks = a; broken = None }
 
 unfoldable pub BlankSays : (w w' : List ℤ) → Type 0
 BlankSays w w' = (c : Case) → Laid c w → Rep c (blank c) (blank_run (accepting_count c.graph)) w'

@@ -51,7 +51,7 @@ impl Cells {
 // every one that is.
 pub(crate) const NO_DISTANCE: i32 = 1;
 
-// A parent edge, and the vertex that broke the floor: NONE, or its number and SOME.
+// A parent edge: NONE, or its number and SOME.
 pub(crate) const NONE: usize = 0;
 
 pub(crate) const SOME: usize = 1;

@@ -3,7 +3,7 @@
 ghost use Rattle.std.specs.Prelude.{◌<◌, length};
 ghost use Rattle.search.specs.Asks.{Inserted, TurnsAsk, TurnsSay, EdgesAsk, EdgesSay, SweepAsks, SweepSays, RoundSays, RoundsAsk, RoundsDone, ByRoundsAsks, ByRoundsSays};
 
-use super::cells::{Cells, NONE, QUEUE_END, QUEUED, load_below};
+use super::cells::{Cells, QUEUE_END, QUEUED, load_below};
 use super::run::{Run, act, deliver, none_full};
 use casefile::Case;
 
@@ -61,7 +61,7 @@ pub(crate) fn deliver_edges(work: &mut [i32], run: Run, v: usize, p: usize) -> R
     let first = load_below(work, Cells::FIRST + v, Case::MOST_EDGES + 1);
     let mut r = run;
     for e in first..end {
-        if r.broken != NONE {
+        if r.broken.is_some() {
             return r;
         }
         r = deliver(work, r, e);
@@ -107,7 +107,7 @@ pub(crate) fn rounds(work: &mut [i32], run: Run, many: usize, p: usize) -> Run
     let mut heads = [0usize; Case::MOST_WORKERS];
     let mut r = run;
     for _ in 0..many {
-        if r.broken != NONE {
+        if r.broken.is_some() {
             return r;
         }
         let done = round(work, r, p, &mut heads);

@@ -15,9 +15,9 @@ use super::queue::{none_queued, pop, push};
 use casefile::Case;
 
 // What a run counts: turns of a worker that had a vertex; offers put into cells, messages delivered, offers that joined a
-// waiting message; accepting vertices; and the vertex that broke the floor (NONE, or its number and SOME). Each act hands
-// it on, so what these and the cells tell has no counter: acts are turns and deliveries, the tallies tell how many cells
-// have a message (`none_full`), and a run has ended as "empty" when nothing waits (`is_over`).
+// waiting message; accepting vertices; and the vertex that broke the floor. Each act hands it on, so what these and the
+// cells tell has no counter: acts are turns and deliveries, the tallies tell how many cells have a message (`none_full`),
+// and a run has ended as "empty" when nothing waits (`is_over`).
 #[derive(Clone, Copy)]
 pub(crate) struct Run {
     pub turns: u64,
@@ -25,7 +25,7 @@ pub(crate) struct Run {
     pub delivered: u32,
     pub joined: u32,
     pub marks: u32,
-    pub broken: usize,
+    pub broken: Option<usize>,
 }
 
 impl Run {
@@ -44,7 +44,7 @@ impl Run {
             delivered: 0,
             joined: 0,
             marks: marks as u32,
-            broken: NONE,
+            broken: None,
         }
     }
 }
@@ -148,7 +148,7 @@ pub(crate) fn relax(work: &mut [i32], run: Run, e: usize, d: i32) -> Run
         push(work, v);
         let mut r = run;
         if below_floor(d, run.marks as usize) {
-            r.broken = v + SOME;
+            r.broken = Some(v);
         }
         return r;
     }
@@ -188,7 +188,7 @@ pub(crate) fn scan(work: &mut [i32], run: Run, v: usize, d: i32) -> Run
     let end = edges.end;
     let mut r = run;
     for e in edges.first..end {
-        if r.broken != NONE {
+        if r.broken.is_some() {
             return r;
         }
         r = scan_edge(work, r, e, own, offer);
@@ -217,7 +217,7 @@ pub(crate) fn is_over(work: &[i32], run: Run, p: usize) -> bool
     requires { OverAsks p run work.now }
     ensures { OverSays p run result work.now }
 {
-    if run.broken != NONE {
+    if run.broken.is_some() {
         return true;
     }
     none_full(run) && none_queued(work, p)
@@ -262,7 +262,7 @@ pub(crate) fn act(work: &mut [i32], run: Run, a: usize, p: usize) -> Run
     requires { ActAsks a p run work.old }
     ensures { ActSays a p run result work.old work.new }
 {
-    if run.broken != NONE {
+    if run.broken.is_some() {
         return run;
     }
     if a < p {

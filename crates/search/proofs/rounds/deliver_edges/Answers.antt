@@ -24,12 +24,12 @@ load_below-first-requires c =
 pub loop-e-init : goal.loop-e-init
 loop-e-init c = (refl, λ q x rep m w l. along_start q x _ _ _ _ rep m)
 
-pub shape_of-work-then-r-ne-NONE : goal.shape_of-work-then-r-ne-NONE
-shape_of-work-then-r-ne-NONE c = c.loop-e.invariant.0
+pub shape_of-work-then-is_some : goal.shape_of-work-then-is_some
+shape_of-work-then-is_some c = c.loop-e.invariant.0
 
-pub returns-then-r-ne-NONE : goal.returns-then-r-ne-NONE
+pub returns-then-is_some : goal.returns-then-is_some
 unfolding EdgesSay
-returns-then-r-ne-NONE c =
+returns-then-is_some c =
     let start_is : (q : Case) (F : List ℕ) → let a = c.args in
     Laid q a.work.now → a.v < q.graph.vertices → Firsts q F → c.load_below-first.result ≡ get_or F a.v 0 = λ q F laid h f. let v = c.args.v in
     let l : v ≤ q.graph.vertices = omega arith in
@@ -42,7 +42,7 @@ returns-then-r-ne-NONE c =
     let laid = rep.held.laid in
     let u = c.loop-e.invariant.1 q x rep m w (end_low q laid h) in
     edges_rep q x _ _ c.args.p c.load_below-first.result c.load_below-end.result _ _ w (start_is q F laid h f) (end_is q F laid h f)
-    (along_over q x _ _ _ _ _ u (broken_ended u.rep c.if-r-ne-NONE.true))
+    (along_over q x _ _ _ _ _ u (broken_ended u.rep c.is_some.ensures c.if-is_some.true))
 
 pub deliver-r-requires : goal.deliver-r-requires
 deliver-r-requires c =
@@ -53,7 +53,7 @@ deliver-r-requires c =
     let s = c.requires in
     let l = end_low s.case s.rep.held.laid s.below in
     let u = c.loop-e.invariant.1 s.case s.state s.rep s.moment s.workers l in
-    record { case = s.case; state = u.at; rep = u.rep; moment = u.moment; whole = broken_none u.rep c.if-r-ne-NONE.false; below = omega (arith, l, c.loop-e-test.true) }
+    record { case = s.case; state = u.at; rep = u.rep; moment = u.moment; whole = broken_none u.rep c.is_some.ensures c.if-is_some.false; below = omega (arith, l, c.loop-e-test.true) }
 
 pub loop-e-preserved : goal.loop-e-preserved
 unfolding DeliverSays
@@ -65,7 +65,7 @@ loop-e-preserved c = (
       let z : p + (e + 1) ≡ p + e + 1 = omega arith in
       let t = c.loop-e-test.true in
       let u = c.loop-e.invariant.1 q x rep m w l in
-      let whole = broken_none u.rep c.if-r-ne-NONE.false in
+      let whole = broken_none u.rep c.is_some.ensures c.if-is_some.false in
       rw z (along_step q x _ _ (p + e) _ _ _ _ u (omega arith) (act_rep q e p u.at _ _ w u.moment whole (c.deliver-r.ensures q u.at u.rep whole (omega arith)))),
 )
 

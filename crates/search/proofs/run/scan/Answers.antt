@@ -11,7 +11,8 @@ use Rattle.model.specs.Run.{State, scan_edge}
 use Rattle.search.specs.Asks.{Room, RangeSays, OfferedIs, EdgeSays, ScanSays}
 use Rattle.search.specs.Rep.{Own, Laid, Rep}
 use Rattle.search.proofs.Ranges.{Halfway, half_start, half_step, half_broken, half_done, depth_is, room_step}
-use Rattle.search.proofs.Steps.{owner_there, owner_is, is_broken, not_broken}
+use Rattle.search.proofs.Steps.{owner_there, owner_is}
+use Rattle.search.proofs.Acts.{broken_some, broken_none}
 use Rattle.search.proofs.run.scan.Goals as goal
 
 pub load_below-own-requires : goal.load_below-own-requires
@@ -34,12 +35,12 @@ loop-e-init c =
     let own = ranged s.case s.rep.held.laid s.below in
     (own.order, refl, λ q x o rep own p i. half_start q x _ o _ _ own _ _ rep, omega arith, record { sent = omega (arith, own.below, s.room.sent); joined = omega (arith, own.below, s.room.joined) })
 
-pub shape_of-work-then-r-ne-NONE : goal.shape_of-work-then-r-ne-NONE
-shape_of-work-then-r-ne-NONE c = c.loop-e.invariant.1
+pub shape_of-work-then-is_some : goal.shape_of-work-then-is_some
+shape_of-work-then-is_some c = c.loop-e.invariant.1
 
-pub returns-then-r-ne-NONE : goal.returns-then-r-ne-NONE
+pub returns-then-is_some : goal.returns-then-is_some
 unfolding ScanSays RangeSays OfferedIs
-returns-then-r-ne-NONE c =
+returns-then-is_some c =
     let ranged : (q : Case) → let a = c.args in
     Laid q a.work.now → a.v < q.graph.vertices → Own q a.v c.edges_of-edges.result.first c.edges_of-edges.result.end = λ q laid h. c.edges_of-edges.ensures q laid h in
     let offer-is : (q : Case) (o : ℕ) → let a = c.args in
@@ -49,7 +50,7 @@ returns-then-r-ne-NONE c =
     Rep q x a.run a.work.now → a.v < q.graph.vertices → a.d ≡ neg_ℤ (pos o) → Halfway q x a.v o c.loop-e.e c.loop-e.r c.loop-e.work = λ q x o rep h d. c.loop-e.invariant.2 q x o rep (ranged q rep.held.laid h) (owner_is q _ _ rep.held.laid h _ c.load_below-own.ensures.0) (to_z-of_z fits ∙ offer-is q o rep.held.laid h d) in
     λ q x o rep h d.
     let u = so_far q x o rep h d in
-    half_broken q x _ o _ _ (ranged q rep.held.laid h) _ _ _ u (is_broken u.at.broken (λ z. c.if-r-ne-NONE.true (u.rep.counted.broke ∙ z)))
+    half_broken q x _ o _ _ (ranged q rep.held.laid h) _ _ _ u (broken_some u.rep c.is_some.ensures c.if-is_some.true)
 
 pub scan_edge-r-requires : goal.scan_edge-r-requires
 unfolding RangeSays OfferedIs
@@ -83,7 +84,7 @@ loop-e-preserved c =
     → owner q v ≡ c.load_below-own.result → to_z w32 (of_z w32 c.offered-offer.result) ≡ neg_ℤ (pos (o + mark q.graph v)) → Rep q (scan_edge q v o c.loop-e.e u.at) c.scan_edge-r.result c.scan_edge-r.new.work = λ q x o u own p i. let e = c.loop-e.e in
     let test = c.loop-e-test.true in
     let from = own.inside e c.loop-e.invariant.3 test in
-    c.scan_edge-r.ensures q u.at _ o u.rep (not_broken u.at.broken (sym u.rep.counted.broke ∙ c.if-r-ne-NONE.false)) (omega (arith, own.below, test)) from p
+    c.scan_edge-r.ensures q u.at _ o u.rep (broken_none u.rep c.is_some.ensures c.if-is_some.false) (omega (arith, own.below, test)) from p
     (i ∙ ap (λ (n : ℕ). neg_ℤ (pos (o + n))) (sym (depth_is q _ e from))) in
     let ranged : (q : Case) → let a = c.args in
     Laid q a.work.now → a.v < q.graph.vertices → Own q a.v c.edges_of-edges.result.first c.edges_of-edges.result.end = λ q laid h. c.edges_of-edges.ensures q laid h in
