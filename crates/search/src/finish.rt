@@ -49,19 +49,12 @@ fn verdict(run: Run) -> Verdict
 }
 
 // Ends a run: with a result if it is over, else by refusal 10.
-pub(crate) fn finish(
-    output: &mut [u8],
-    work: &mut [i32],
-    run: Run,
-    p: usize,
-    n: usize,
-    source: usize,
-) -> Outcome
-    requires { FinishAsks run p n source work.old output.old }
-    ensures { FinishSays run p n source result work.old work.new output.old output.new }
+pub(crate) fn finish(output: &mut [u8], work: &mut [i32], run: Run, case: Case) -> Outcome
+    requires { FinishAsks run case.workers case.vertices case.source work.old output.old }
+    ensures { FinishSays run case.workers case.vertices case.source result work.old work.new output.old output.new }
 {
     let acts = acts_done(run);
-    if !is_over(work, run, p) {
+    if !is_over(work, run, case.workers) {
         clear(work);
         return Outcome {
             refusal: Refusal::Unended.number(),
@@ -73,7 +66,7 @@ pub(crate) fn finish(
             joined: run.joined,
         };
     }
-    let written = write_answer(output, work, run, n, source);
+    let written = write_answer(output, work, run, case.vertices, case.source);
     clear(work);
     Outcome {
         refusal: 0,
