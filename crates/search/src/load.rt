@@ -1,7 +1,7 @@
 // Loads a case from its tables into the cells: marks, owners, ends, each vertex's first edge, and then the rest loops.
 ghost use Rattle.search.specs.Loading.{LoadAsks, LoadSays, RowsAsk, RowsSay, PairAsks, PairSays, PairsAsk, PairsSay, LoopAsks, LoopSays, LoopsAsk, LoopsSay};
 
-use super::cells::{Cells, fill_number, load_below, store_number};
+use super::cells::{Cells, fill, load_below, store_number};
 use casefile::Case;
 
 // Stores the marks and the owners of the vertices, and counts the accepting ones.
@@ -30,7 +30,7 @@ fn load_edge(work: &mut [i32], e: usize, from: usize, to: usize, next: usize) ->
     if from < next {
         return next;
     }
-    fill_number(work, Cells::FIRST + next, from + 1 - next, e);
+    fill(work, Cells::FIRST + next, from + 1 - next, e);
     from + 1
 }
 
@@ -43,7 +43,7 @@ fn load_edges(work: &mut [i32], froms: &[u32], tos: &[u32], n: usize)
     for e in 0..froms.len() {
         next = load_edge(work, e, froms[e] as usize, tos[e] as usize, next);
     }
-    fill_number(work, Cells::FIRST + next, n + 1 - next, froms.len());
+    fill(work, Cells::FIRST + next, n + 1 - next, froms.len());
 }
 
 // Loads a case from its tables, and counts its accepting vertices.

@@ -1,14 +1,14 @@
 // A run of the search in the lent cells: offers, scans, turns, deliveries and acts. A distance is its signed number; each
 // function keeps the cells and the counters equal to a run of the model (specs/Rep.antt).
-ghost use Rattle.std.specs.Prelude.{◌≡◌, cond, ◌+◌, ◌<◌, ◌≤◌, ◌^◌, pos, neg_ℤ, length};
+ghost use Rattle.std.specs.Prelude.{◌≡◌, ◌+◌, ◌<◌, ◌≤◌, ◌^◌, pos, neg_ℤ, length};
 ghost use Rattle.std.specs.Int.Signed.{lt_z};
 ghost use Rattle.model.specs.Case.{most_vertices, least_work};
 ghost use Rattle.search.specs.Cells.{message_at};
 ghost use Rattle.search.specs.Asks.{PutSays, OfferAsks, SendAsks, SendSays, RelaxSays, EdgeSays, ScanAsks, ScanSays, none_waits, OverAsks, OverSays, TurnAsks, TurnSays, DeliverAsks, DeliverSays, ActAsks, ActSays, LengthIs, OfferedAsks, OfferedIs, BlankSays, FreshAsks, FreshSays, ListAsks, ListDone};
 
 use super::cells::{
-    Cells, NO_DISTANCE, NONE, NOT_QUEUED, QUEUE_END, QUEUED, SOME, fill, fill_number, load,
-    load_below, store, store_number,
+    Cells, NO_DISTANCE, NONE, NOT_QUEUED, QUEUE_END, QUEUED, SOME, fill, load, load_below, store,
+    store_number,
 };
 use super::edges::edges_of;
 use super::queue::{none_queued, pop, push};
@@ -36,7 +36,7 @@ impl Run {
         ensures { FreshSays source marks result work.old work.new }
     {
         blank(work);
-        store(work, Cells::DISTANCE + source, 0);
+        store_number(work, Cells::DISTANCE + source, 0);
         push(work, source);
         Run {
             turns: 0,
@@ -55,11 +55,11 @@ pub(crate) fn blank(work: &mut [i32])
     ensures { BlankSays work.old work.new }
 {
     fill(work, Cells::DISTANCE, Case::MOST_VERTICES, NO_DISTANCE);
-    fill_number(work, Cells::PARENT, Case::MOST_VERTICES, NONE);
-    fill_number(work, Cells::LINK, Case::MOST_VERTICES, NOT_QUEUED);
+    fill(work, Cells::PARENT, Case::MOST_VERTICES, NONE);
+    fill(work, Cells::LINK, Case::MOST_VERTICES, NOT_QUEUED);
     fill(work, Cells::MESSAGE, Case::MOST_EDGES, NO_DISTANCE);
-    fill_number(work, Cells::HEAD, Case::MOST_WORKERS, QUEUE_END);
-    fill_number(work, Cells::TAIL, Case::MOST_WORKERS, 0);
+    fill(work, Cells::HEAD, Case::MOST_WORKERS, QUEUE_END);
+    fill(work, Cells::TAIL, Case::MOST_WORKERS, 0);
 }
 
 // Whether a distance is below another.
@@ -67,16 +67,6 @@ pub(crate) fn lower(a: i32, b: i32) -> bool
     ensures { result ≡ lt_z a b }
 {
     a < b
-}
-
-// The lower of two distances.
-pub(crate) fn least(a: i32, b: i32) -> i32
-    ensures { result ≡ cond (lt_z a b) a b }
-{
-    if lower(a, b) {
-        return a;
-    }
-    b
 }
 
 // So far below 0.
@@ -116,7 +106,7 @@ pub(crate) fn put_offer(work: &mut [i32], e: usize, d: i32) -> bool
     ensures { PutSays e d result work.old work.new }
 {
     let waiting = load(work, Cells::MESSAGE + e);
-    store(work, Cells::MESSAGE + e, least(d, waiting));
+    store(work, Cells::MESSAGE + e, waiting.min(d));
     !missing(waiting)
 }
 
@@ -185,9 +175,8 @@ pub(crate) fn scan(work: &mut [i32], run: Run, v: usize, d: i32) -> Run
     let own = load_below(work, Cells::OWNER + v, Case::MOST_WORKERS);
     let offer = offered(work, v, d);
     let edges = edges_of(work, v);
-    let end = edges.end;
     let mut r = run;
-    for e in edges.first..end {
+    for e in edges.start..edges.end {
         if r.broken.is_some() {
             return r;
         }
@@ -250,7 +239,7 @@ pub(crate) fn deliver(work: &mut [i32], run: Run, e: usize) -> Run
     if missing(d) {
         return run;
     }
-    store(work, Cells::MESSAGE + e, NO_DISTANCE);
+    store_number(work, Cells::MESSAGE + e, NO_DISTANCE);
     let mut r = run;
     r.delivered = run.delivered + 1;
     relax(work, r, e, d)

@@ -5,9 +5,7 @@ ghost use Rattle.model.specs.Case.{most_vertices};
 ghost use Rattle.search.specs.Show.{Backable, ParentIs, OneBackIs, Backed, Cycled};
 ghost use Rattle.search.specs.Show.{Triable, Tried, Scannable, Scans, Startable, Started, Searchable, Searched, Stemmable, StemTaken, Showable, Shows};
 
-use crate::cells::{
-    AT_SOURCE, BY_EDGE, Cells, NOT_FOUND, SOME, fill_number, load_below, store_number,
-};
+use crate::cells::{AT_SOURCE, BY_EDGE, Cells, NOT_FOUND, SOME, fill, load_below, store_number};
 use crate::edges::edges_of;
 use casefile::Case;
 
@@ -83,9 +81,8 @@ pub(crate) fn scan_head(work: &mut [i32], head: usize, tail: usize) -> usize
 {
     let v = load_below(work, Cells::QUEUE + head, Case::MOST_VERTICES);
     let edges = edges_of(work, v);
-    let end = edges.end;
     let mut last = tail;
-    for e in edges.first..end {
+    for e in edges.start..edges.end {
         last = try_edge(work, e, last);
     }
     last
@@ -96,7 +93,7 @@ pub(crate) fn start_search(work: &mut [i32], source: usize, n: usize)
     requires { Startable source n work.old }
     ensures { Started source n work.old work.new }
 {
-    fill_number(work, Cells::FOUND, n, NOT_FOUND);
+    fill(work, Cells::FOUND, n, NOT_FOUND);
     store_number(work, Cells::FOUND + source, AT_SOURCE);
     store_number(work, Cells::QUEUE, source);
 }

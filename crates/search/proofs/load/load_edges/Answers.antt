@@ -43,16 +43,16 @@ overflow_add-n c = omega (arith, c.requires.vertices)
 pub overflow_sub-n : goal.overflow_sub-n
 overflow_sub-n c = omega (arith, c.loop-e.invariant.within)
 
-pub fill_number-requires : goal.fill_number-requires
-fill_number-requires c =
+pub fill-requires : goal.fill-requires
+fill-requires c =
     let p = c.requires in
     let l = c.loop-e.invariant in
     (omega (arith, l.within, l.long, p.vertices, p.long), omega (arith, p.many))
 
 pub shape_of-work : goal.shape_of-work
-shape_of-work c = omega (arith, c.fill_number.auto.work, c.loop-e.invariant.long)
+shape_of-work c = omega (arith, c.fill.auto.work, c.loop-e.invariant.long)
 
 pub returns : goal.returns
 returns c =
     let s = c.requires in
-    pairs_end c.loop-e.invariant s c.loop-e-test.false c.fill_number.ensures
+    pairs_end c.loop-e.invariant s c.loop-e-test.false c.fill.ensures

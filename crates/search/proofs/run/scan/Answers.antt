@@ -30,7 +30,7 @@ pub loop-e-init : goal.loop-e-init
 unfolding RangeSays
 loop-e-init c =
     let ranged : (q : Case) → let a = c.args in
-    Laid q a.work.now → a.v < q.graph.vertices → Own q a.v c.edges_of-edges.result.first c.edges_of-edges.result.end = λ q laid h. c.edges_of-edges.ensures q laid h in
+    Laid q a.work.now → a.v < q.graph.vertices → Own q a.v c.edges_of-edges.result.start c.edges_of-edges.result.end = λ q laid h. c.edges_of-edges.ensures q laid h in
     let s = c.requires in
     let own = ranged s.case s.rep.held.laid s.below in
     (own.order, refl, λ q x o rep own p i. half_start q x _ o _ _ own _ _ rep, omega arith, record { sent = omega (arith, own.below, s.room.sent); joined = omega (arith, own.below, s.room.joined) })
@@ -42,7 +42,7 @@ pub returns-then-is_some : goal.returns-then-is_some
 unfolding ScanSays RangeSays OfferedIs
 returns-then-is_some c =
     let ranged : (q : Case) → let a = c.args in
-    Laid q a.work.now → a.v < q.graph.vertices → Own q a.v c.edges_of-edges.result.first c.edges_of-edges.result.end = λ q laid h. c.edges_of-edges.ensures q laid h in
+    Laid q a.work.now → a.v < q.graph.vertices → Own q a.v c.edges_of-edges.result.start c.edges_of-edges.result.end = λ q laid h. c.edges_of-edges.ensures q laid h in
     let offer-is : (q : Case) (o : ℕ) → let a = c.args in
     Laid q a.work.now → a.v < q.graph.vertices → a.d ≡ neg_ℤ (pos o) → c.offered-offer.result ≡ neg_ℤ (pos (o + mark q.graph a.v)) = λ q o laid h d. c.offered-offer.ensures q o laid h (to_z-of_z c.ranges.d ∙ d) in
     let fits : SFits w32 c.offered-offer.result = record { sfits = c.offered-offer.type_inv } in
@@ -56,7 +56,7 @@ pub scan_edge-r-requires : goal.scan_edge-r-requires
 unfolding RangeSays OfferedIs
 scan_edge-r-requires c =
     let ranged : (q : Case) → let a = c.args in
-    Laid q a.work.now → a.v < q.graph.vertices → Own q a.v c.edges_of-edges.result.first c.edges_of-edges.result.end = λ q laid h. c.edges_of-edges.ensures q laid h in
+    Laid q a.work.now → a.v < q.graph.vertices → Own q a.v c.edges_of-edges.result.start c.edges_of-edges.result.end = λ q laid h. c.edges_of-edges.ensures q laid h in
     let offer-is : (q : Case) (o : ℕ) → let a = c.args in
     Laid q a.work.now → a.v < q.graph.vertices → a.d ≡ neg_ℤ (pos o) → c.offered-offer.result ≡ neg_ℤ (pos (o + mark q.graph a.v)) = λ q o laid h d. c.offered-offer.ensures q o laid h (to_z-of_z c.ranges.d ∙ d) in
     let fits : SFits w32 c.offered-offer.result = record { sfits = c.offered-offer.type_inv } in
@@ -80,14 +80,14 @@ scan_edge-r-requires c =
 pub loop-e-preserved : goal.loop-e-preserved
 unfolding EdgeSays RangeSays OfferedIs
 loop-e-preserved c =
-    let stepped : let v = c.args.v in (q : Case) (x : State) (o : ℕ) → (u : Halfway q x v o c.loop-e.e c.loop-e.r c.loop-e.work) → Own q v c.edges_of-edges.result.first c.edges_of-edges.result.end
+    let stepped : let v = c.args.v in (q : Case) (x : State) (o : ℕ) → (u : Halfway q x v o c.loop-e.e c.loop-e.r c.loop-e.work) → Own q v c.edges_of-edges.result.start c.edges_of-edges.result.end
     → owner q v ≡ c.load_below-own.result → to_z w32 (of_z w32 c.offered-offer.result) ≡ neg_ℤ (pos (o + mark q.graph v)) → Rep q (scan_edge q v o c.loop-e.e u.at) c.scan_edge-r.result c.scan_edge-r.new.work = λ q x o u own p i. let e = c.loop-e.e in
     let test = c.loop-e-test.true in
     let from = own.inside e c.loop-e.invariant.3 test in
     c.scan_edge-r.ensures q u.at _ o u.rep (broken_none u.rep c.is_some.ensures c.if-is_some.false) (omega (arith, own.below, test)) from p
     (i ∙ ap (λ (n : ℕ). neg_ℤ (pos (o + n))) (sym (depth_is q _ e from))) in
     let ranged : (q : Case) → let a = c.args in
-    Laid q a.work.now → a.v < q.graph.vertices → Own q a.v c.edges_of-edges.result.first c.edges_of-edges.result.end = λ q laid h. c.edges_of-edges.ensures q laid h in
+    Laid q a.work.now → a.v < q.graph.vertices → Own q a.v c.edges_of-edges.result.start c.edges_of-edges.result.end = λ q laid h. c.edges_of-edges.ensures q laid h in
     let offer-is : (q : Case) (o : ℕ) → let a = c.args in
     Laid q a.work.now → a.v < q.graph.vertices → a.d ≡ neg_ℤ (pos o) → c.offered-offer.result ≡ neg_ℤ (pos (o + mark q.graph a.v)) = λ q o laid h d. c.offered-offer.ensures q o laid h (to_z-of_z c.ranges.d ∙ d) in
     let fits : SFits w32 c.offered-offer.result = record { sfits = c.offered-offer.type_inv } in
@@ -119,7 +119,7 @@ pub returns : goal.returns
 unfolding ScanSays RangeSays OfferedIs
 returns c =
     let ranged : (q : Case) → let a = c.args in
-    Laid q a.work.now → a.v < q.graph.vertices → Own q a.v c.edges_of-edges.result.first c.edges_of-edges.result.end = λ q laid h. c.edges_of-edges.ensures q laid h in
+    Laid q a.work.now → a.v < q.graph.vertices → Own q a.v c.edges_of-edges.result.start c.edges_of-edges.result.end = λ q laid h. c.edges_of-edges.ensures q laid h in
     let offer-is : (q : Case) (o : ℕ) → let a = c.args in
     Laid q a.work.now → a.v < q.graph.vertices → a.d ≡ neg_ℤ (pos o) → c.offered-offer.result ≡ neg_ℤ (pos (o + mark q.graph a.v)) = λ q o laid h d. c.offered-offer.ensures q o laid h (to_z-of_z c.ranges.d ∙ d) in
     let fits : SFits w32 c.offered-offer.result = record { sfits = c.offered-offer.type_inv } in
