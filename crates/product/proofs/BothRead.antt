@@ -1,5 +1,6 @@
 -- A chart and a claim read into their tables, and what is returned where one of them is refused. Assumes nothing.
 use mathlib.Core.Path.{◌≡◌, refl, sym, ap, ◌∙◌}
+use Rattle.std.specs.Prelude.{Err}
 use mathlib.Core.Bool.{false, cond}
 use mathlib.Core.List.{List}
 use mathlib.Core.Logic.{◌⊎◌, inl, inr}
@@ -18,6 +19,7 @@ use Rattle.model.specs.Chart.{most_modes, most_flags, charted, combinations, nex
 use Rattle.model.specs.ChartPromise.{ChartDefinite, ChartsDefinite, ChartsSound}
 use Rattle.model.specs.BuiltEntry.{names_pair, BuiltSays}
 use Rattle.model.specs.declared.Charted.{Charted}
+use Rattle.model.specs.declared.refusal.Refusal.TheVariants.{ChartFault, CountsDiffer}
 use Rattle.model.proofs.Pairs.{pair_below}
 use Rattle.model.proofs.ClaimDefinite.{claims_definite}
 use Rattle.model.proofs.ClaimWhole.{claims_right}
@@ -36,7 +38,8 @@ use Rattle.chart.specs.declared.Read.{Read}
 use Rattle.chart.specs.declared.Read.TheVariants.{Faulty, Bad, Accepted}
 use Rattle.chart.proofs.Whole.{PassedRead, passed_read, bad_read, read_returns, handed_at}
 use Rattle.product.specs.Edges.{most_product, Leads, Asks}
-use Rattle.product.specs.Both.{refused_by, texts_refusal, BothAsks, BothHeld, BothRefused}
+use Rattle.product.specs.Refused.{refused_as, refused_by, refused_pair, built_as}
+use Rattle.product.specs.Both.{texts_refusal, BothAsks, BothHeld, BothRefused}
 
 -- WHICH REFUSAL of both texts comes first
 module _ (bs cs : List ℕ) where
@@ -59,14 +62,14 @@ module _ (bs cs : List ℕ) where
       by_none e = rw (eq-eqb (chart_says bs).refusal 0 passes, eq-eqb (claim_refusal cs) 0 taken, eq-eqb (claim_in cs).propositions (chart_in bs).flags e) refl
 
 -- WHAT IS RETURNED: with 18 and 19 the pair, else none
-pub plain_says : (k : ℕ) → eqb k 0 ≡ false → names_pair k ≡ false → (c : Charted) (t o : List ℕ) → BuiltSays k c t (refused_by k) o o
+pub plain_says : (k : ℕ) → eqb k 0 ≡ false → names_pair k ≡ false → (c : Charted) (t o : List ℕ) → BuiltSays k c t (built_as (Err (refused_as k))) o o
 plain_says k n p c t o = record { refusal = refl; mode = rw p refl; combination = rw p refl; written = rw n refl; output = rw n refl }
 
 pub unpaired : (k : ℕ) → (k ≡ 18 → ⊥) → (k ≡ 19 → ⊥) → names_pair k ≡ false
 unfolding names_pair
 unpaired k p q = rw (ne_eqb k 18 p, ne_eqb k 19 q) refl
 
-pair_says : (c : Charted) → ChartDefinite c → (c.refusal ≡ 0 → ⊥) → (t o : List ℕ) → BuiltSays c.refusal c t (record { refusal = c.refusal; mode = c.mode; combination = c.combination; written = 0 }) o o
+pair_says : (c : Charted) → ChartDefinite c → (c.refusal ≡ 0 → ⊥) → (t o : List ℕ) → BuiltSays c.refusal c t (built_as (Err (refused_pair c))) o o
 unfolding names_pair
 pair_says c d n t o =
     record { refusal = refl; mode = shown c.mode (λ z. (d.no_pair z).0) d.listed; combination = shown c.combination (λ z. (d.no_pair z).1) d.listed; written = rw (ne_eqb c.refusal 0 n) refl; output = rw (ne_eqb c.refusal 0 n) refl }
@@ -77,18 +80,18 @@ pair_says c d n t o =
     shown x z (inr (inr (inl e))) = unfold names_pair in (rw e refl)
     shown x z (inr (inr (inr e))) = unfold names_pair in (rw e refl)
 
-chart_refused : (bs cs : List ℕ) (c : Charted) → chart_says bs ≡ c → (c.refusal ≡ 0 → ⊥) → BothRefused bs cs (record { refusal = c.refusal; mode = c.mode; combination = c.combination; written = 0 })
+chart_refused : (bs cs : List ℕ) (c : Charted) → chart_says bs ≡ c → (c.refusal ≡ 0 → ⊥) → BothRefused bs cs (refused_pair c)
 unfolding ChartsDefinite
 chart_refused bs cs c e n =
     let k : texts_refusal bs cs ≡ c.refusal = by_chart bs cs (λ z. n (sym (ap (λ (x : Charted). x.refusal) e) ∙ z)) ∙ ap (λ (x : Charted). x.refusal) e in
     record { fails = λ z. n (sym k ∙ z); says = λ t o. rw (k, e) (pair_says c (rw e at (charts_definite bs)) n t o) }
 
-pub chart_faulty : (bs cs : List ℕ) {t t' : List ℕ} {r : Read} → ChartRead bs r t t' → r ≡ Faulty → BothRefused bs cs (refused_by 17)
+pub chart_faulty : (bs cs : List ℕ) {t t' : List ℕ} {r : Read} → ChartRead bs r t t' → r ≡ Faulty → BothRefused bs cs (refused_by ChartFault)
 unfolding returned
 chart_faulty bs cs g q = chart_refused bs cs (charted 17 0 0) (sym (read_returns g q)) (λ z. omega arith)
 
 pub chart_bad : (bs cs : List ℕ) {t t' : List ℕ} {r : Read} {x : D.Chart} {c : Charted} → ChartRead bs r t t' → r ≡ Bad x c
-    → BothRefused bs cs (record { refusal = c.refusal; mode = c.mode; combination = c.combination; written = 0 })
+    → BothRefused bs cs (refused_pair c)
 chart_bad bs cs {c = c} g q = let b = bad_read g q in chart_refused bs cs c b.said (not_zero b.refusal)
   where
     not_zero : (c.refusal ≡ 18) ⊎ (c.refusal ≡ 19) → c.refusal ≡ 0 → ⊥
@@ -111,16 +114,16 @@ module _ (bs cs : List ℕ) {t follow : List ℕ} {r : Read} {x : D.Chart} (g : 
         let y : ◌≡◌ {A = ℕ} 0 1 = cc in
         omega arith
 
-    in_claim : 14 ≤ claim_refusal cs → claim_refusal cs ≤ 16 → BothRefused bs cs (refused_by k)
+    in_claim : 14 ≤ claim_refusal cs → claim_refusal cs ≤ 16 → BothRefused bs cs (refused_as k)
     in_claim u v =
         let e : texts_refusal bs cs ≡ k = by_claim bs cs read.passes not_taken ∙ sym number in
         record { fails = λ z. omega (arith, e, number); says = λ t o. rw e (plain_says k (ne_eqb k 0 (λ z. omega (arith, number))) (unpaired k (λ z. omega (arith, number)) (λ z. omega (arith, number))) (chart_says bs) t o) }
 
-    pub claim_refused : BothRefused bs cs (refused_by k)
+    pub claim_refused : BothRefused bs cs (refused_as k)
     unfolding ClaimsDefinite
     claim_refused = go (claims_definite cs)
       where
-        go : (claim_refusal cs ≡ 0) ⊎ ((claim_refusal cs ≡ 14) ⊎ ((claim_refusal cs ≡ 15) ⊎ (claim_refusal cs ≡ 16))) → BothRefused bs cs (refused_by k)
+        go : (claim_refusal cs ≡ 0) ⊎ ((claim_refusal cs ≡ 14) ⊎ ((claim_refusal cs ≡ 15) ⊎ (claim_refusal cs ≡ 16))) → BothRefused bs cs (refused_as k)
         go (inl e) = absurd (not_taken e)
         go (inr (inl e)) = in_claim (omega arith) (omega arith)
         go (inr (inr (inl e))) = in_claim (omega arith) (omega arith)
@@ -154,7 +157,7 @@ module _ (bs cs : List ℕ) {t follow : List ℕ} {r : Read} {x : D.Chart} (g : 
     unfolding counts_of
     first_is = ap (λ (y : Counts). y.start) taken.counts
 
-    pub counts_refused : (c.propositions ≡ x.flags → ⊥) → BothRefused bs cs (refused_by 20)
+    pub counts_refused : (c.propositions ≡ x.flags → ⊥) → BothRefused bs cs (refused_by CountsDiffer)
     unfolding names_pair
     counts_refused n =
         let k : texts_refusal bs cs ≡ 20 = by_counts bs cs read.passes taken.number (λ e. n (sym propositions_are ∙ e ∙ flags_are)) in
@@ -210,9 +213,9 @@ module _ (bs cs : List ℕ) {t follow : List ℕ} {r : Read} {x : D.Chart} (g : 
       leads : (m f : ℕ) → m < x.modes → f < 2 ^ x.flags → Leads (get_or follow (m * 2 ^ x.flags + f) 0)
       leads m f u v = record { from = omega (arith, entry m f u v); below = omega (arith, entry m f u v, sound.next m f, sound.modes) }
 
-      asks : Asks x.modes c.states (2 ^ x.flags) follow cells
-      asks =
-          record {
+      asks : (n source : ℕ) → n ≡ 2 ^ x.flags → Asks (record { modes = x.modes; states = c.states; count = n; source = source }) follow cells
+      asks n source m = rw m
+          (record {
             some_states = omega (arith, claim_sound.start, states_are);
             few_states = omega (arith, claim_sound.states, states_are);
             few_modes = omega (arith, sound.modes, modes_are);
@@ -220,7 +223,7 @@ module _ (bs cs : List ℕ) {t follow : List ℕ} {r : Read} {x : D.Chart} (g : 
             pairs = omega (arith, few_pairs, a.follow_long);
             roomy = omega (arith, a.cells_long);
             leads = leads;
-          }
+          })
 
       pub both_held : c.propositions ≡ x.flags → {n : ℕ} → n ≡ 2 ^ x.flags → BothHeld bs cs (record { modes = x.modes; states = c.states; count = n; source = x.start * c.states + c.start }) follow cells
       both_held e {n} m =
@@ -238,6 +241,6 @@ module _ (bs cs : List ℕ) {t follow : List ℕ} {r : Read} {x : D.Chart} (g : 
               marks = λ s u. held.marks s (omega (arith, claim_sound.states));
             };
             claim = held;
-            tables = rw m asks;
+            tables = asks n _ m;
             near = omega (arith, source_fits);
           }
