@@ -1,6 +1,6 @@
 -- A chart and a claim read into their tables, and what is returned where one of them is refused. Assumes nothing.
 use mathlib.Core.Path.{◌≡◌, refl, sym, ap, ◌∙◌}
-use Rattle.std.specs.Prelude.{Err}
+use Rattle.std.specs.Prelude.{Result, Ok, Err}
 use mathlib.Core.Bool.{false, cond}
 use mathlib.Core.List.{List}
 use mathlib.Core.Logic.{◌⊎◌, inl, inr}
@@ -19,6 +19,8 @@ use Rattle.model.specs.Chart.{most_modes, most_flags, charted, combinations, nex
 use Rattle.model.specs.ChartPromise.{ChartDefinite, ChartsDefinite, ChartsSound}
 use Rattle.model.specs.BuiltEntry.{names_pair, BuiltSays}
 use Rattle.model.specs.declared.Charted.{Charted}
+use Rattle.model.specs.Refusals.{number}
+use Rattle.model.specs.declared.refusal.Refusal.{Refusal}
 use Rattle.model.specs.declared.refusal.Refusal.TheVariants.{ChartFault, CountsDiffer}
 use Rattle.model.proofs.Pairs.{pair_below}
 use Rattle.model.proofs.ClaimDefinite.{claims_definite}
@@ -28,8 +30,6 @@ use Rattle.model.proofs.ChartSound.{charts_sound}
 use Rattle.claim.specs.Cells.{ClaimHeld}
 use Rattle.claim.specs.Judging.{counts_of, judged_claim, ClaimRead}
 use Rattle.claim.specs.declared.Counts.{Counts}
-use Rattle.claim.specs.declared.Judged.{Judged}
-use Rattle.claim.specs.declared.Judged.TheVariants as J
 use Rattle.claim.proofs.EntryCode.{SomeClaim, judged_by}
 use Rattle.chart.specs.Pairs.{table_after, most_combinations, most_pairs, one_rule}
 use Rattle.chart.specs.Reading.{counts_in, returned, ChartRead}
@@ -99,39 +99,41 @@ chart_bad bs cs {c = c} g q = let b = bad_read g q in chart_refused bs cs c b.sa
     not_zero (inr e) z = omega arith
 
 -- AFTER AN ACCEPTED CHART
-module _ (bs cs : List ℕ) {t follow : List ℕ} {r : Read} {x : D.Chart} (g : ChartRead bs r t follow) (q : r ≡ Accepted x) {w cells : List ℕ} {j : Judged} (d : ClaimRead cs j w cells) where
+module _ (bs cs : List ℕ) {t follow : List ℕ} {r : Read} {x : D.Chart} (g : ChartRead bs r t follow) (q : r ≡ Accepted x) where
   read : PassedRead bs x
   read = passed_read g q
 
-  module _ {k : ℕ} (p : j ≡ J.Refused k) where
-    number : k ≡ claim_refusal cs
-    number = (judged_by cs j (J.Refused k) d.answer p).number
+  module _ {w cells : List ℕ} {k : Refusal} (d : ClaimRead cs (Err k) w cells) where
+    number_is : number k ≡ claim_refusal cs
+    number_is = (judged_by cs (Err k) (Err k) d.answer refl).by_number
 
     not_taken : claim_refusal cs ≡ 0 → ⊥
     unfolding judged_claim
     not_taken e =
-        let z : J.Accepted (counts_of (claim_in cs)) ≡ J.Refused k = sym (rw (eq-eqb (claim_refusal cs) 0 e) at d.answer) ∙ p in
-        let y : ◌≡◌ {A = ℕ} 0 1 = cc in
-        omega arith
+        let z : ◌≡◌ {A = Result Counts Refusal} (Err k) (Ok (counts_of (claim_in cs))) = rw (eq-eqb (claim_refusal cs) 0 e) at d.answer in
+        cc
 
-    in_claim : 14 ≤ claim_refusal cs → claim_refusal cs ≤ 16 → BothRefused bs cs (refused_as k)
+    in_claim : 14 ≤ claim_refusal cs → claim_refusal cs ≤ 16 → BothRefused bs cs (refused_by k)
     in_claim u v =
-        let e : texts_refusal bs cs ≡ k = by_claim bs cs read.passes not_taken ∙ sym number in
-        record { fails = λ z. omega (arith, e, number); says = λ t o. rw e (plain_says k (ne_eqb k 0 (λ z. omega (arith, number))) (unpaired k (λ z. omega (arith, number)) (λ z. omega (arith, number))) (chart_says bs) t o) }
+        let e : texts_refusal bs cs ≡ number k = by_claim bs cs read.passes not_taken ∙ sym number_is in
+        record {
+          fails = λ z. omega (arith, e, number_is);
+          says = λ t o. rw e (plain_says (number k) (ne_eqb (number k) 0 (λ z. omega (arith, number_is))) (unpaired (number k) (λ z. omega (arith, number_is)) (λ z. omega (arith, number_is))) (chart_says bs) t o);
+        }
 
-    pub claim_refused : BothRefused bs cs (refused_as k)
+    pub claim_refused : BothRefused bs cs (refused_by k)
     unfolding ClaimsDefinite
     claim_refused = go (claims_definite cs)
       where
-        go : (claim_refusal cs ≡ 0) ⊎ ((claim_refusal cs ≡ 14) ⊎ ((claim_refusal cs ≡ 15) ⊎ (claim_refusal cs ≡ 16))) → BothRefused bs cs (refused_as k)
+        go : (claim_refusal cs ≡ 0) ⊎ ((claim_refusal cs ≡ 14) ⊎ ((claim_refusal cs ≡ 15) ⊎ (claim_refusal cs ≡ 16))) → BothRefused bs cs (refused_by k)
         go (inl e) = absurd (not_taken e)
         go (inr (inl e)) = in_claim (omega arith) (omega arith)
         go (inr (inr (inl e))) = in_claim (omega arith) (omega arith)
         go (inr (inr (inr e))) = in_claim (omega arith) (omega arith)
 
-  module _ {c : Counts} (p : j ≡ J.Accepted c) where
+  module _ {w cells : List ℕ} {c : Counts} (d : ClaimRead cs (Ok c) w cells) where
     taken : SomeClaim cs c
-    taken = judged_by cs j (J.Accepted c) d.answer p
+    taken = judged_by cs (Ok c) (Ok c) d.answer refl
 
     flags_are : (chart_in bs).flags ≡ x.flags
     unfolding chart_in counts_in
@@ -160,7 +162,7 @@ module _ (bs cs : List ℕ) {t follow : List ℕ} {r : Read} {x : D.Chart} (g : 
     pub counts_refused : (c.propositions ≡ x.flags → ⊥) → BothRefused bs cs (refused_by CountsDiffer)
     unfolding names_pair
     counts_refused n =
-        let k : texts_refusal bs cs ≡ 20 = by_counts bs cs read.passes taken.number (λ e. n (sym propositions_are ∙ e ∙ flags_are)) in
+        let k : texts_refusal bs cs ≡ 20 = by_counts bs cs read.passes taken.by_number (λ e. n (sym propositions_are ∙ e ∙ flags_are)) in
         record { fails = λ z. omega (arith, k); says = λ t o. rw k (plain_says 20 refl refl (chart_says bs) t o) }
 
     sound : ChartSound (chart_in bs)
@@ -169,7 +171,7 @@ module _ (bs cs : List ℕ) {t follow : List ℕ} {r : Read} {x : D.Chart} (g : 
 
     claim_sound : ClaimSound (claim_in cs)
     unfolding ClaimsRight
-    claim_sound = (claims_right cs taken.number).sound
+    claim_sound = (claims_right cs taken.by_number).sound
 
     pub few_flags : x.flags ≤ most_flags
     few_flags = omega (arith, sound.flags, flags_are)
@@ -228,7 +230,7 @@ module _ (bs cs : List ℕ) {t follow : List ℕ} {r : Read} {x : D.Chart} (g : 
       pub both_held : c.propositions ≡ x.flags → {n : ℕ} → n ≡ 2 ^ x.flags → BothHeld bs cs (record { modes = x.modes; states = c.states; count = n; source = x.start * c.states + c.start }) follow cells
       both_held e {n} m =
           record {
-            passes = by_none bs cs read.passes taken.number (propositions_are ∙ e ∙ sym flags_are);
+            passes = by_none bs cs read.passes taken.by_number (propositions_are ∙ e ∙ sym flags_are);
             held = record {
               given = record {
                 of_modes = sym modes_are;

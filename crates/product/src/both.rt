@@ -4,7 +4,7 @@ ghost use Rattle.product.specs.Both.{BothAsks, BothSays};
 use crate::edges::Sizes;
 use crate::refused::Refused;
 use chart::{Read, combinations, read_chart};
-use claim::{Judged, read_claim};
+use claim::read_claim;
 use model::Refusal;
 
 // "Chart faults come before claim faults"; then their counts are compared: "Proposition i is flag i".
@@ -17,27 +17,20 @@ pub(crate) fn read_both(
     requires { BothAsks follow.old cells.old }
     ensures { BothSays chart.now claim.now result follow.new cells.new }
 {
-    match read_chart(chart, follow) {
-        Read::Faulty => Err(Refused::from(Refusal::ChartFault)),
-        Read::Bad(_, said) => Err(Refused::from(said)),
-        Read::Accepted(counts) => match read_claim(claim, cells) {
-            Judged::Refused(k) => Err(Refused {
-                refusal: k,
-                mode: 0,
-                combination: 0,
-            }),
-            Judged::Accepted(c) => {
-                if c.propositions as usize != counts.flags {
-                    return Err(Refused::from(Refusal::CountsDiffer));
-                }
-                let states = c.states as usize;
-                Ok(Sizes {
-                    modes: counts.modes,
-                    states: states,
-                    count: combinations(counts.flags),
-                    source: counts.start * states + c.start as usize,
-                })
-            }
-        },
+    let counts = match read_chart(chart, follow) {
+        Read::Faulty => return Err(Refused::from(Refusal::ChartFault)),
+        Read::Bad(_, said) => return Err(Refused::from(said)),
+        Read::Accepted(counts) => counts,
+    };
+    let read = read_claim(claim, cells)?;
+    if read.propositions as usize != counts.flags {
+        return Err(Refused::from(Refusal::CountsDiffer));
     }
+    let states = read.states as usize;
+    Ok(Sizes {
+        modes: counts.modes,
+        states,
+        count: combinations(counts.flags),
+        source: counts.start * states + read.start as usize,
+    })
 }
