@@ -2,7 +2,7 @@
 use native.Mathlib.Omega.{arith}
 use Rattle.text.proofs.Reading.{row1_read, row1_fault}
 use Rattle.product.proofs.StepRows.{steps_start, steps_torn, steps_on, steps_less, steps_end}
-use Rattle.product.proofs.steps.write_steps.Goals as goal
+use Rattle.product.proofs.steps.Names.write_steps.Goals as goal
 
 pub loop-here-init : goal.loop-here-init
 loop-here-init c = steps_start _ _ _ _ _ _
