@@ -8,13 +8,9 @@ ghost use Rattle.std.specs.Prelude.{◌≤◌, length};
 ghost use Rattle.desk.specs.Lines.{Shows};
 ghost use Rattle.chartcheck.specs.Printing.{page_room, printed, told};
 
-use casefile::Case;
 use chart::{Read, check_chart, mode_name, read_chart};
-use desk::{ErrorOutput, Filled};
+use desk::{ENOUGH, ErrorOutput};
 use page::{write_charted, write_pair};
-
-// One byte more than a file may have, so that a longer one is seen to be too long.
-const ENOUGH: usize = Case::LONGEST_FILE + 1;
 
 // More than the longest lines.
 const PAGE: usize = 64;
@@ -59,7 +55,7 @@ fn main(rt: HostRuntime) {
         return;
     }
     let mut text = [0u8; ENOUGH];
-    if let Filled::Bytes(n) = desk::read_argument(&rt, CHART, &mut text) {
-        print_checked(&rt, &text[..n]);
+    if let Ok(chart) = desk::read_argument(&rt, CHART, &mut text) {
+        print_checked(&rt, chart);
     }
 }

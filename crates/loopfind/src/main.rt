@@ -7,11 +7,8 @@ ghost use Rattle.desk.specs.Lines.{Shows};
 ghost use Rattle.loopfind.specs.Printing.{printed};
 
 use casefile::Case;
-use desk::{ErrorOutput, Filled};
+use desk::{ENOUGH, ErrorOutput};
 use search::run_rounds;
-
-// One byte more than a case may have, so that a longer one is seen to be too long.
-const ENOUGH: usize = Case::LONGEST_FILE + 1;
 
 // What is to be printed of a case, at the output's front; its length.
 fn find(case: &[u8], output: &mut [u8], work: &mut [i32]) -> usize
@@ -38,9 +35,7 @@ fn main(rt: HostRuntime) {
         return;
     }
     let mut text = [0u8; ENOUGH];
-    let mut input = rt.stdin();
-    match desk::fill(&mut input, &mut text) {
-        Filled::Bytes(n) => print_found(&rt, &text[..n]),
-        Filled::Failed(error) => desk::fail(&rt, b"standard input", error),
+    if let Ok(case) = desk::read_input(&rt, &mut rt.stdin(), &mut text) {
+        print_found(&rt, case);
     }
 }
