@@ -11,20 +11,17 @@ ghost use Rattle.model.specs.Case.{least_output, least_work};
 ghost use Rattle.desk.specs.Lines.{Shows};
 ghost use Rattle.looplist.specs.Printing.{head_room, printed};
 
-use acts::{Listed, list_acts};
+use acts::list_acts;
 use casefile::Case;
-use complaint::{complain_of_length, complain_of_line};
-use desk::{ErrorOutput, Filled};
+use complaint::complain_of;
+use desk::{ENOUGH, ErrorOutput};
 use page::write_head;
 use search::run_list;
 use std::rt::{Env, Files};
 use text::write::write_bytes;
 
-// One byte more than a case may have, so that a longer one is seen to be too long.
-const ENOUGH: usize = Case::LONGEST_FILE + 1;
-
 // The most acts of a list: with its text, which has at most 10 bytes a line, what 8 MB of stack hold.
-const MOST_ACTS: usize = 400000;
+pub(crate) const MOST_ACTS: usize = 400000;
 
 // One byte more than the most acts need: what is read of a longer list is then what all of it says (FrontDecides in
 // specs/Listing.antt).
@@ -62,17 +59,16 @@ fn print_replay<R: Print + ErrorOutput>(rt: &R, case: &[u8], acts: &[u32])
 fn replay_text<R: Env + Print + ErrorOutput>(rt: &R, case: &[u8], text: &[u8]) {
     let mut acts = [0u32; MOST_ACTS];
     match list_acts(text, &mut acts) {
-        Listed::Acts(n) => print_replay(rt, case, &acts[..n]),
-        Listed::NoAct(line) => complain_of_line(rt, line as u32),
-        Listed::TooMany => complain_of_length(rt, MOST_ACTS as u32),
+        Ok(n) => print_replay(rt, case, &acts[..n]),
+        Err(bad) => complain_of(rt, bad),
     }
 }
 
 // The list is read once the case has been.
 fn replay_file<R: Env + Files + Print + ErrorOutput>(rt: &R, case: &[u8]) {
     let mut text = [0u8; TEXT];
-    if let Filled::Bytes(n) = desk::read_argument(rt, ACTS, &mut text) {
-        replay_text(rt, case, &text[..n]);
+    if let Ok(text) = desk::read_argument(rt, ACTS, &mut text) {
+        replay_text(rt, case, text);
     }
 }
 
@@ -82,7 +78,7 @@ fn main(rt: HostRuntime) {
         return;
     }
     let mut case = [0u8; ENOUGH];
-    if let Filled::Bytes(n) = desk::read_argument(&rt, CASE, &mut case) {
-        replay_file(&rt, &case[..n]);
+    if let Ok(case) = desk::read_argument(&rt, CASE, &mut case) {
+        replay_file(&rt, case);
     }
 }
