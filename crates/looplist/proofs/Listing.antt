@@ -1,17 +1,17 @@
 -- Reading a list of acts line by line. Assumes nothing.
 use mathlib.Core.Path.{◌≡◌, refl, sym, ap, ◌∙◌}
-use mathlib.Core.Bool.{Bool, true, false, ◌&&◌, cond}
+use mathlib.Core.Bool.{Bool, true, false, cond}
 use mathlib.Core.List.{List, [], ◌∷◌, ◌++◌, append_assoc, append-nil}
 use Prim.Native.Nat.{ℕ, zero, suc, ◌+◌, ◌-◌, ◌^◌, ◌≤◌, ◌<◌}
 use native.Mathlib.Numerals.{add-one}
 use native.Mathlib.Omega.{arith}
-use lib.Dec.{eqb, lit<}
+use lib.Dec.{lit<}
 use lib.ListN.{length, set, take, drop, length-set}
 use lib.Seq.{take-suc-set, length-take-le}
 use Rattle.std.specs.Prelude.{Result, Ok, Err}
 use Rattle.text.specs.Lines.{Line, lines}
-use Rattle.text.specs.Numbers.{numbers_line, all_numbers, number_at}
-use Rattle.text.specs.Reading.{line_here, past_line, row1_here}
+use Rattle.text.specs.Numbers.{numbers_line, number_at}
+use Rattle.text.specs.Reading.{line_here, row1_here}
 use Rattle.text.specs.declared.read.Row1.{Row1}
 use Rattle.text.specs.declared.read.Row1.TheVariants.{Read, Fault}
 use Rattle.text.proofs.Reading.{lines_here, no_lines, Row, row_rest, row1_read, row1_fault}
@@ -29,9 +29,6 @@ pub record ListsOn (s : List ℕ) (at k : ℕ) (xs ys : List ℕ) : Type 0 where
   pub holds : take k ys ++ numbers_of (lines (drop at s)) ≡ numbers_of (lines s)
   pub within : k ≤ length ys
   pub kept : length ys ≡ length xs
-
-pub lists_start : (s xs : List ℕ) → ListsOn s 0 0 xs xs
-lists_start s xs = let e : length xs - 0 ≡ length xs = omega arith in record { says = ap (λ (m : ℕ). listed m 0 (lines s)) e; holds = refl; within = omega arith; kept = refl }
 
 module _ {s : List ℕ} {at k : ℕ} {xs ys : List ℕ} (l : ListsOn s at k xs ys) where
   -- at the end
