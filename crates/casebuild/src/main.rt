@@ -11,7 +11,6 @@ use model::Built;
 use product::{build_case, workers_right};
 use std::io;
 use std::rt::{Env, Files};
-use text::read::Number;
 
 // The least that a case file is built in, and more than the lines of a refusal.
 const PAGE: usize = Built::LEAST_CASE_OUTPUT;
@@ -54,18 +53,17 @@ fn build<R: Env + Files + Print + ErrorOutput>(rt: &R, workers: u32) -> io::Resu
 }
 
 // How many workers, if the arguments are as they should be.
-fn workers_asked<R: Env>(rt: &R) -> Number {
+fn workers_asked<R: Env>(rt: &R) -> Option<u32> {
     if !desk::argument_count_is(rt, 3) {
-        return Number::Not;
+        return None;
     }
     desk::number_argument(rt, WORKERS)
 }
 
 fn main(rt: HostRuntime) {
-    match workers_asked(&rt) {
-        Number::Is(workers) => {
-            let _ = build(&rt, workers); // which file failed, and why, has been said
-        }
-        Number::Not => desk::complain(&rt, b"usage: casebuild CHART CLAIM WORKERS\n"),
-    }
+    let Some(workers) = workers_asked(&rt) else {
+        desk::complain(&rt, b"usage: casebuild CHART CLAIM WORKERS\n");
+        return;
+    };
+    let _ = build(&rt, workers); // which file failed, and why, has been said
 }

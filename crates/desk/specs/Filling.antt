@@ -3,7 +3,6 @@ use Rattle.std.specs.Prelude.{◌≡◌, List, ℕ, ◌≤◌, ◌<◌, length, 
 use Rattle.std.specs.Borrow.{Bor}
 use Rattle.std.specs.Io.KnownBytes.{Consumes, IsAtEnd}
 use Rattle.text.specs.Reading.{number_in}
-use Rattle.text.specs.declared.read.Number.{Number}
 
 -- the bytes said to be there are within the room. That they are those of a file of the system, no contract can say
 abbrev pub Fills : {E : Type 0} → Result ℕ E → (room : ℕ) → Type 0
@@ -25,6 +24,6 @@ abbrev pub TakesPart : {E : Type 0} → Result (Bor (List ℕ)) E → (known lef
 TakesPart r b a room = IfOk r (λ part. Consumes b a part.now × (length part.now < room → IsAtEnd a))
 
 -- what is said of a number is what some word says. That this word is the argument, no contract can say
-pub record SaidByWord (r : Number) : Type 0 where
+pub record SaidByWord (r : Option ℕ) : Type 0 where
   pub word : List ℕ
   pub says : r ≡ number_in word

@@ -9,7 +9,7 @@ use std::env::FillError;
 use std::io::{Error, Read};
 use std::rt::{Env, Files};
 use std::{fs, io, str};
-use text::read::{Number, number_in};
+use text::read::number_in;
 
 // One byte more than a file of this house may have, so that a longer one is seen to be too long.
 pub const ENOUGH: usize = Case::LONGEST_FILE + 1;
@@ -97,14 +97,12 @@ pub fn read_argument<'a, R: Env + Files + ErrorOutput>(
 }
 
 // An argument as a number; one that is missing, or too long to be read, is none.
-pub fn number_argument<R: Env>(rt: &R, i: usize) -> Number
+pub fn number_argument<R: Env>(rt: &R, i: usize) -> Option<u32>
     ensures { SaidByWord result }
 {
     let mut word = [0u8; LONGEST_ARGUMENT];
-    match rt.arg(i, &mut word) {
-        Ok(n) => number_in(&word[..n]),
-        Err(_) => Number::Not,
-    }
+    let size = rt.arg(i, &mut word).ok()?;
+    number_in(&word[..size])
 }
 
 // Whether there is an argument of this number; the program's name is argument 0.

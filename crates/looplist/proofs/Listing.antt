@@ -6,15 +6,14 @@ use Prim.Native.Nat.{ℕ, zero, suc, ◌+◌, ◌-◌, ◌^◌, ◌≤◌, ◌<�
 use native.Mathlib.Numerals.{add-one}
 use native.Mathlib.Omega.{arith}
 use lib.Dec.{lit<}
-use lib.ListN.{length, set, take, drop, length-set}
+use lib.ListN.{length, get_or, set, take, drop, length-set}
 use lib.Seq.{take-suc-set, length-take-le}
-use Rattle.std.specs.Prelude.{Result, Ok, Err}
+use Rattle.std.specs.Prelude.{Option, Some, None, Result, Ok, Err}
 use Rattle.text.specs.Lines.{Line, lines}
 use Rattle.text.specs.Numbers.{numbers_line, number_at}
-use Rattle.text.specs.Reading.{line_here, row1_here}
-use Rattle.text.specs.declared.read.Row1.{Row1}
-use Rattle.text.specs.declared.read.Row1.TheVariants.{Read, Fault}
-use Rattle.text.proofs.Reading.{lines_here, no_lines, Row, row_rest, row1_read, row1_fault}
+use Rattle.text.specs.Reading.{line_here, row_here}
+use Rattle.text.specs.declared.read.Row.{Row as Numbers}
+use Rattle.text.proofs.Reading.{lines_here, no_lines, Row, row_rest, row_read, row_fault}
 use Rattle.looplist.specs.Listing.{listed, numbers_of, Lists, Near}
 use Rattle.looplist.specs.declared.acts.BadList.{BadList}
 use Rattle.looplist.specs.declared.acts.BadList.TheVariants.{NoAct, TooMany}
@@ -63,15 +62,21 @@ module _ {s : List ℕ} {at k : ℕ} {xs ys : List ℕ} (l : ListsOn s at k xs y
       rw (← q, add-one k) (sym (listed_step (length xs - suc k) k (line_here s at) (drop 1 (lines (drop at s)))) ∙ (rw e at (rest_says h)))
 
   -- it is no act
-  pub lists_none : at < length s → k < length xs → {r : Row1} → r ≡ row1_here s at → r ≡ Fault → Lists s (Err (NoAct (k + 1))) xs ys
-  lists_none h f p q = record { says = room_says h f false (row1_fault s at p q).none; holds = tt }
+  pub lists_none : at < length s → k < length xs → {r : Option (Numbers 1)} → r ≡ row_here 1 s at → r ≡ None → Lists s (Err (NoAct (k + 1))) xs ys
+  lists_none h f p q = record { says = room_says h f false (row_fault 1 s at p q).none; holds = tt }
 
   -- it is one
-  pub lists_more : at < length s → k < length xs → (a z : ℕ) {r : Row1} → r ≡ row1_here s at → r ≡ Read a z → ListsOn s z (k + 1) xs (set ys k a)
-  lists_more h f a z p q = record { says = says; holds = holds; within = omega (arith, length-set ys k a, l.kept); kept = length-set ys k a ∙ l.kept }
+  pub lists_more : at < length s → k < length xs → (x : Numbers 1) {r : Option (Numbers 1)} → r ≡ row_here 1 s at → r ≡ Some x → ListsOn s x.next (k + 1) xs (set ys k (get_or x.numbers 0 0))
+  lists_more h f x p q = record { says = says; holds = holds; within = omega (arith, length-set ys k a, l.kept); kept = length-set ys k a ∙ l.kept }
     where
+      a : ℕ
+      a = get_or x.numbers 0 0
+
+      z : ℕ
+      z = x.next
+
       row : Row s at (a ∷ []) z
-      row = row1_read p q
+      row = row_read 1 p q
 
       says : listed (length xs - (k + 1)) (k + 1) (lines (drop z s)) ≡ listed (length xs) 0 (lines s)
       says = rw (row_rest row) (room_says h f true row.line)

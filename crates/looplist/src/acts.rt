@@ -1,7 +1,7 @@
 // A list of acts as text: a number on each line.
 ghost use Rattle.looplist.specs.Listing.{Lists};
 
-use text::read::{Row1, row_of_1};
+use text::read::numbers_row;
 
 // Why a list is not run: the first line, counted from 1, that is no act; or the buffer cannot hold them all.
 #[derive(Clone, Copy, Debug, PartialEq, Eq)]
@@ -19,11 +19,12 @@ pub(crate) fn list_acts(text: &[u8], acts: &mut [u32]) -> Result<usize, BadList>
         if text.len() <= at {
             return Ok(count);
         }
-        let Row1::Read(number, past) = row_of_1(text, at) else {
+        let Some(row) = numbers_row::<1>(text, at) else {
             return Err(BadList::NoAct(count + 1));
         };
+        let [number] = row.numbers;
         *act = number;
-        at = past;
+        at = row.next;
     }
     if at < text.len() {
         return Err(BadList::TooMany);
