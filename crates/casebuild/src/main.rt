@@ -2,8 +2,7 @@
 // `refused` and the number, and the chart's first bad pair where there is one.
 #![tactic(auto)]
 
-ghost use Rattle.std.specs.Prelude.{◌≤◌, length};
-ghost use Rattle.desk.specs.Lines.{Shows};
+ghost use Rattle.std.specs.Prelude.{◌≡◌, ◌≤◌, length};
 ghost use Rattle.casebuild.specs.Printing.{page_room, printed};
 
 use desk::{ENOUGH, ErrorOutput};
@@ -22,19 +21,19 @@ const CLAIM: usize = 2;
 
 const WORKERS: usize = 3;
 
-// What is to be printed of a chart and a claim, at the page's front; its length.
-fn show(chart: &[u8], claim: &[u8], workers: u32, page: &mut [u8]) -> usize
+// What is to be printed of a chart and a claim, at the page's front.
+fn show<'a>(chart: &[u8], claim: &[u8], workers: u32, page: &'a mut [u8]) -> &'a [u8]
     requires { page_room ≤ length page.old }
-    ensures { Shows (printed chart.now claim.now workers) result page.new }
+    ensures { result.now ≡ printed chart.now claim.now workers }
 {
     let built = build_case(chart, claim, workers, page);
-    desk::finish_page(page, built)
+    let n = desk::finish_page(page, built);
+    &page[..n]
 }
 
 fn print_built<R: Print + ErrorOutput>(rt: &R, chart: &[u8], claim: &[u8], workers: u32) {
     let mut page = [0u8; PAGE];
-    let n = show(chart, claim, workers, &mut page);
-    desk::print(rt, &page[..n]);
+    desk::print(rt, show(chart, claim, workers, &mut page));
 }
 
 // "A worker count outside 01's range gets 5, before either file is read": with any files it is the same. The claim is read

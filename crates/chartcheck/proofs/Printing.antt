@@ -102,8 +102,8 @@ module _ {bs : List ℕ} {h : Chart} {c : Charted} (g : BadRead bs h c) where
       let short : length w ≤ longest_name = rw n (name_short bs g.right c.mode (bad_mode g)) in
       rw (g.said, lt-ltb 17 c.refusal above, (bad_flags g).0, ← n) (puts_shows p (omega (arith, pair_short w h.flags c short (bad_flags g).1)))
 
-pub tells_nothing : {bs t t' : List ℕ} {r x : Read} → ChartRead bs r t t' → r ≡ x → (returned x).refusal ≤ 17 → (o : List ℕ) → Shows (told bs) 0 o
+pub tells_nothing : {bs t t' : List ℕ} {r x : Read} → ChartRead bs r t t' → r ≡ x → (returned x).refusal ≤ 17 → told bs ≡ []
 unfolding told
-tells_nothing {bs} {x = x} g e l o =
+tells_nothing {bs} {x = x} g e l =
     let k : (chart_says bs).refusal ≤ 17 = rw (← read_returns g e) l in
-    record { within = omega arith; bytes = sym (rw (le-ltb 17 (chart_says bs).refusal k) refl) }
+    rw (le-ltb 17 (chart_says bs).refusal k) refl

@@ -5,8 +5,8 @@ use mathlib.Core.List.{List, [], ◌∷◌, ◌++◌, flatten, append-nil, appen
 use Prim.Native.Nat.{ℕ, ◌+◌, ◌≤◌}
 use native.Mathlib.Nat.{zero-add}
 use native.Mathlib.Omega.{arith}
-use lib.ListN.{length, drop, length-append}
-use lib.Seq.{take-append_seam}
+use lib.ListN.{length, take, drop, length-append}
+use lib.Seq.{take-append_seam, length-take-le}
 use Rattle.text.specs.Ascii.{ascii}
 use Rattle.text.specs.Lines.{text, joined}
 use Rattle.text.specs.Numbers.{decimal}
@@ -23,6 +23,9 @@ puts_shows {bs} {r} {o} {z} p h = record { within = omega (arith, f.0, ap length
   where
     f : (r ≡ 0 + length bs) × (z ≡ put 0 bs o)
     f = p.fits (omega arith)
+
+pub shown_size : {bs : List ℕ} {r : ℕ} {z : List ℕ} → Shows bs r z → r ≡ length (take r z)
+shown_size s = sym (length-take-le _ _ s.within)
 
 -- A NUMBER BETWEEN WORDS, as it is written
 pub between_puts : (a : List ℕ) (v : ℕ) (b : List ℕ) {at r : ℕ} {o z : List ℕ} → Chain (a ∷ decimal v ∷ b ∷ []) at r o z → Puts at (a ++ decimal v ++ b) r o z

@@ -2,9 +2,8 @@
 // number.
 #![tactic(auto)]
 
-ghost use Rattle.std.specs.Prelude.{◌≤◌, length};
+ghost use Rattle.std.specs.Prelude.{◌≡◌, ◌≤◌, length};
 ghost use Rattle.text.specs.Writing.{Puts};
-ghost use Rattle.desk.specs.Lines.{Shows};
 ghost use Rattle.loopcheck.specs.Printing.{checked_line, printed};
 
 use checker::check_answer;
@@ -35,12 +34,13 @@ fn write_checked(line: &mut [u8], checked: Checked) -> usize
     write_bytes(line, 0, b"pass empty\n")
 }
 
-// What is to be printed of a case and an answer, at the buffer's front; its length.
-fn check(case: &[u8], answer: &[u8], line: &mut [u8]) -> usize
+// What is to be printed of a case and an answer, at the buffer's front.
+fn check<'a>(case: &[u8], answer: &[u8], line: &'a mut [u8]) -> &'a [u8]
     requires { 32 ≤ length line.old }
-    ensures { Shows (printed case.now answer.now) result line.new }
+    ensures { result.now ≡ printed case.now answer.now }
 {
-    write_checked(line, check_answer(case, answer))
+    let n = write_checked(line, check_answer(case, answer));
+    &line[..n]
 }
 
 // Each file is read once the one before has been.
@@ -50,8 +50,7 @@ fn check_files<R: Env + Files + Print + ErrorOutput>(rt: &R) -> io::Result<()> {
     let mut answer = [0u8; ENOUGH];
     let answer = desk::read_argument(rt, ANSWER, &mut answer)?;
     let mut line = [0u8; LINE];
-    let n = check(case, answer, &mut line);
-    desk::print(rt, &line[..n]);
+    desk::print(rt, check(case, answer, &mut line));
     Ok(())
 }
 

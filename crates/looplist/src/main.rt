@@ -6,9 +6,8 @@ mod acts;
 mod complaint;
 mod page;
 
-ghost use Rattle.std.specs.Prelude.{◌+◌, ◌≤◌, ◌<◌, ◌^◌, length};
+ghost use Rattle.std.specs.Prelude.{◌≡◌, ◌+◌, ◌≤◌, ◌<◌, ◌^◌, length};
 ghost use Rattle.model.specs.Case.{least_output, least_work};
-ghost use Rattle.desk.specs.Lines.{Shows};
 ghost use Rattle.looplist.specs.Printing.{head_room, printed};
 
 use acts::list_acts;
@@ -35,15 +34,22 @@ const CASE: usize = 1;
 
 pub(crate) const ACTS: usize = 2;
 
-// What is to be printed of a case and a list, at the page's front; its length.
-fn replay(case: &[u8], acts: &[u32], output: &mut [u8], work: &mut [i32], page: &mut [u8]) -> usize
+// What is to be printed of a case and a list, at the page's front.
+fn replay<'a>(
+    case: &[u8],
+    acts: &[u32],
+    output: &mut [u8],
+    work: &mut [i32],
+    page: &'a mut [u8],
+) -> &'a [u8]
     requires { (least_output ≤ length output.old) × (least_work ≤ length work.old) × (head_room + length output.old ≤ length page.old) × (length acts.now < 2 ^ 32) }
-    ensures { Shows (printed case.now acts.now) result page.new }
+    ensures { result.now ≡ printed case.now acts.now }
 {
     let outcome = run_list(case, acts, output, work);
     let at = write_head(page, outcome);
     let size = outcome.written as usize;
-    write_bytes(page, at, &output[..size])
+    let n = write_bytes(page, at, &output[..size]);
+    &page[..n]
 }
 
 fn print_replay<R: Print + ErrorOutput>(rt: &R, case: &[u8], acts: &[u32])
@@ -52,8 +58,7 @@ fn print_replay<R: Print + ErrorOutput>(rt: &R, case: &[u8], acts: &[u32])
     let mut output = [0u8; Case::LEAST_OUTPUT];
     let mut work = [0i32; Case::LEAST_WORK];
     let mut page = [0u8; PAGE];
-    let n = replay(case, acts, &mut output, &mut work, &mut page);
-    desk::print(rt, &page[..n]);
+    desk::print(rt, replay(case, acts, &mut output, &mut work, &mut page));
 }
 
 fn replay_text<R: Env + Print + ErrorOutput>(rt: &R, case: &[u8], text: &[u8]) {

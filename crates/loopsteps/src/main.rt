@@ -3,8 +3,7 @@
 // pair where there is one.
 #![tactic(auto)]
 
-ghost use Rattle.std.specs.Prelude.{◌≤◌, length};
-ghost use Rattle.desk.specs.Lines.{Shows};
+ghost use Rattle.std.specs.Prelude.{◌≡◌, ◌≤◌, length};
 ghost use Rattle.loopsteps.specs.Printing.{page_room, printed};
 
 use desk::{ENOUGH, ErrorOutput};
@@ -23,13 +22,14 @@ const CLAIM: usize = 2;
 
 const ANSWER: usize = 3;
 
-// What is to be printed of a chart, a claim and an answer, at the page's front; its length.
-fn show<'a>(chart: &'a [u8], claim: &'a [u8], answer: &[u8], page: &mut [u8]) -> usize
+// What is to be printed of a chart, a claim and an answer, at the page's front.
+fn show<'a, 'p>(chart: &'a [u8], claim: &'a [u8], answer: &[u8], page: &'p mut [u8]) -> &'p [u8]
     requires { page_room ≤ length page.old }
-    ensures { Shows (printed chart.now claim.now answer.now) result page.new }
+    ensures { result.now ≡ printed chart.now claim.now answer.now }
 {
     let listed = list_steps(chart, claim, answer, page);
-    desk::finish_page(page, listed)
+    let n = desk::finish_page(page, listed);
+    &page[..n]
 }
 
 // Each file is read once the one before has been.
@@ -41,8 +41,7 @@ fn list_files<R: Env + Files + Print + ErrorOutput>(rt: &R) -> io::Result<()> {
     let mut answer = [0u8; ENOUGH];
     let answer = desk::read_argument(rt, ANSWER, &mut answer)?;
     let mut page = [0u8; PAGE];
-    let n = show(chart, claim, answer, &mut page);
-    desk::print(rt, &page[..n]);
+    desk::print(rt, show(chart, claim, answer, &mut page));
     Ok(())
 }
 
