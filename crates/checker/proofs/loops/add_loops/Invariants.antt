@@ -9,8 +9,5 @@ use Rattle.checker.proofs.RestLoops.{Adding}
 use Rattle.checker.proofs.loops.add_loops.Given as goal
 
 abbrev pub invariant-loop-v : goal.invariant-loop-v
-invariant-loop-v l = (l.v ≤ l.n) × (l.k ≤ l.m + l.v) × (length l.froms ≡ length l.initial.froms) × (length l.tos ≡ length l.initial.tos)
-    × ((es : List Edge) → Ends es l.m l.initial.froms l.initial.tos → Adding l.n es l.v l.k l.froms l.tos)
-
-abbrev pub decreases-loop-v : goal.decreases-loop-v
-decreases-loop-v l = l.n - l.v
+invariant-loop-v l = (l.k ≤ l.fn.case.edges + l.v) × (length l.froms ≡ length l.initial.froms) × (length l.tos ≡ length l.initial.tos)
+    × ((es : List Edge) → Ends es l.fn.case.edges l.initial.froms l.initial.tos → Adding l.fn.case.vertices es l.v l.k l.froms l.tos)
