@@ -2,19 +2,14 @@
 // `refused` and the number, and the chart's first bad pair where there is one.
 #![tactic(auto)]
 
-ghost use Rattle.std.specs.Prelude.{◌≤◌, length};
-ghost use Rattle.desk.specs.Lines.{Shows};
+ghost use Rattle.std.specs.Prelude.{◌≡◌, ◌≤◌, length};
 ghost use Rattle.casebuild.specs.Printing.{page_room, printed};
 
-use casefile::Case;
-use desk::{ErrorOutput, Filled};
+use desk::{ENOUGH, ErrorOutput};
 use model::Built;
 use product::{build_case, workers_right};
+use std::io;
 use std::rt::{Env, Files};
-use text::read::Number;
-
-// One byte more than a file may have, so that a longer one is seen to be too long.
-const ENOUGH: usize = Case::LONGEST_FILE + 1;
 
 // The least that a case file is built in, and more than the lines of a refusal.
 const PAGE: usize = Built::LEAST_CASE_OUTPUT;
@@ -26,55 +21,48 @@ const CLAIM: usize = 2;
 
 const WORKERS: usize = 3;
 
-// What is to be printed of a chart and a claim, at the page's front; its length.
-fn show(chart: &[u8], claim: &[u8], workers: u32, page: &mut [u8]) -> usize
+// What is to be printed of a chart and a claim, at the page's front.
+fn show<'a>(chart: &[u8], claim: &[u8], workers: u32, page: &'a mut [u8]) -> &'a [u8]
     requires { page_room ≤ length page.old }
-    ensures { Shows (printed chart.now claim.now workers) result page.new }
+    ensures { result.now ≡ printed chart.now claim.now workers }
 {
     let built = build_case(chart, claim, workers, page);
-    if built.refusal != 0 {
-        return desk::write_refused(page, built.refusal, built.mode, built.combination);
-    }
-    built.written as usize
+    let n = desk::finish_page(page, built);
+    &page[..n]
 }
 
 fn print_built<R: Print + ErrorOutput>(rt: &R, chart: &[u8], claim: &[u8], workers: u32) {
     let mut page = [0u8; PAGE];
-    let n = show(chart, claim, workers, &mut page);
-    desk::print(rt, &page[..n]);
+    desk::print(rt, show(chart, claim, workers, &mut page));
 }
 
-// The claim is read once the chart has been.
-fn build_from<R: Env + Files + Print + ErrorOutput>(rt: &R, chart: &[u8], workers: u32) {
-    let mut claim = [0u8; ENOUGH];
-    if let Filled::Bytes(n) = desk::read_argument(rt, CLAIM, &mut claim) {
-        print_built(rt, chart, &claim[..n], workers);
-    }
-}
-
-// "A worker count outside 01's range gets 5, before either file is read": with any files it is the same.
-fn build<R: Env + Files + Print + ErrorOutput>(rt: &R, workers: u32) {
+// "A worker count outside 01's range gets 5, before either file is read": with any files it is the same. The claim is read
+// once the chart has been.
+fn build<R: Env + Files + Print + ErrorOutput>(rt: &R, workers: u32) -> io::Result<()> {
     if !workers_right(workers) {
         print_built(rt, &[], &[], workers);
-        return;
+        return Ok(());
     }
     let mut chart = [0u8; ENOUGH];
-    if let Filled::Bytes(n) = desk::read_argument(rt, CHART, &mut chart) {
-        build_from(rt, &chart[..n], workers);
-    }
+    let chart = desk::read_argument(rt, CHART, &mut chart)?;
+    let mut claim = [0u8; ENOUGH];
+    let claim = desk::read_argument(rt, CLAIM, &mut claim)?;
+    print_built(rt, chart, claim, workers);
+    Ok(())
 }
 
 // How many workers, if the arguments are as they should be.
-fn workers_asked<R: Env>(rt: &R) -> Number {
+fn workers_asked<R: Env>(rt: &R) -> Option<u32> {
     if !desk::argument_count_is(rt, 3) {
-        return Number::Not;
+        return None;
     }
     desk::number_argument(rt, WORKERS)
 }
 
 fn main(rt: HostRuntime) {
-    match workers_asked(&rt) {
-        Number::Is(workers) => build(&rt, workers),
-        Number::Not => desk::complain(&rt, b"usage: casebuild CHART CLAIM WORKERS\n"),
-    }
+    let Some(workers) = workers_asked(&rt) else {
+        desk::complain(&rt, b"usage: casebuild CHART CLAIM WORKERS\n");
+        return;
+    };
+    let _ = build(&rt, workers); // which file failed, and why, has been said
 }

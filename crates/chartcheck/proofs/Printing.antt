@@ -1,17 +1,16 @@
 -- From what the chart's reader says to what is printed. Assumes nothing.
 use mathlib.Core.Path.{◌≡◌, refl, sym, ap, ◌∙◌}
 use mathlib.Core.Bool.{Bool, true, false, cond}
-use mathlib.Core.List.{List, [], ◌∷◌, ◌++◌, append-nil, append_assoc}
+use mathlib.Core.List.{List, [], ◌∷◌, ◌++◌}
 use mathlib.Core.Logic.{◌⊎◌, inl, inr}
-use Prim.Native.Nat.{ℕ, zero, suc, ◌/◌, ◌%◌, ◌^◌, ◌≤◌, ◌<◌}
+use Prim.Native.Nat.{ℕ, zero, suc, ◌-◌, ◌≤◌, ◌<◌}
 use native.Mathlib.Omega.{arith}
 use lib.Dec.{eqb}
 use lib.ListN.{length, length-append}
 use borrow.Author.Tests.{eq-eqb, ne_eqb, lt-ltb, le-ltb}
 use Rattle.text.specs.Ascii.{ascii}
 use Rattle.text.specs.Writing.{Writes, Puts, Chain}
-use Rattle.text.proofs.Chains.{puts, puts_none, puts_then, puts_as}
-use Rattle.model.specs.ClaimLabels.{bit}
+use Rattle.text.proofs.Chains.{puts, puts_as}
 use Rattle.model.specs.Chart.{most_flags, longest_name, mode_name, chart_in, chart_says}
 use Rattle.model.specs.declared.Charted.{Charted}
 use Rattle.desk.specs.Lines.{refused_lines, all_parts, Shows}
@@ -45,40 +44,16 @@ pub charted_shows : (bs : List ℕ) {c : Charted} {r : ℕ} {o z : List ℕ} →
 unfolding printed
 charted_shows bs {c} e p h = rw (← e) (puts_shows p (omega (arith, charted_short c)))
 
--- STANDARD ERROR, as it is written: a bit, and bits one after the other
-pub digit_one : (f i : ℕ) → f / 2 ^ i % 2 ≡ 1 → 49 ≡ bit_digit f i
-unfolding bit_digit bit
-digit_one f i e = rw e refl
+-- STANDARD ERROR, as it is written: bits one after the other
+pub bits_more : (i f : ℕ) {d : ℕ} → 0 < i → d ≡ bit_digit f (i - 1) → bits i f ≡ (d ∷ []) ++ bits (i - 1) f
+unfolding bits
+bits_more zero f h e = absurd (omega arith)
+bits_more (suc i) f h e = let n : suc i - 1 ≡ i = omega arith in rw (e, n) refl
 
-pub digit_zero : (f i : ℕ) → (f / 2 ^ i % 2 ≡ 1 → ⊥) → 48 ≡ bit_digit f i
-unfolding bit_digit bit
-digit_zero f i n = sym (rw (ne_eqb (f / 2 ^ i % 2) 1 n) refl)
-
-pub record BitsLeft (many flags at : ℕ) (i place : ℕ) (o z : List ℕ) : Type 0 where
-  pub within : i ≤ many
-  pub kept : length z ≡ length o
-  pub done : List ℕ
-  pub rest : done ++ bits i flags ≡ bits many flags
-  pub written : Puts at done place o z
-
-pub bits_start : (many flags at : ℕ) (o : List ℕ) → BitsLeft many flags at many at o o
-bits_start many flags at o = record { within = omega arith; kept = refl; done = []; rest = refl; written = puts_none at o }
-
-module _ {many flags at i place : ℕ} {o z : List ℕ} (g : BitsLeft many flags at i place o z) where
-  pub bits_step : {j : ℕ} → i ≡ suc j → {d r : ℕ} {y : List ℕ} → d ≡ bit_digit flags j → length y ≡ length z → Writes place (d ∷ []) r z y → BitsLeft many flags at j r o y
-  unfolding bits
-  bits_step {j} e {d} q k w =
-      record {
-        within = omega (arith, g.within);
-        kept = k ∙ g.kept;
-        done = g.done ++ (d ∷ []);
-        rest = append_assoc g.done (d ∷ []) (bits j flags) ∙ (rw q (rw e at g.rest));
-        written = puts_then g.written (puts w);
-      }
-
-  pub bits_end : i ≡ 0 → Puts at (bits many flags) place o z
-  unfolding bits
-  bits_end e = puts_as (sym (append-nil g.done) ∙ (rw e at g.rest)) g.written
+pub bits_none : (i f : ℕ) → i ≤ 0 → bits i f ≡ []
+unfolding bits
+bits_none zero f h = refl
+bits_none (suc i) f h = absurd (omega arith)
 
 bits_long : (many f : ℕ) → length (bits many f) ≡ many
 unfolding bits
@@ -127,8 +102,8 @@ module _ {bs : List ℕ} {h : Chart} {c : Charted} (g : BadRead bs h c) where
       let short : length w ≤ longest_name = rw n (name_short bs g.right c.mode (bad_mode g)) in
       rw (g.said, lt-ltb 17 c.refusal above, (bad_flags g).0, ← n) (puts_shows p (omega (arith, pair_short w h.flags c short (bad_flags g).1)))
 
-pub tells_nothing : {bs t t' : List ℕ} {r x : Read} → ChartRead bs r t t' → r ≡ x → (returned x).refusal ≤ 17 → (o : List ℕ) → Shows (told bs) 0 o
+pub tells_nothing : {bs t t' : List ℕ} {r x : Read} → ChartRead bs r t t' → r ≡ x → (returned x).refusal ≤ 17 → told bs ≡ []
 unfolding told
-tells_nothing {bs} {x = x} g e l o =
+tells_nothing {bs} {x = x} g e l =
     let k : (chart_says bs).refusal ≤ 17 = rw (← read_returns g e) l in
-    record { within = omega arith; bytes = sym (rw (le-ltb 17 (chart_says bs).refusal k) refl) }
+    rw (le-ltb 17 (chart_says bs).refusal k) refl

@@ -4,17 +4,12 @@
 
 mod page;
 
-ghost use Rattle.std.specs.Prelude.{◌≤◌, length};
-ghost use Rattle.desk.specs.Lines.{Shows};
+ghost use Rattle.std.specs.Prelude.{◌≡◌, ◌≤◌, length};
 ghost use Rattle.chartcheck.specs.Printing.{page_room, printed, told};
 
-use casefile::Case;
 use chart::{Read, check_chart, mode_name, read_chart};
-use desk::{ErrorOutput, Filled};
+use desk::{ENOUGH, ErrorOutput};
 use page::{write_charted, write_pair};
-
-// One byte more than a file may have, so that a longer one is seen to be too long.
-const ENOUGH: usize = Case::LONGEST_FILE + 1;
 
 // More than the longest lines.
 const PAGE: usize = 64;
@@ -22,35 +17,35 @@ const PAGE: usize = 64;
 // Which argument names the file.
 const CHART: usize = 1;
 
-// What is to be printed of a text, at the page's front; its length.
-fn show(text: &[u8], page: &mut [u8]) -> usize
+// What is to be printed of a text, at the page's front.
+fn show<'a>(text: &[u8], page: &'a mut [u8]) -> &'a [u8]
     requires { page_room ≤ length page.old }
-    ensures { Shows (printed text.now) result page.new }
+    ensures { result.now ≡ printed text.now }
 {
-    write_charted(page, check_chart(text))
+    let n = write_charted(page, check_chart(text));
+    &page[..n]
 }
 
-// What standard error is to say of a text, at the page's front; its length.
-fn tell(text: &[u8], page: &mut [u8]) -> usize
+// What standard error is to say of a text, at the page's front.
+fn tell<'a>(text: &[u8], page: &'a mut [u8]) -> &'a [u8]
     requires { page_room ≤ length page.old }
-    ensures { Shows (told text.now) result page.new }
+    ensures { result.now ≡ told text.now }
 {
     match read_chart(text, &mut []) {
-        Read::Faulty => 0,
-        Read::Accepted(_) => 0,
+        Read::Faulty => &[],
+        Read::Accepted(_) => &[],
         Read::Bad(chart, said) => {
             let name = mode_name(text, said.mode as usize);
-            write_pair(page, name, chart.flags, said)
+            let n = write_pair(page, name, chart.flags, said);
+            &page[..n]
         }
     }
 }
 
 fn print_checked<R: Print + ErrorOutput>(rt: &R, text: &[u8]) {
     let mut page = [0u8; PAGE];
-    let n = show(text, &mut page);
-    desk::print(rt, &page[..n]);
-    let m = tell(text, &mut page);
-    desk::complain(rt, &page[..m]);
+    desk::print(rt, show(text, &mut page));
+    desk::complain(rt, tell(text, &mut page));
 }
 
 fn main(rt: HostRuntime) {
@@ -59,7 +54,7 @@ fn main(rt: HostRuntime) {
         return;
     }
     let mut text = [0u8; ENOUGH];
-    if let Filled::Bytes(n) = desk::read_argument(&rt, CHART, &mut text) {
-        print_checked(&rt, &text[..n]);
+    if let Ok(chart) = desk::read_argument(&rt, CHART, &mut text) {
+        print_checked(&rt, chart);
     }
 }

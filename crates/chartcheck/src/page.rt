@@ -15,10 +15,11 @@ pub(crate) fn write_charted(page: &mut [u8], said: Charted) -> usize
     if said.refusal == 0 {
         return write_bytes(page, 0, b"pass\n");
     }
-    write_refused(page, said.refusal, said.mode, said.combination)
+    write_refused(page, said)
 }
 
 // Flag i as a digit.
+#[tactic(auto, unfolding(crate::specs::Printing::bit_digit, model::specs::ClaimLabels::bit))]
 fn bit_digit(flags: u32, i: usize) -> u8
     requires { i < most_flags }
     ensures { result ≡ bit_digit flags i }
@@ -35,9 +36,7 @@ fn write_bits(page: &mut [u8], at: usize, many: usize, flags: u32) -> usize
     ensures { Puts at (bits many flags) result page.old page.new }
 {
     let mut place = at;
-    let mut i = many;
-    while 0 < i {
-        i -= 1;
+    for i in (0..many).rev() {
         place = write_byte(page, place, bit_digit(flags, i));
     }
     place

@@ -9,11 +9,8 @@ ghost use Rattle.desk.specs.Lines.{Shows};
 ghost use Rattle.claimcheck.specs.Printing.{page_room, printed};
 
 use claim::{Counts, read_claim};
-use desk::{ErrorOutput, Filled};
+use desk::{ENOUGH, ErrorOutput};
 use page::write_claim;
-
-// One byte more than a file of this house may have; a claim has at most 16,384.
-const ENOUGH: usize = 65537;
 
 // More than the longest claim's lines.
 const PAGE: usize = 1024;
@@ -42,9 +39,7 @@ fn main(rt: HostRuntime) {
         return;
     }
     let mut text = [0u8; ENOUGH];
-    let mut input = rt.stdin();
-    match desk::fill(&mut input, &mut text) {
-        Filled::Bytes(n) => print_claim(&rt, &text[..n]),
-        Filled::Failed(error) => desk::fail(&rt, b"standard input", error),
+    if let Ok(claim) = desk::read_input(&rt, &mut rt.stdin(), &mut text) {
+        print_claim(&rt, claim);
     }
 }

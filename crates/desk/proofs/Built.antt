@@ -2,18 +2,17 @@
 use mathlib.Core.Path.{◌≡◌, refl, sym, ap, ◌∙◌}
 use mathlib.Core.Bool.{Bool, true, false, cond}
 use mathlib.Core.List.{List, [], ◌++◌}
-use Prim.Native.Nat.{ℕ, ◌≤◌}
+use Prim.Native.Nat.{ℕ, zero, suc, ◌≤◌}
 use native.Mathlib.Omega.{arith}
 use lib.Dec.{eqb}
 use lib.ListN.{length, drop, length-append}
 use lib.Seq.{take-append_seam}
 use borrow.Author.Tests.{ne_eqb}
-use Rattle.text.specs.Writing.{Chain}
 use Rattle.model.specs.Entry.{in_front}
 use Rattle.model.specs.BuiltEntry.{names_pair, BuiltSays}
 use Rattle.model.specs.declared.Built.{Built}
 use Rattle.model.specs.declared.Charted.{Charted}
-use Rattle.desk.specs.Lines.{refused_line, pair_lines, refused_lines, all_parts, Shows}
+use Rattle.desk.specs.Lines.{refused_line, pair_lines, refused_lines, Shows, Finishes}
 use Rattle.desk.proofs.Writing.{puts_shows, all_puts, all_short}
 
 -- a refusal without a pair has no lines for one
@@ -25,19 +24,25 @@ same_lines k q f = go (names_pair k)
     go true = refl
     go false = refl
 
-module _ {k : ℕ} {pair : Charted} {t : List ℕ} {b : Built} {o y : List ℕ} (s : BuiltSays k pair t b o y) where
-  pub built_shows : b.refusal ≡ 0 → Shows (cond (eqb k 0) t (refused_lines k pair.mode pair.combination)) b.written y
+module _ {k : ℕ} {pair : Charted} {t : List ℕ} {b : Built} {o y : List ℕ} (s : BuiltSays k pair t b o y) {r : ℕ} {z : List ℕ} (f : Finishes b r y z) (room : 52 ≤ length o) where
+  text_shows : b.refusal ≡ 0 → Shows (cond (eqb k 0) t (refused_lines k pair.mode pair.combination)) r z
   unfolding in_front
-  built_shows e =
-      let z : k ≡ 0 = sym s.refusal ∙ e in
-      let out : y ≡ t ++ drop (length t) o = rw z at s.output in
-      let long : b.written ≡ length t = rw z at s.written in
-      rw z (record { within = omega (arith, long, ap length out, length-append t (drop (length t) o)); bytes = rw (out, long) (take-append_seam t (drop (length t) o)) })
+  text_shows e =
+      let n : k ≡ 0 = sym s.refusal ∙ e in
+      let out : z ≡ t ++ drop (length t) o = (f.built e).1 ∙ (rw n at s.output) in
+      let long : r ≡ length t = (f.built e).0 ∙ (rw n at s.written) in
+      rw n (record { within = omega (arith, long, ap length out, length-append t (drop (length t) o)); bytes = rw (out, long) (take-append_seam t (drop (length t) o)) })
 
-  pub refusal_shows : {r : ℕ} {z : List ℕ} → (b.refusal ≡ 0 → ⊥) → Chain (all_parts b.refusal b.mode b.combination) 0 r y z → 52 ≤ length o
-      → Shows (cond (eqb k 0) t (refused_lines k pair.mode pair.combination)) r z
-  refusal_shows n c room =
+  refusal_shows : (b.refusal ≡ 0 → ⊥) → Shows (cond (eqb k 0) t (refused_lines k pair.mode pair.combination)) r z
+  refusal_shows n =
       let m : k ≡ 0 → ⊥ = λ e. n (s.refusal ∙ e) in
       let same : y ≡ o = rw (ne_eqb k 0 m) at s.output in
       let lines : refused_lines b.refusal b.mode b.combination ≡ refused_lines k pair.mode pair.combination = rw (s.refusal, s.mode, s.combination) (same_lines k pair.mode pair.combination) in
-      rw (ne_eqb k 0 m, ← lines) (puts_shows (all_puts _ _ _ c) (omega (arith, all_short b.refusal b.mode b.combination, ap length same)))
+      rw (ne_eqb k 0 m, ← lines) (puts_shows (all_puts _ _ _ (f.refused n)) (omega (arith, all_short b.refusal b.mode b.combination, ap length same)))
+
+  pub page_shows : Shows (cond (eqb k 0) t (refused_lines k pair.mode pair.combination)) r z
+  page_shows = go b.refusal refl
+    where
+      go : (j : ℕ) → b.refusal ≡ j → Shows (cond (eqb k 0) t (refused_lines k pair.mode pair.combination)) r z
+      go zero e = text_shows e
+      go (suc j) e = refusal_shows (λ n. omega (arith, e, n))

@@ -1,11 +1,11 @@
 -- No bytes are no number. Assumes nothing.
+use Rattle.std.specs.Prelude.{None}
 use mathlib.Core.Path.{refl}
 use mathlib.Core.List.{[]}
 use Rattle.text.specs.Numbers.{is_number}
 use Rattle.text.specs.Reading.{number_in}
-use Rattle.text.specs.declared.read.Number.TheVariants.{Not}
 use Rattle.desk.specs.Filling.{SaidByWord}
 
-pub says_none : SaidByWord Not
+pub says_none : SaidByWord None
 unfolding number_in is_number
 says_none = record { word = []; says = refl }

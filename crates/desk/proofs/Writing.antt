@@ -5,10 +5,8 @@ use mathlib.Core.List.{List, [], ◌∷◌, ◌++◌, flatten, append-nil, appen
 use Prim.Native.Nat.{ℕ, ◌+◌, ◌≤◌}
 use native.Mathlib.Nat.{zero-add}
 use native.Mathlib.Omega.{arith}
-use lib.Dec.{eqb}
-use lib.ListN.{length, drop, length-append}
-use lib.Seq.{take-append_seam}
-use borrow.Author.Tests.{eq-eqb, ne_eqb}
+use lib.ListN.{length, take, drop, length-append}
+use lib.Seq.{take-append_seam, length-take-le}
 use Rattle.text.specs.Ascii.{ascii}
 use Rattle.text.specs.Lines.{text, joined}
 use Rattle.text.specs.Numbers.{decimal}
@@ -25,6 +23,9 @@ puts_shows {bs} {r} {o} {z} p h = record { within = omega (arith, f.0, ap length
   where
     f : (r ≡ 0 + length bs) × (z ≡ put 0 bs o)
     f = p.fits (omega arith)
+
+pub shown_size : {bs : List ℕ} {r : ℕ} {z : List ℕ} → Shows bs r z → r ≡ length (take r z)
+shown_size s = sym (length-take-le _ _ s.within)
 
 -- A NUMBER BETWEEN WORDS, as it is written
 pub between_puts : (a : List ℕ) (v : ℕ) (b : List ℕ) {at r : ℕ} {o z : List ℕ} → Chain (a ∷ decimal v ∷ b ∷ []) at r o z → Puts at (a ++ decimal v ++ b) r o z
@@ -43,16 +44,7 @@ pub refused_short : (k : ℕ) → length (refused_line k) ≤ 19
 unfolding flatten
 refused_short k = omega (arith, ap length (sym (refused_flat k)), length-append (ascii "refused ") (decimal k ++ (10 ∷ [])), length-append (decimal k) (10 ∷ []), decimal_most k)
 
--- WITH ITS PAIR: whether it has one
-pub names_gap : (k : ℕ) → k ≡ 18 → true ≡ names_pair k
-unfolding names_pair
-names_gap k e = sym (rw (eq-eqb k 18 e) refl)
-
-pub names_overlap : (k : ℕ) → (k ≡ 18 → ⊥) → eqb k 19 ≡ names_pair k
-unfolding names_pair
-names_overlap k n = sym (rw (ne_eqb k 18 n) refl)
-
--- as it is written
+-- WITH ITS PAIR, as it is written
 module _ (k q f : ℕ) {r : ℕ} {o : List ℕ} where
   pub chain_alone : {z : List ℕ} → names_pair k ≡ false → Chain (refused_parts k) 0 r o z → Chain (all_parts k q f) 0 r o z
   chain_alone e c = rw e c

@@ -3,7 +3,9 @@ use Rattle.std.specs.Prelude.{◌≡◌, cond, List, [], ◌∷◌, ◌++◌, �
 use Rattle.text.specs.Ascii.{ascii, line_feed}
 use Rattle.text.specs.Lines.{text}
 use Rattle.text.specs.Numbers.{decimal}
+use Rattle.text.specs.Writing.{Chain}
 use Rattle.model.specs.BuiltEntry.{names_pair}
+use Rattle.model.specs.declared.Built.{Built}
 
 -- a name and a number
 unfoldable pub count_line : (name : List ℕ) → (count : ℕ) → List ℕ
@@ -37,3 +39,8 @@ all_parts k q f = refused_parts k ++ cond (names_pair k) (pair_parts q f) []
 pub record Shows (bs : List ℕ) (r : ℕ) (z : List ℕ) : Type 0 where
   pub within : r ≤ length z
   pub bytes : take r z ≡ bs
+
+-- a page after building: as it is and as long as was said, or the lines of the refusal written over it
+pub record Finishes (b : Built) (r : ℕ) (y z : List ℕ) : Type 0 where
+  pub built : b.refusal ≡ 0 → (r ≡ b.written) × (z ≡ y)
+  pub refused : (b.refusal ≡ 0 → ⊥) → Chain (all_parts b.refusal b.mode b.combination) 0 r y z

@@ -28,10 +28,8 @@ pub fn complain<R: ErrorOutput>(rt: &R, bytes: &[u8])
 
 // The system's words alone: std puts the number of the error behind them.
 fn words_alone(text: &str) -> &str {
-    match text.rsplit_once(" (os error ") {
-        Some((words, _)) => words,
-        None => text,
-    }
+    text.rsplit_once(" (os error ")
+        .map_or(text, |(words, _)| words)
 }
 
 // A line on standard error: what failed, as the caller names it, a colon and why.

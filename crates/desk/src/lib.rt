@@ -8,5 +8,7 @@ mod input;
 mod output;
 
 pub use errors::{ErrorOutput, complain, fail};
-pub use input::{Filled, argument_count_is, fill, is_given, number_argument, read_argument};
-pub use output::{print, write_between, write_refusal, write_refused};
+pub use input::{
+    ENOUGH, argument_count_is, fill, is_given, number_argument, read_argument, read_input,
+};
+pub use output::{finish_page, print, write_between, write_refusal, write_refused};

@@ -3,11 +3,11 @@ ghost use Rattle.std.specs.Prelude.{◌≡◌, [], ◌∷◌};
 ghost use Rattle.text.specs.Numbers.{decimal};
 ghost use Rattle.text.specs.Writing.{Chain};
 ghost use Rattle.model.specs.BuiltEntry.{names_pair};
-ghost use Rattle.desk.specs.Lines.{refused_parts, all_parts};
+ghost use Rattle.desk.specs.Lines.{refused_parts, all_parts, Finishes};
 ghost use Rattle.desk.specs.Offering.{Offered, standard_output};
 
 use crate::{ErrorOutput, fail};
-use model::Charted;
+use model::{Built, Charted};
 use text::write::{write_bytes, write_number};
 
 // Prints the bytes; if standard output does not take them, standard error says why.
@@ -42,23 +42,36 @@ pub fn write_refusal(buffer: &mut [u8], refusal: u32) -> usize
 }
 
 // Whether a refusal comes with a pair.
+#[tactic(auto, unfolding(model::specs::BuiltEntry::names_pair))]
 fn names_pair(refusal: u32) -> bool
     ensures { result ≡ names_pair refusal }
 {
-    if refusal == Charted::GAP {
-        return true;
-    }
-    refusal == Charted::OVERLAP
+    matches!(refusal, Charted::GAP | Charted::OVERLAP)
 }
 
 // The lines of a refusal, and of its pair where it comes with one, at the buffer's front; their length, or no room.
-pub fn write_refused(buffer: &mut [u8], refusal: u32, mode: u32, combination: u32) -> usize
-    ensures { Chain (all_parts refusal mode combination) 0 result buffer.old buffer.new }
+pub fn write_refused(buffer: &mut [u8], said: Charted) -> usize
+    ensures { Chain (all_parts said.refusal said.mode said.combination) 0 result buffer.old buffer.new }
 {
-    let a = write_refusal(buffer, refusal);
-    if !names_pair(refusal) {
+    let a = write_refusal(buffer, said.refusal);
+    if !names_pair(said.refusal) {
         return a;
     }
-    let b = write_between(buffer, a, b"mode ", mode, b"\n");
-    write_between(buffer, b, b"flags ", combination, b"\n")
+    let b = write_between(buffer, a, b"mode ", said.mode, b"\n");
+    write_between(buffer, b, b"flags ", said.combination, b"\n")
+}
+
+// The length of what was built at the page's front; or of the lines of its refusal, written over it, or no room.
+pub fn finish_page(page: &mut [u8], built: Built) -> usize
+    ensures { Finishes built result page.old page.new }
+{
+    if built.refusal == 0 {
+        return built.written as usize;
+    }
+    let said = Charted {
+        refusal: built.refusal,
+        mode: built.mode,
+        combination: built.combination,
+    };
+    write_refused(page, said)
 }

@@ -2,20 +2,16 @@
 // number.
 #![tactic(auto)]
 
-ghost use Rattle.std.specs.Prelude.{◌≤◌, length};
+ghost use Rattle.std.specs.Prelude.{◌≡◌, ◌≤◌, length};
 ghost use Rattle.text.specs.Writing.{Puts};
-ghost use Rattle.desk.specs.Lines.{Shows};
 ghost use Rattle.loopcheck.specs.Printing.{checked_line, printed};
 
-use casefile::Case;
 use checker::check_answer;
-use desk::{ErrorOutput, Filled};
+use desk::{ENOUGH, ErrorOutput};
 use model::{Checked, Outcome};
+use std::io;
 use std::rt::{Env, Files};
 use text::write::write_bytes;
-
-// One byte more than a file may have, so that a longer one is seen to be too long.
-const ENOUGH: usize = Case::LONGEST_FILE + 1;
 
 // More than the longest line.
 const LINE: usize = 32;
@@ -38,26 +34,24 @@ fn write_checked(line: &mut [u8], checked: Checked) -> usize
     write_bytes(line, 0, b"pass empty\n")
 }
 
-// What is to be printed of a case and an answer, at the buffer's front; its length.
-fn check(case: &[u8], answer: &[u8], line: &mut [u8]) -> usize
+// What is to be printed of a case and an answer, at the buffer's front.
+fn check<'a>(case: &[u8], answer: &[u8], line: &'a mut [u8]) -> &'a [u8]
     requires { 32 ≤ length line.old }
-    ensures { Shows (printed case.now answer.now) result line.new }
+    ensures { result.now ≡ printed case.now answer.now }
 {
-    write_checked(line, check_answer(case, answer))
+    let n = write_checked(line, check_answer(case, answer));
+    &line[..n]
 }
 
-fn print_checked<R: Print + ErrorOutput>(rt: &R, case: &[u8], answer: &[u8]) {
-    let mut line = [0u8; LINE];
-    let n = check(case, answer, &mut line);
-    desk::print(rt, &line[..n]);
-}
-
-// The answer is read once the case has been.
-fn check_answer_to<R: Env + Files + Print + ErrorOutput>(rt: &R, case: &[u8]) {
+// Each file is read once the one before has been.
+fn check_files<R: Env + Files + Print + ErrorOutput>(rt: &R) -> io::Result<()> {
+    let mut case = [0u8; ENOUGH];
+    let case = desk::read_argument(rt, CASE, &mut case)?;
     let mut answer = [0u8; ENOUGH];
-    if let Filled::Bytes(n) = desk::read_argument(rt, ANSWER, &mut answer) {
-        print_checked(rt, case, &answer[..n]);
-    }
+    let answer = desk::read_argument(rt, ANSWER, &mut answer)?;
+    let mut line = [0u8; LINE];
+    desk::print(rt, check(case, answer, &mut line));
+    Ok(())
 }
 
 fn main(rt: HostRuntime) {
@@ -65,8 +59,5 @@ fn main(rt: HostRuntime) {
         desk::complain(&rt, b"usage: loopcheck CASE ANSWER\n");
         return;
     }
-    let mut case = [0u8; ENOUGH];
-    if let Filled::Bytes(n) = desk::read_argument(&rt, CASE, &mut case) {
-        check_answer_to(&rt, &case[..n]);
-    }
+    let _ = check_files(&rt); // which file failed, and why, has been said
 }

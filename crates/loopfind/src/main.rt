@@ -1,35 +1,31 @@
 // Reads a case from standard input, runs it by rounds and prints its answer; on a refusal, `refused` and the number.
 #![tactic(auto)]
 
-ghost use Rattle.std.specs.Prelude.{◌≤◌, length};
+ghost use Rattle.std.specs.Prelude.{◌≡◌, ◌≤◌, length};
 ghost use Rattle.model.specs.Case.{least_output, least_work};
-ghost use Rattle.desk.specs.Lines.{Shows};
 ghost use Rattle.loopfind.specs.Printing.{printed};
 
 use casefile::Case;
-use desk::{ErrorOutput, Filled};
+use desk::{ENOUGH, ErrorOutput};
 use search::run_rounds;
 
-// One byte more than a case may have, so that a longer one is seen to be too long.
-const ENOUGH: usize = Case::LONGEST_FILE + 1;
-
-// What is to be printed of a case, at the output's front; its length.
-fn find(case: &[u8], output: &mut [u8], work: &mut [i32]) -> usize
+// What is to be printed of a case, at the output's front.
+fn find<'a>(case: &[u8], output: &'a mut [u8], work: &mut [i32]) -> &'a [u8]
     requires { (least_output ≤ length output.old) × (least_work ≤ length work.old) }
-    ensures { Shows (printed case.now) result output.new }
+    ensures { result.now ≡ printed case.now }
 {
     let outcome = run_rounds(case, output, work);
     if outcome.refusal == 0 {
-        return outcome.written as usize;
+        return &output[..outcome.written as usize];
     }
-    desk::write_refusal(output, outcome.refusal)
+    let n = desk::write_refusal(output, outcome.refusal);
+    &output[..n]
 }
 
 fn print_found<R: Print + ErrorOutput>(rt: &R, case: &[u8]) {
     let mut output = [0u8; Case::LEAST_OUTPUT];
     let mut work = [0i32; Case::LEAST_WORK];
-    let n = find(case, &mut output, &mut work);
-    desk::print(rt, &output[..n]);
+    desk::print(rt, find(case, &mut output, &mut work));
 }
 
 fn main(rt: HostRuntime) {
@@ -38,9 +34,7 @@ fn main(rt: HostRuntime) {
         return;
     }
     let mut text = [0u8; ENOUGH];
-    let mut input = rt.stdin();
-    match desk::fill(&mut input, &mut text) {
-        Filled::Bytes(n) => print_found(&rt, &text[..n]),
-        Filled::Failed(error) => desk::fail(&rt, b"standard input", error),
+    if let Ok(case) = desk::read_input(&rt, &mut rt.stdin(), &mut text) {
+        print_found(&rt, case);
     }
 }

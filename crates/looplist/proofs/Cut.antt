@@ -15,7 +15,8 @@ use Rattle.text.proofs.Tests.{and_both}
 use Rattle.text.proofs.Lines.{first, size, first_nil, first_feed, first_byte, rest_lines, glue, fields_some}
 use Rattle.text.proofs.Reading.{some_lines, lines_cons}
 use Rattle.looplist.specs.Listing.{listed, FrontDecides}
-use Rattle.looplist.specs.declared.acts.Listed.TheVariants.{NoAct, TooMany}
+use Rattle.std.specs.Prelude.{Err}
+use Rattle.looplist.specs.declared.acts.BadList.TheVariants.{NoAct, TooMany}
 use Rattle.looplist.proofs.Listing.{listed_step}
 
 -- THE FIRST LINE of a text's front: the same where it has room, else an open one
@@ -105,7 +106,7 @@ drop_take (suc i) (suc n) (b ∷ s) = let e : suc n - suc i ≡ n - i = omega ar
 all_lines : (b : ℕ) (bs : List ℕ) → lines (b ∷ bs) ≡ first (b ∷ bs) ∷ lines (drop (size (first (b ∷ bs))) (b ∷ bs))
 all_lines b bs = lines_cons (lines (b ∷ bs)) (some_lines (b ∷ bs) 0 (omega arith)) ∙ ap (λ (ls : List Line). first (b ∷ bs) ∷ ls) (sym (rest_lines (b ∷ bs)))
 
-full_step : (k : ℕ) (l : Line) (ls : List Line) → listed zero k (l ∷ ls) ≡ TooMany
+full_step : (k : ℕ) (l : Line) (ls : List Line) → listed zero k (l ∷ ls) ≡ Err TooMany
 unfolding listed
 full_step k l ls = refl
 
@@ -118,8 +119,8 @@ front_step room k n b bs h ih fits f act a =
     rw (all_lines b (take n bs), all_lines b bs, listed_step, listed_step) (go fits f act a)
   where
     go : (fits : Bool) → leb (size (first (b ∷ bs))) (suc n) ≡ fits → (act : Bool) → numbers_line 1 (first (b ∷ bs)) ≡ act
-        → cond (numbers_line 1 (first (b ∷ take n bs))) (listed room (suc k) (lines (drop (size (first (b ∷ take n bs))) (b ∷ take n bs)))) (NoAct (suc k))
-        ≡ cond (numbers_line 1 (first (b ∷ bs))) (listed room (suc k) (lines (drop (size (first (b ∷ bs))) (b ∷ bs)))) (NoAct (suc k))
+        → cond (numbers_line 1 (first (b ∷ take n bs))) (listed room (suc k) (lines (drop (size (first (b ∷ take n bs))) (b ∷ take n bs)))) (Err (NoAct (suc k)))
+        ≡ cond (numbers_line 1 (first (b ∷ bs))) (listed room (suc k) (lines (drop (size (first (b ∷ bs))) (b ∷ bs)))) (Err (NoAct (suc k)))
     go true f true a =
         let l = leb-true (size (first (b ∷ bs))) (suc n) f in
         rw (first_front (suc n) (b ∷ bs) l, a, drop_take (size (first (b ∷ bs))) (suc n) (b ∷ bs))

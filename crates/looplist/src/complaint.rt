@@ -1,8 +1,10 @@
 // What standard error says of a list that is not run: the name of its file, and a number between words.
 ghost use Rattle.std.specs.Prelude.{◌+◌, ◌≤◌, length};
+ghost use Rattle.looplist.specs.Listing.{Near};
 ghost use Rattle.looplist.specs.Printing.{complaint_room};
 
-use crate::ACTS;
+use crate::acts::BadList;
+use crate::{ACTS, MOST_ACTS};
 use desk::{ErrorOutput, complain, write_between};
 use std::rt::Env;
 
@@ -30,15 +32,17 @@ fn complain_between<R: Env + ErrorOutput>(rt: &R, before: &[u8], number: u32, af
     complain(rt, &line[..n]);
 }
 
-pub(crate) fn complain_of_line<R: Env + ErrorOutput>(rt: &R, line: u32) {
-    complain_between(
-        rt,
-        b": line ",
-        line,
-        b": expected an act, a number of 1 to 9 digits without leading zeros, and a line feed\n",
-    );
-}
-
-pub(crate) fn complain_of_length<R: Env + ErrorOutput>(rt: &R, most: u32) {
-    complain_between(rt, b": more than ", most, b" acts\n");
+// Why the list is not run.
+pub(crate) fn complain_of<R: Env + ErrorOutput>(rt: &R, bad: BadList)
+    requires { Near bad }
+{
+    match bad {
+        BadList::NoAct(line) => complain_between(
+            rt,
+            b": line ",
+            line as u32,
+            b": expected an act, a number of 1 to 9 digits without leading zeros, and a line feed\n",
+        ),
+        BadList::TooMany => complain_between(rt, b": more than ", MOST_ACTS as u32, b" acts\n"),
+    }
 }

@@ -6,25 +6,21 @@ mod acts;
 mod complaint;
 mod page;
 
-ghost use Rattle.std.specs.Prelude.{◌+◌, ◌≤◌, ◌<◌, ◌^◌, length};
+ghost use Rattle.std.specs.Prelude.{◌≡◌, ◌+◌, ◌≤◌, ◌<◌, ◌^◌, length};
 ghost use Rattle.model.specs.Case.{least_output, least_work};
-ghost use Rattle.desk.specs.Lines.{Shows};
 ghost use Rattle.looplist.specs.Printing.{head_room, printed};
 
-use acts::{Listed, list_acts};
+use acts::list_acts;
 use casefile::Case;
-use complaint::{complain_of_length, complain_of_line};
-use desk::{ErrorOutput, Filled};
+use complaint::complain_of;
+use desk::{ENOUGH, ErrorOutput};
 use page::write_head;
 use search::run_list;
 use std::rt::{Env, Files};
 use text::write::write_bytes;
 
-// One byte more than a case may have, so that a longer one is seen to be too long.
-const ENOUGH: usize = Case::LONGEST_FILE + 1;
-
 // The most acts of a list: with its text, which has at most 10 bytes a line, what 8 MB of stack hold.
-const MOST_ACTS: usize = 400000;
+pub(crate) const MOST_ACTS: usize = 400000;
 
 // One byte more than the most acts need: what is read of a longer list is then what all of it says (FrontDecides in
 // specs/Listing.antt).
@@ -38,15 +34,22 @@ const CASE: usize = 1;
 
 pub(crate) const ACTS: usize = 2;
 
-// What is to be printed of a case and a list, at the page's front; its length.
-fn replay(case: &[u8], acts: &[u32], output: &mut [u8], work: &mut [i32], page: &mut [u8]) -> usize
+// What is to be printed of a case and a list, at the page's front.
+fn replay<'a>(
+    case: &[u8],
+    acts: &[u32],
+    output: &mut [u8],
+    work: &mut [i32],
+    page: &'a mut [u8],
+) -> &'a [u8]
     requires { (least_output ≤ length output.old) × (least_work ≤ length work.old) × (head_room + length output.old ≤ length page.old) × (length acts.now < 2 ^ 32) }
-    ensures { Shows (printed case.now acts.now) result page.new }
+    ensures { result.now ≡ printed case.now acts.now }
 {
     let outcome = run_list(case, acts, output, work);
     let at = write_head(page, outcome);
     let size = outcome.written as usize;
-    write_bytes(page, at, &output[..size])
+    let n = write_bytes(page, at, &output[..size]);
+    &page[..n]
 }
 
 fn print_replay<R: Print + ErrorOutput>(rt: &R, case: &[u8], acts: &[u32])
@@ -55,24 +58,22 @@ fn print_replay<R: Print + ErrorOutput>(rt: &R, case: &[u8], acts: &[u32])
     let mut output = [0u8; Case::LEAST_OUTPUT];
     let mut work = [0i32; Case::LEAST_WORK];
     let mut page = [0u8; PAGE];
-    let n = replay(case, acts, &mut output, &mut work, &mut page);
-    desk::print(rt, &page[..n]);
+    desk::print(rt, replay(case, acts, &mut output, &mut work, &mut page));
 }
 
 fn replay_text<R: Env + Print + ErrorOutput>(rt: &R, case: &[u8], text: &[u8]) {
     let mut acts = [0u32; MOST_ACTS];
     match list_acts(text, &mut acts) {
-        Listed::Acts(n) => print_replay(rt, case, &acts[..n]),
-        Listed::NoAct(line) => complain_of_line(rt, line as u32),
-        Listed::TooMany => complain_of_length(rt, MOST_ACTS as u32),
+        Ok(n) => print_replay(rt, case, &acts[..n]),
+        Err(bad) => complain_of(rt, bad),
     }
 }
 
 // The list is read once the case has been.
 fn replay_file<R: Env + Files + Print + ErrorOutput>(rt: &R, case: &[u8]) {
     let mut text = [0u8; TEXT];
-    if let Filled::Bytes(n) = desk::read_argument(rt, ACTS, &mut text) {
-        replay_text(rt, case, &text[..n]);
+    if let Ok(text) = desk::read_argument(rt, ACTS, &mut text) {
+        replay_text(rt, case, text);
     }
 }
 
@@ -82,7 +83,7 @@ fn main(rt: HostRuntime) {
         return;
     }
     let mut case = [0u8; ENOUGH];
-    if let Filled::Bytes(n) = desk::read_argument(&rt, CASE, &mut case) {
-        replay_file(&rt, &case[..n]);
+    if let Ok(case) = desk::read_argument(&rt, CASE, &mut case) {
+        replay_file(&rt, case);
     }
 }

@@ -5,13 +5,12 @@ use Prim.Native.Nat.{ℕ, ◌≤◌}
 use native.Mathlib.Omega.{arith}
 use lib.ListN.{length}
 use borrow.Author.Tests.{le-ltb}
-use Rattle.text.specs.Writing.{Chain}
 use Rattle.model.specs.Chart.{chart_says}
 use Rattle.model.specs.Steps.{listing, least_steps_output, steps_refusal}
 use Rattle.model.specs.BuiltEntry.{BuiltSays, StepsSay}
 use Rattle.model.specs.declared.Built.{Built}
-use Rattle.desk.specs.Lines.{all_parts, Shows}
-use Rattle.desk.proofs.Built.{built_shows, refusal_shows}
+use Rattle.desk.specs.Lines.{Shows, Finishes}
+use Rattle.desk.proofs.Built.{page_shows}
 use Rattle.loopsteps.specs.Printing.{page_room, printed}
 
 -- a longer page changes no refusal
@@ -24,10 +23,6 @@ module _ (bs cs ts : List ℕ) (b : Built) (o y : List ℕ) (s : StepsSay bs cs 
   unfolding StepsSay
   says = rw (← same_refusal bs cs ts (length o) room) s
 
-  pub shows_steps : b.refusal ≡ 0 → Shows (printed bs cs ts) b.written y
+  pub shows : {r : ℕ} {z : List ℕ} → Finishes b r y z → Shows (printed bs cs ts) r z
   unfolding printed
-  shows_steps e = built_shows says e
-
-  pub shows_refusal : {r : ℕ} {z : List ℕ} → (b.refusal ≡ 0 → ⊥) → Chain (all_parts b.refusal b.mode b.combination) 0 r y z → Shows (printed bs cs ts) r z
-  unfolding printed
-  shows_refusal n c = refusal_shows says n c (omega arith)
+  shows f = page_shows says f (omega arith)

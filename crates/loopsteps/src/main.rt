@@ -3,18 +3,14 @@
 // pair where there is one.
 #![tactic(auto)]
 
-ghost use Rattle.std.specs.Prelude.{◌≤◌, length};
-ghost use Rattle.desk.specs.Lines.{Shows};
+ghost use Rattle.std.specs.Prelude.{◌≡◌, ◌≤◌, length};
 ghost use Rattle.loopsteps.specs.Printing.{page_room, printed};
 
-use casefile::Case;
-use desk::{ErrorOutput, Filled};
+use desk::{ENOUGH, ErrorOutput};
 use model::Built;
 use product::list_steps;
+use std::io;
 use std::rt::{Env, Files};
-
-// One byte more than a file may have, so that a longer one is seen to be too long.
-const ENOUGH: usize = Case::LONGEST_FILE + 1;
 
 // The least that steps are listed in, and more than the lines of a refusal.
 const PAGE: usize = Built::LEAST_STEPS_OUTPUT;
@@ -26,43 +22,27 @@ const CLAIM: usize = 2;
 
 const ANSWER: usize = 3;
 
-// What is to be printed of a chart, a claim and an answer, at the page's front; its length.
-fn show<'a>(chart: &'a [u8], claim: &'a [u8], answer: &[u8], page: &mut [u8]) -> usize
+// What is to be printed of a chart, a claim and an answer, at the page's front.
+fn show<'a, 'p>(chart: &'a [u8], claim: &'a [u8], answer: &[u8], page: &'p mut [u8]) -> &'p [u8]
     requires { page_room ≤ length page.old }
-    ensures { Shows (printed chart.now claim.now answer.now) result page.new }
+    ensures { result.now ≡ printed chart.now claim.now answer.now }
 {
     let listed = list_steps(chart, claim, answer, page);
-    if listed.refusal != 0 {
-        return desk::write_refused(page, listed.refusal, listed.mode, listed.combination);
-    }
-    listed.written as usize
+    let n = desk::finish_page(page, listed);
+    &page[..n]
 }
 
-fn print_steps<'a, R: Print + ErrorOutput>(
-    rt: &R,
-    chart: &'a [u8],
-    claim: &'a [u8],
-    answer: &[u8],
-) {
-    let mut page = [0u8; PAGE];
-    let n = show(chart, claim, answer, &mut page);
-    desk::print(rt, &page[..n]);
-}
-
-// The answer is read once the chart and the claim have been.
-fn list_answer<'a, R: Env + Files + Print + ErrorOutput>(rt: &R, chart: &'a [u8], claim: &'a [u8]) {
-    let mut answer = [0u8; ENOUGH];
-    if let Filled::Bytes(n) = desk::read_argument(rt, ANSWER, &mut answer) {
-        print_steps(rt, chart, claim, &answer[..n]);
-    }
-}
-
-// The claim is read once the chart has been.
-fn list_from<R: Env + Files + Print + ErrorOutput>(rt: &R, chart: &[u8]) {
+// Each file is read once the one before has been.
+fn list_files<R: Env + Files + Print + ErrorOutput>(rt: &R) -> io::Result<()> {
+    let mut chart = [0u8; ENOUGH];
+    let chart = desk::read_argument(rt, CHART, &mut chart)?;
     let mut claim = [0u8; ENOUGH];
-    if let Filled::Bytes(n) = desk::read_argument(rt, CLAIM, &mut claim) {
-        list_answer(rt, chart, &claim[..n]);
-    }
+    let claim = desk::read_argument(rt, CLAIM, &mut claim)?;
+    let mut answer = [0u8; ENOUGH];
+    let answer = desk::read_argument(rt, ANSWER, &mut answer)?;
+    let mut page = [0u8; PAGE];
+    desk::print(rt, show(chart, claim, answer, &mut page));
+    Ok(())
 }
 
 fn main(rt: HostRuntime) {
@@ -70,8 +50,5 @@ fn main(rt: HostRuntime) {
         desk::complain(&rt, b"usage: loopsteps CHART CLAIM ANSWER\n");
         return;
     }
-    let mut chart = [0u8; ENOUGH];
-    if let Filled::Bytes(n) = desk::read_argument(&rt, CHART, &mut chart) {
-        list_from(&rt, &chart[..n]);
-    }
+    let _ = list_files(&rt); // which file failed, and why, has been said
 }

@@ -1,9 +1,10 @@
 -- `show`: the case file where nothing is refused, else the lines of the refusal.
-use Rattle.casebuild.proofs.Printing.{shows_case, shows_refusal}
+use Rattle.desk.proofs.Writing.{shown_size}
+use Rattle.casebuild.proofs.Printing.{shows}
 use Rattle.casebuild.proofs.show.Goals as goal
 
-pub returns-then-built-ne0 : goal.returns-then-built-ne0
-returns-then-built-ne0 c = shows_refusal _ _ _ _ _ _ c.build_case-built.ensures c.requires c.if-built-ne0.true c.write_refused.ensures
+pub slice_bounds-result-end : goal.slice_bounds-result-end
+slice_bounds-result-end c = shown_size (shows _ _ _ _ _ _ c.build_case-built.ensures c.requires c.finish_page-n.ensures)
 
 pub returns : goal.returns
-returns c = shows_case _ _ _ _ _ _ c.build_case-built.ensures c.requires c.if-built-ne0.false
+returns c = (shows _ _ _ _ _ _ c.build_case-built.ensures c.requires c.finish_page-n.ensures).bytes

@@ -2,6 +2,7 @@
 use mathlib.Core.Path.{sym}
 use lib.Seq.{length-take-le}
 use native.Mathlib.Omega.{arith}
+use Rattle.desk.proofs.Writing.{shown_size}
 use Rattle.looplist.proofs.Printing.{list_leaves, page_shows}
 use Rattle.looplist.proofs.replay.Goals as goal
 
@@ -20,7 +21,12 @@ slice_bounds-write_bytes-end-2 c =
     let s = c.requires in
     sym (length-take-le _ _ (list_leaves _ _ _ _ _ s.0 s.1 c.run_list-outcome.ensures).within)
 
+pub slice_bounds-result-end : goal.slice_bounds-result-end
+slice_bounds-result-end c =
+    let s = c.requires in
+    shown_size (page_shows (list_leaves _ _ _ _ _ s.0 s.1 c.run_list-outcome.ensures) (omega (arith, s.2, c.run_list-outcome.auto.output)) c.write_head-at.ensures c.write_bytes-n.ensures)
+
 pub returns : goal.returns
 returns c =
     let s = c.requires in
-    page_shows (list_leaves _ _ _ _ _ s.0 s.1 c.run_list-outcome.ensures) (omega (arith, s.2, c.run_list-outcome.auto.output)) c.write_head-at.ensures c.write_bytes.ensures
+    (page_shows (list_leaves _ _ _ _ _ s.0 s.1 c.run_list-outcome.ensures) (omega (arith, s.2, c.run_list-outcome.auto.output)) c.write_head-at.ensures c.write_bytes-n.ensures).bytes

@@ -1,19 +1,14 @@
--- `page::write_bits`: the flags from i on are written.
-use native.Mathlib.Omega.{arith}
-use Rattle.chartcheck.proofs.Printing.{bits_start, bits_step, bits_end}
+-- `page::write_bits`: the flags below i are still to be written.
+use Rattle.text.proofs.Chains.{puts, still_start, still_step, still_end}
+use Rattle.chartcheck.proofs.Printing.{bits_more, bits_none}
 use Rattle.chartcheck.proofs.page.write_bits.Goals as goal
 
 pub loop-i-init : goal.loop-i-init
-loop-i-init c = bits_start _ _ _ _
-
-pub bit_digit-requires : goal.bit_digit-requires
-bit_digit-requires c = omega (arith, c.loop-i.invariant.within, c.requires)
+loop-i-init c = still_start _ _ _
 
 pub loop-i-preserved : goal.loop-i-preserved
-loop-i-preserved c = bits_step c.loop-i.invariant (omega arith) c.bit_digit.ensures c.write_byte-place.auto.output c.write_byte-place.ensures
-
-pub shape_of-page : goal.shape_of-page
-shape_of-page c = c.loop-i.invariant.kept
+loop-i-preserved c =
+    still_step c.loop-i.invariant (bits_more _ _ c.loop-i-test.true c.bit_digit.ensures) (puts c.write_byte-place.ensures) c.write_byte-place.auto.output
 
 pub returns : goal.returns
-returns c = bits_end c.loop-i.invariant (omega arith)
+returns c = still_end c.loop-i.invariant (bits_none _ _ c.loop-i-test.false)

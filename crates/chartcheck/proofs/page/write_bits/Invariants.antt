@@ -1,9 +1,7 @@
--- `page::write_bits`: the flags from i on are written.
-use Rattle.chartcheck.proofs.Printing.{BitsLeft}
+-- `page::write_bits`: the flags below i are still to be written.
+use Rattle.text.proofs.Chains.{Still}
+use Rattle.chartcheck.specs.Printing.{bits}
 use Rattle.chartcheck.proofs.page.write_bits.Given as goal
 
 abbrev pub invariant-loop-i : goal.invariant-loop-i
-invariant-loop-i l = BitsLeft l.many l.flags l.at l.i l.place l.initial.page l.page
-
-abbrev pub decreases-loop-i : goal.decreases-loop-i
-decreases-loop-i l = l.i
+invariant-loop-i l = Still l.at (bits l.many l.flags) l.place (bits l.i l.flags) l.initial.page l.page

@@ -2,5 +2,5 @@
 use Rattle.desk.proofs.Words.{says_none}
 use Rattle.desk.proofs.input.number_argument.Goals as goal
 
-pub returns-in-Err : goal.returns-in-Err
-returns-in-Err g c = says_none
+pub returns-in_err-size : goal.returns-in_err-size
+returns-in_err-size g c = rw c.from_residual.ensures says_none
