@@ -2,22 +2,10 @@
 // writes what it says.
 #![tactic(auto)]
 
+use bench_kit::{answer, case};
 use checker::check_answer;
 use model::{Checked, Outcome};
 use std::{fmt, io};
-
-// A case and an answer by their lines from line 2 on.
-macro_rules! case {
-    ($lines:literal) => {
-        concat!("version vertices edges source workers\n", $lines)
-    };
-}
-
-macro_rules! answer {
-    ($lines:literal) => {
-        concat!("version verdict stem cycle reached\n", $lines)
-    };
-}
 
 const K1: &str = case!(
     "1 3 3 0 2\nvertex accepting owner\n0 0 0\n1 1 1\n2 0 0\nfrom to\n0 1\n1 2\n2 1\n"
