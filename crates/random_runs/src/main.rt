@@ -53,7 +53,7 @@ impl Trials {
         came
     }
 
-    // A short list of acts below the limit and, where it runs out, a long one that begins with it.
+    // A short list of acts below the limit and, where it runs out, a long one that begins with it. One number is passed over.
     fn try_lists(&mut self, trial: Trial, limit: usize) -> Result<(), AllocError> {
         let acts = draw::acts(self.alloc, &mut self.random, ACTS, limit)?;
         let short = front(&acts, below(self.random.last, 2000));

@@ -21,6 +21,11 @@ pub(crate) enum Said {
     Mismatch,
 }
 
+// The least output and the least work buffer that a run takes.
+const OUTPUT: usize = 8192;
+
+const WORK: usize = 16384;
+
 // Where an answer has its version.
 const VERSION_AT: usize = 35;
 
@@ -53,8 +58,8 @@ fn changed(alloc: Global, answer: &[u8], at: usize, byte: u8) -> Result<Vec<u8>,
 
 // The answer by rounds.
 pub(crate) fn answer(alloc: Global, case: &[u8]) -> Result<Vec<u8>, AllocError> {
-    let mut output = [MARK; 8192];
-    let mut work = [CELL; 16384];
+    let mut output = [MARK; OUTPUT];
+    let mut work = [CELL; WORK];
     let o = run_rounds(case, &mut output, &mut work);
     front(&output, o.written as usize).to_vec(alloc)
 }
@@ -85,8 +90,8 @@ impl Trial<'_> {
     }
 
     pub(crate) fn by_rounds(self) -> Came {
-        let mut output = [MARK; 8192];
-        let mut work = [CELL; 16384];
+        let mut output = [MARK; OUTPUT];
+        let mut work = [CELL; WORK];
         let o = run_rounds(self.case, &mut output, &mut work);
         if o.joined != 0 {
             return Came::Mismatch;
@@ -96,8 +101,8 @@ impl Trial<'_> {
 
     // By a list, and whether a message joined in it.
     pub(crate) fn by_list(self, acts: &[u32]) -> (Came, bool) {
-        let mut output = [MARK; 8192];
-        let mut work = [CELL; 16384];
+        let mut output = [MARK; OUTPUT];
+        let mut work = [CELL; WORK];
         let o = run_list(self.case, acts, &mut output, &mut work);
         (self.judged(o, &output, &work), o.joined != 0)
     }
