@@ -1,4 +1,5 @@
 -- Laws of the judge: blocks of lines, the whole file.
+pub mod Exits
 pub mod Refusals
 pub mod Blocks
 pub mod Whole

@@ -10,21 +10,21 @@ use lib.Dec.{eqb, lit<}
 use lib.ListN.{length, get_or, set, drop, length-set}
 use lib.Seq.{get_or-set_same, get_or-set_other}
 use borrow.Author.Tests.{eq-eqb, ne_eqb, eqb-true}
+use Rattle.std.specs.Prelude.{Result, Ok, Err}
 use Rattle.text.specs.Lines.{lines}
 use Rattle.text.specs.Reading.{skip}
 use Rattle.text.proofs.Reading.{Row}
 use Rattle.model.specs.Graph.{mark, edge}
 use Rattle.model.specs.Case.{owner}
 use Rattle.model.specs.CaseFile.{vertices_refusal, edges_refusal, case_refusal, accepted, case_in}
+use Rattle.model.specs.Refusals.{refusal_of}
+use Rattle.model.specs.declared.refusal.Refusal.{Refusal}
 use Rattle.casefile.specs.Judging.{header, block_says, judged, head_refusal, counts_in, before_edges}
 use Rattle.casefile.specs.Tables.{Took, line_number, right_lines, BlockRead, rows_taken, pairs_taken, CaseRead, Holds}
 use Rattle.casefile.specs.declared.Case.{Case}
-use Rattle.casefile.specs.declared.Judged.{Judged}
-use Rattle.casefile.specs.declared.Judged.TheVariants.{Refused, Accepted}
-use Rattle.casefile.specs.declared.Block.{Block}
-use Rattle.casefile.specs.declared.Block.TheVariants.{Refused as BadBlock, Past}
+use Rattle.casefile.specs.declared.CaseTables.{CaseTables}
 use Rattle.text.proofs.Places.{skip_none, skip_last, skip_lines, skip_line}
-use Rattle.casefile.proofs.Whole.{Headed, head_before, before_judged, before_zero, head_zero, taken}
+use Rattle.casefile.proofs.Whole.{Headed, Numbered, head_before, before_judged, before_zero, head_zero, taken}
 use Rattle.casefile.proofs.Loading.{drop_line, parts, edges_counted, vertex_row, edge_row}
 
 -- A TABLE takes value after value
@@ -82,20 +82,20 @@ right_all f (suc n) e = rw (eq-eqb (f (suc n)) 0 e) refl
 
 -- a block's answer after v right lines: all there are, or the next one has a fault
 module _ {s : List ℕ} {at i j here v : ℕ} {a₀ a b₀ b : List ℕ} (g : LinesTaken s at i j here v a₀ a b₀ b) {refusal : ℕ → ℕ} (clean : refusal v ≡ 0) {many : ℕ} where
-  took : {r : Block} → r ≡ block_says (refusal many) many s at → right_lines refusal many ≡ v → BlockRead refusal many s at i j r a₀ a b₀ b
+  took : {r : Result ℕ Refusal} → r ≡ block_says (refusal many) many s at → right_lines refusal many ≡ v → BlockRead refusal many s at i j r a₀ a b₀ b
   took e l = record { answer = e; one = rw l g.one; two = rw l g.two }
 
-  pub block_stops : v < many → {fault : ℕ} → ((k : ℕ) → v < k → refusal k ≡ suc fault) → BlockRead refusal many s at i j (BadBlock (suc fault)) a₀ a b₀ b
-  block_stops h {fault} stop =
+  pub block_stops : v < many → {fault : ℕ} {e : Refusal} → e ≡ refusal_of (suc fault) → ((k : ℕ) → v < k → refusal k ≡ suc fault) → BlockRead refusal many s at i j (Err e) a₀ a b₀ b
+  block_stops h {fault} {e} is stop =
       took (refused (refusal many) (stop many h)) (right_here refusal v many clean (λ k l e. omega (arith, stop k l)) (omega arith))
     where
-      refused : (r : ℕ) → r ≡ suc fault → BadBlock (suc fault) ≡ block_says r many s at
-      refused r e = unfold block_says in (rw (e, ne_eqb (suc fault) 0 (λ z. omega arith)) refl)
+      refused : (k : ℕ) → k ≡ suc fault → Err e ≡ block_says k many s at
+      refused k q = unfold block_says in (rw (q, is, ne_eqb (suc fault) 0 (λ z. omega arith)) refl)
 
-  pub block_ends : v ≡ many → BlockRead refusal many s at i j (Past here) a₀ a b₀ b
+  pub block_ends : v ≡ many → BlockRead refusal many s at i j (Ok here) a₀ a b₀ b
   block_ends h = took (past (refusal many) (rw h at clean)) (right_all refusal many (rw h at clean) ∙ sym h)
     where
-      past : (r : ℕ) → r ≡ 0 → Past here ≡ block_says r many s at
+      past : (r : ℕ) → r ≡ 0 → Ok here ≡ block_says r many s at
       past r e = unfold block_says in (rw (e, ← h, g.place) refl)
 
 -- THE WHOLE FILE: lines from a place on are lines of the file
@@ -124,46 +124,45 @@ unfolding pairs_taken
 pairs_none s n = rw (ne_eqb (before_edges s) 0 n) refl
 
 -- nothing is taken where the first three lines are refused
-pub none_read : {s : List ℕ} {k : ℕ} → (head_refusal s ≡ k) × (k ≡ 0 → ⊥) → (marks owners froms tos : List ℕ) → CaseRead s (Refused k) marks marks owners owners froms froms tos tos
-none_read {s} {k} (e, n) marks owners froms tos =
-    let b = head_before s k e n in
-    let r = rows_none s (λ z. n (sym e ∙ z)) in
-    let p = pairs_none s (λ z. n (sym b ∙ z)) in
+pub none_read : {s : List ℕ} {e : Refusal} → Numbered e (head_refusal s) → (t : CaseTables) → CaseRead s (Err e) t t
+none_read {s} n t =
+    let r = rows_none s n.some in
+    let p = pairs_none s (head_before s n).some in
     record {
-      answer = before_judged s k b n;
-      mark_table = rw r (took_none _ marks);
-      owner_table = rw r (took_none _ owners);
-      from_table = rw p (took_none _ froms);
-      to_table = rw p (took_none _ tos);
+      answer = before_judged s (head_before s n);
+      mark_table = rw r (took_none _ t.marks.now);
+      owner_table = rw r (took_none _ t.owners.now);
+      from_table = rw p (took_none _ t.froms.now);
+      to_table = rw p (took_none _ t.tos.now);
     }
 
-module _ {s : List ℕ} {n m u p rows : ℕ} (h : Headed s n m u p rows) {r : Block} {marks marks' owners owners' : List ℕ}
-    (v : BlockRead (λ k. vertices_refusal k 0 p (lines (drop rows s))) n s rows 1 2 r marks marks' owners owners') where
-  rows_are : rows_taken s ≡ right_lines (λ k. vertices_refusal k 0 p (lines (drop rows s))) n
-  rows_are = rows_all s h.right ∙ (unfold counts_in in (rw (← h.place, skip_lines 3 s 0, h.counts.vertices, h.counts.workers) refl))
+rows_are : {s : List ℕ} {n m u p rows : ℕ} → Headed s n m u p rows → rows_taken s ≡ right_lines (λ k. vertices_refusal k 0 p (lines (drop rows s))) n
+rows_are {s} h = rows_all s h.right ∙ (unfold counts_in in (rw (← h.place, skip_lines 3 s 0, h.counts.vertices, h.counts.workers) refl))
 
+module _ {s : List ℕ} {n m u p rows : ℕ} (h : Headed s n m u p rows) {r : Result ℕ Refusal} {old new : CaseTables}
+    (v : BlockRead (λ k. vertices_refusal k 0 p (lines (drop rows s))) n s rows 1 2 r old.marks.now new.marks.now old.owners.now new.owners.now) where
   -- a fault before the edge lines
-  pub rows_read : {k : ℕ} → before_edges s ≡ k → (k ≡ 0 → ⊥) → (froms tos : List ℕ) → CaseRead s (Refused k) marks marks' owners owners' froms froms tos tos
-  rows_read {k} e z froms tos =
-      let q = pairs_none s (λ w. z (sym e ∙ w)) in
+  pub rows_read : {e : Refusal} → Numbered e (before_edges s) → new.froms.now ≡ old.froms.now → new.tos.now ≡ old.tos.now → CaseRead s (Err e) old new
+  rows_read z froms tos =
+      let q = pairs_none s z.some in
       record {
-        answer = before_judged s k e z;
-        mark_table = rw rows_are (took_lines _ 3 s rows 1 marks marks' h.place v.one);
-        owner_table = rw rows_are (took_lines _ 3 s rows 2 owners owners' h.place v.two);
-        from_table = rw q (took_none _ froms);
-        to_table = rw q (took_none _ tos);
+        answer = before_judged s z;
+        mark_table = rw (rows_are h) (took_lines _ 3 s rows 1 _ _ h.place v.one);
+        owner_table = rw (rows_are h) (took_lines _ 3 s rows 2 _ _ h.place v.two);
+        from_table = rw (q, froms) (took_none _ old.froms.now);
+        to_table = rw (q, tos) (took_none _ old.tos.now);
       }
 
-  pub case_read : {rest : ℕ} {q : Block} {froms froms' tos tos' : List ℕ} → before_edges s ≡ 0 → rest ≡ skip (4 + n) s 0
-      → (g : BlockRead (λ k. edges_refusal k n none (lines (drop rest s))) m s rest 0 1 q froms froms' tos tos') → {a : Judged} → a ≡ judged s
-      → CaseRead s a marks marks' owners owners' froms froms' tos tos'
-  case_read {rest} {q} {froms} {froms'} {tos} {tos'} right place g e =
+  pub case_read : {rest : ℕ} {q : Result ℕ Refusal} → before_edges s ≡ 0 → rest ≡ skip (4 + n) s 0
+      → (g : BlockRead (λ k. edges_refusal k n none (lines (drop rest s))) m s rest 0 1 q old.froms.now new.froms.now old.tos.now new.tos.now)
+      → {a : Result Case Refusal} → a ≡ judged s → CaseRead s a old new
+  case_read {rest} right place g e =
       record {
         answer = e;
-        mark_table = rw rows_are (took_lines _ 3 s rows 1 marks marks' h.place v.one);
-        owner_table = rw rows_are (took_lines _ 3 s rows 2 owners owners' h.place v.two);
-        from_table = rw (pairs_are, vertices) (took_lines _ (4 + n) s rest 0 froms froms' (sym place) g.one);
-        to_table = rw (pairs_are, vertices) (took_lines _ (4 + n) s rest 1 tos tos' (sym place) g.two);
+        mark_table = rw (rows_are h) (took_lines _ 3 s rows 1 _ _ h.place v.one);
+        owner_table = rw (rows_are h) (took_lines _ 3 s rows 2 _ _ h.place v.two);
+        from_table = rw (pairs_are, vertices) (took_lines _ (4 + n) s rest 0 _ _ (sym place) g.one);
+        to_table = rw (pairs_are, vertices) (took_lines _ (4 + n) s rest 1 _ _ (sym place) g.two);
       }
     where
       vertices : (counts_in s).vertices ≡ n
@@ -181,7 +180,7 @@ all_taken s a =
     (rows_all s (head_zero s b) ∙ right_all _ _ p.vertices, pairs_all s b ∙ right_all _ _ p.edges ∙ sym (edges_counted s a))
 
 -- an accepted text's case stands in tables that have room for it
-module _ {s : List ℕ} {r : Judged} {marks marks' owners owners' froms froms' tos tos' : List ℕ} (g : CaseRead s r marks marks' owners owners' froms froms' tos tos') {c : Case} (e : r ≡ Accepted c) where
+module _ {s : List ℕ} {r : Result Case Refusal} {old new : CaseTables} (g : CaseRead s r old new) {c : Case} (e : r ≡ Ok c) where
   accepts : (accepted s ≡ true) × (c ≡ header s)
   accepts = taken s g.answer e
 
@@ -195,19 +194,19 @@ module _ {s : List ℕ} {r : Judged} {marks marks' owners owners' froms froms' t
   edge_number : (k : ℕ) → k < length (case_in s).graph.edges → (i : ℕ) → i < 2 → line_number s 0 (4 + (case_in s).graph.vertices + k) i ≡ get_or ((edge (case_in s).graph k).from ∷ (edge (case_in s).graph k).to ∷ []) i 0
   edge_number k h i l = sym (row_number (skip (4 + (case_in s).graph.vertices) s 0) k refl (edge_row s accepts.0 k h) i l ∙ line_same (4 + (case_in s).graph.vertices) s k i)
 
-  pub mark_held : (case_in s).graph.vertices ≤ length marks → (v : ℕ) → v < (case_in s).graph.vertices → get_or marks' v 0 ≡ mark (case_in s).graph v
+  pub mark_held : (case_in s).graph.vertices ≤ length old.marks.now → (v : ℕ) → v < (case_in s).graph.vertices → get_or new.marks.now v 0 ≡ mark (case_in s).graph v
   mark_held room v h = g.mark_table.front v (omega (arith, whole.0)) (omega arith) ∙ vertex_number v h 1 (lit< tt)
 
-  pub owner_held : (case_in s).graph.vertices ≤ length owners → (v : ℕ) → v < (case_in s).graph.vertices → get_or owners' v 0 ≡ owner (case_in s) v
+  pub owner_held : (case_in s).graph.vertices ≤ length old.owners.now → (v : ℕ) → v < (case_in s).graph.vertices → get_or new.owners.now v 0 ≡ owner (case_in s) v
   owner_held room v h = g.owner_table.front v (omega (arith, whole.0)) (omega arith) ∙ vertex_number v h 2 (lit< tt)
 
-  pub from_held : length (case_in s).graph.edges ≤ length froms → (k : ℕ) → k < length (case_in s).graph.edges → get_or froms' k 0 ≡ (edge (case_in s).graph k).from
+  pub from_held : length (case_in s).graph.edges ≤ length old.froms.now → (k : ℕ) → k < length (case_in s).graph.edges → get_or new.froms.now k 0 ≡ (edge (case_in s).graph k).from
   unfolding counts_in case_in
   from_held room k h = g.from_table.front k (omega (arith, whole.1)) (omega arith) ∙ edge_number k h 0 (lit< tt)
 
-  pub to_held : length (case_in s).graph.edges ≤ length tos → (k : ℕ) → k < length (case_in s).graph.edges → get_or tos' k 0 ≡ (edge (case_in s).graph k).to
+  pub to_held : length (case_in s).graph.edges ≤ length old.tos.now → (k : ℕ) → k < length (case_in s).graph.edges → get_or new.tos.now k 0 ≡ (edge (case_in s).graph k).to
   unfolding counts_in case_in
   to_held room k h = g.to_table.front k (omega (arith, whole.1)) (omega arith) ∙ edge_number k h 1 (lit< tt)
 
-  pub held : (case_in s).graph.vertices ≤ length marks → (case_in s).graph.vertices ≤ length owners → length (case_in s).graph.edges ≤ length froms → length (case_in s).graph.edges ≤ length tos → Holds (case_in s) marks' owners' froms' tos'
+  pub held : (case_in s).graph.vertices ≤ length old.marks.now → (case_in s).graph.vertices ≤ length old.owners.now → length (case_in s).graph.edges ≤ length old.froms.now → length (case_in s).graph.edges ≤ length old.tos.now → Holds (case_in s) new.marks.now new.owners.now new.froms.now new.tos.now
   held a b c d = record { mark_at = mark_held a; owner_at = owner_held b; from_at = from_held c; to_at = to_held d }

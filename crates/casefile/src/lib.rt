@@ -7,15 +7,14 @@ ghost use Rattle.std.proofs.Math.Option.{none};
 ghost use Rattle.text.specs.Lines.{lines};
 ghost use Rattle.model.specs.CaseFile.{other_version, rises, vertices_refusal, edges_refusal};
 ghost use Rattle.casefile.specs.Judging.{counts_in_range, edge_before, head_says, judged};
-ghost use Rattle.casefile.specs.Tables.{BlockRead, CaseRead};
+ghost use Rattle.casefile.specs.Tables.{BlockRead, CaseRead, SameTables};
 
-use text::read::{
-    Named, Number, Row2, Row3, Row5, begins_at, name_line, number_in, row_of_2, row_of_3, row_of_5,
-};
+use model::Refusal;
+use text::read::{begins_at, name_line, number_in, numbers_row};
 use text::reader::second_line_field;
 
 // The counts of an accepted case.
-#[derive(Clone, Copy)]
+#[derive(Clone, Copy, Debug, PartialEq, Eq)]
 pub struct Case {
     pub vertices: usize,
     pub edges: usize,
@@ -48,11 +47,13 @@ impl Case {
     pub const ANSWER_VERSION: u32 = 2;
 }
 
-// What a text is as a case file: its refusal, or the case.
-#[derive(Clone, Copy)]
-pub enum Judged {
-    Refused(u32),
-    Accepted(Case),
+// Where a case's marks and owners go, by vertex, and both ends of its edges, by edge.
+#[derive(Drop)]
+pub struct CaseTables<'a> {
+    pub marks: &'a mut [u32],
+    pub owners: &'a mut [u32],
+    pub froms: &'a mut [u32],
+    pub tos: &'a mut [u32],
 }
 
 // Whether line 2's first field is a number other than the known versions, 1 to the newest: refusal 3, also of an answer
@@ -60,243 +61,152 @@ pub enum Judged {
 pub fn other_version(text: &[u8], newest: u32) -> bool
     ensures { result ≡ other_version newest (lines text.now) }
 {
-    match number_in(second_line_field(text)) {
-        Number::Not => false,
-        Number::Is(v) => v < 1 || newest < v,
-    }
+    number_in(second_line_field(text)).is_some_and(|v| v < 1 || newest < v)
 }
 
 // Whether the counts and the source are in range.
+#[tactic(auto, unfolding(crate::specs::Judging::counts_in_range))]
 fn in_range(case: Case) -> bool
     ensures { result ≡ counts_in_range case.vertices case.edges case.source case.workers }
 {
-    if case.vertices < 1 {
-        return false;
-    }
-    if Case::MOST_VERTICES < case.vertices {
-        return false;
-    }
-    if Case::MOST_EDGES < case.edges {
-        return false;
-    }
-    if case.vertices <= case.source {
-        return false;
-    }
-    if case.workers < 1 {
-        return false;
-    }
-    case.workers <= Case::MOST_WORKERS
+    (1..=Case::MOST_VERTICES).contains(&case.vertices)
+        && case.edges <= Case::MOST_EDGES
+        && case.source < case.vertices
+        && (1..=Case::MOST_WORKERS).contains(&case.workers)
 }
 
-// Lines 1 to 3: the refusal, or the counts and the place past them.
-#[derive(Clone, Copy)]
-enum Head {
-    Refused(u32),
-    Counts(Case, usize),
-}
-
-fn read_head(text: &[u8]) -> Head
+// Lines 1 to 3: the counts, and the place past these lines.
+fn read_head(text: &[u8]) -> Result<(Case, usize), Refusal>
     ensures { result ≡ head_says text.now }
 {
     if Case::LONGEST_FILE < text.len() {
-        return Head::Refused(1);
+        return Err(Refusal::LongFile);
     }
     if !begins_at(text, 0, b"version ") {
-        return Head::Refused(2);
+        return Err(Refusal::NoVersion);
     }
     if other_version(text, Case::VERSION) {
-        return Head::Refused(3);
+        return Err(Refusal::OtherVersion);
     }
-    let Named::Past(second) = name_line(text, 0, b"version vertices edges source workers") else {
-        return Head::Refused(4);
-    };
-    let Row5::Read(_, n, m, source, workers, third) = row_of_5(text, second) else {
-        return Head::Refused(4);
-    };
+    let second = name_line(text, 0, b"version vertices edges source workers").ok_or(
+        Refusal::CaseLayout,
+    )?;
+    let row = numbers_row::<5>(text, second).ok_or(Refusal::CaseLayout)?;
+    let [_, vertices, edges, source, workers] = row.numbers;
     let case = Case {
-        vertices: n as usize,
-        edges: m as usize,
+        vertices: vertices as usize,
+        edges: edges as usize,
         source: source as usize,
         workers: workers as usize,
     };
     if !in_range(case) {
-        return Head::Refused(5);
+        return Err(Refusal::OutOfRange);
     }
-    let Named::Past(rows) = name_line(text, third, b"vertex accepting owner") else {
-        return Head::Refused(4);
-    };
-    Head::Counts(case, rows)
+    let rows = name_line(text, row.next, b"vertex accepting owner").ok_or(Refusal::CaseLayout)?;
+    Ok((case, rows))
 }
 
 // Puts a value into a table that has room for it.
 pub fn put(table: &mut [u32], i: usize, value: u32)
     ensures { table.new ≡ set table.old i value }
 {
-    if table.len() <= i {
-        return;
+    if i < table.len() {
+        table[i] = value;
     }
-    table[i] = value;
-}
-
-// A block of lines: the refusal, or the place past it.
-#[derive(Clone, Copy)]
-enum Block {
-    Refused(u32),
-    Past(usize),
 }
 
 // Whether a vertex line's values are those of vertex v.
 fn vertex_right(v: usize, workers: usize, vertex: u32, mark: u32, owner: u32) -> bool
     ensures { result ≡ (eqb vertex v && (ltb mark 2 && ltb owner workers)) }
 {
-    if vertex as usize != v {
-        return false;
-    }
-    if 2 <= mark {
-        return false;
-    }
-    (owner as usize) < workers
+    vertex as usize == v && mark < 2 && (owner as usize) < workers
 }
 
-// The lines of n vertices from `at` on: their marks and owners.
+// The vertex lines from `at` on, and their marks and owners: the place past them.
 fn vertex_block(
     text: &[u8],
     at: usize,
-    n: usize,
-    workers: usize,
+    case: Case,
     marks: &mut [u32],
     owners: &mut [u32],
-) -> Block
-    ensures { BlockRead (λ k. vertices_refusal k 0 workers (lines (drop at text.now))) n text.now at 1 2 result marks.old marks.new owners.old owners.new }
+) -> Result<usize, Refusal>
+    ensures { BlockRead (λ k. vertices_refusal k 0 case.workers (lines (drop at text.now))) case.vertices text.now at 1 2 result marks.old marks.new owners.old owners.new }
 {
     let mut here = at;
-    let mut v: usize = 0;
-    while v < n {
-        let Row3::Read(vertex, mark, owner, next) = row_of_3(text, here) else {
-            return Block::Refused(4);
-        };
-        if !vertex_right(v, workers, vertex, mark, owner) {
-            return Block::Refused(6);
+    for v in 0..case.vertices {
+        let row = numbers_row::<3>(text, here).ok_or(Refusal::CaseLayout)?;
+        let [vertex, mark, owner] = row.numbers;
+        if !vertex_right(v, case.workers, vertex, mark, owner) {
+            return Err(Refusal::VertexLine);
         }
         put(marks, v, mark);
         put(owners, v, owner);
-        here = next;
-        v += 1;
+        here = row.next;
     }
-    Block::Past(here)
+    Ok(here)
 }
 
-// Whether an edge comes after the one before it, number e − 1, or is the first.
-fn rising(e: usize, f: u32, t: u32, from: u32, to: u32) -> bool
-    ensures { result ≡ rises (edge_before e f t) (record { from = from; to = to }) }
+// Whether an edge comes after the one before it, if there is one.
+fn rising(before: Option<(u32, u32)>, from: u32, to: u32) -> bool
+    ensures { result ≡ rises (edge_before before) (record { from = from; to = to }) }
 {
-    if e == 0 {
-        return true;
-    }
-    if f < from {
-        return true;
-    }
-    if f == from {
-        return t < to;
-    }
-    false
+    before < Some((from, to))
 }
 
-// The lines of m edges from `at` on: their two ends.
+// The edge lines from `at` on, and their two ends: the place past them. Not one function with `vertex_block`: they differ
+// in the row's width, the test and what it remembers, and three parameters for these are longer than a second loop.
 fn edge_block(
     text: &[u8],
     at: usize,
-    m: usize,
-    n: usize,
+    case: Case,
     froms: &mut [u32],
     tos: &mut [u32],
-) -> Block
-    ensures { BlockRead (λ k. edges_refusal k n none (lines (drop at text.now))) m text.now at 0 1 result froms.old froms.new tos.old tos.new }
+) -> Result<usize, Refusal>
+    ensures { BlockRead (λ k. edges_refusal k case.vertices none (lines (drop at text.now))) case.edges text.now at 0 1 result froms.old froms.new tos.old tos.new }
 {
     let mut here = at;
-    let mut e: usize = 0;
-    let mut before_from: u32 = 0;
-    let mut before_to: u32 = 0;
-    while e < m {
-        let Row2::Read(from, to, next) = row_of_2(text, here) else {
-            return Block::Refused(4);
-        };
-        if n <= from as usize {
-            return Block::Refused(7);
+    let mut before = None;
+    for e in 0..case.edges {
+        let row = numbers_row::<2>(text, here).ok_or(Refusal::CaseLayout)?;
+        let [from, to] = row.numbers;
+        if case.vertices <= from as usize || case.vertices <= to as usize {
+            return Err(Refusal::EdgeEnd);
         }
-        if n <= to as usize {
-            return Block::Refused(7);
-        }
-        if !rising(e, before_from, before_to, from, to) {
-            return Block::Refused(8);
+        if !rising(before, from, to) {
+            return Err(Refusal::EdgeOrder);
         }
         put(froms, e, from);
         put(tos, e, to);
-        before_from = from;
-        before_to = to;
-        here = next;
-        e += 1;
+        before = Some((from, to));
+        here = row.next;
     }
-    Block::Past(here)
+    Ok(here)
 }
 
-// The lines after line 3, of a text whose first three are right.
-fn read_body(
-    text: &[u8],
-    case: Case,
-    rows: usize,
-    marks: &mut [u32],
-    owners: &mut [u32],
-    froms: &mut [u32],
-    tos: &mut [u32],
-) -> Judged
-    requires { head_says text.now ≡ Head.Counts case rows }
-    ensures { CaseRead text.now result marks.old marks.new owners.old owners.new froms.old froms.new tos.old tos.new }
+// Judges a whole text as a case file, and puts what its lines say into the tables.
+pub fn read_case(text: &[u8], tables: &mut CaseTables) -> Result<Case, Refusal>
+    ensures read { CaseRead text.now result tables.old tables.new }
+    ensures same { SameTables tables.old tables.new }
 {
-    match vertex_block(text, rows, case.vertices, case.workers, marks, owners) {
-        Block::Refused(k) => Judged::Refused(k),
-        Block::Past(names) => match name_line(text, names, b"from to") {
-            Named::Other => Judged::Refused(4),
-            Named::Past(edge_rows) => match edge_block(
-                text,
-                edge_rows,
-                case.edges,
-                case.vertices,
-                froms,
-                tos,
-            ) {
-                Block::Refused(k) => Judged::Refused(k),
-                Block::Past(end) => {
-                    if end < text.len() {
-                        return Judged::Refused(4);
-                    }
-                    Judged::Accepted(case)
-                }
-            },
-        },
+    let (case, rows) = read_head(text)?;
+    let names = vertex_block(text, rows, case, tables.marks, tables.owners)?;
+    let edge_rows = name_line(text, names, b"from to").ok_or(Refusal::CaseLayout)?;
+    let end = edge_block(text, edge_rows, case, tables.froms, tables.tos)?;
+    if end < text.len() {
+        return Err(Refusal::CaseLayout);
     }
-}
-
-// Judges a whole text as a case file, and puts what its lines say into the tables: the mark and the owner of each vertex,
-// both ends of each edge.
-pub fn read_case(
-    text: &[u8],
-    marks: &mut [u32],
-    owners: &mut [u32],
-    froms: &mut [u32],
-    tos: &mut [u32],
-) -> Judged
-    ensures { CaseRead text.now result marks.old marks.new owners.old owners.new froms.old froms.new tos.old tos.new }
-{
-    match read_head(text) {
-        Head::Refused(k) => Judged::Refused(k),
-        Head::Counts(case, rows) => read_body(text, case, rows, marks, owners, froms, tos),
-    }
+    Ok(case)
 }
 
 // Judges a whole text as a case file; tables without room keep nothing of it.
-pub fn judge(text: &[u8]) -> Judged
+pub fn judge(text: &[u8]) -> Result<Case, Refusal>
     ensures { result ≡ judged text.now }
 {
-    read_case(text, &mut [], &mut [], &mut [], &mut [])
+    let mut nowhere = CaseTables {
+        marks: &mut [],
+        owners: &mut [],
+        froms: &mut [],
+        tos: &mut [],
+    };
+    read_case(text, &mut nowhere)
 }

@@ -1,28 +1,27 @@
 -- Distances as they are written: `-0`, and the value of a sign and a number. Assumes nothing.
 use mathlib.Core.Path.{◌≡◌, refl, sym, ◌∙◌}
-use mathlib.Core.Bool.{Bool, true, false, ◌&&◌, ◌||◌, not, cond}
+use mathlib.Core.Bool.{Bool, true, false, ◌&&◌, ◌||◌, not, cond, and-true}
 use mathlib.Core.List.{List, [], ◌∷◌}
-use mathlib.Core.Option.{some}
 use Prim.Native.Nat.{ℕ, ◌+◌, ◌*◌, ◌-◌, ◌≤◌}
 use native.Mathlib.Omega.{arith}
 use lib.Dec.{leb, eqb}
 use lib.ListN.{length}
-use lib.IntN.{nat_abs}
-use mir.Syntax.{w32}
-use mir.Val.{SFits}
-use borrow.Author.Tests.{eqb-false, eq-eqb, ne_eqb, le-leb}
+use lib.IntN.{ℤ}
+use borrow.Author.Tests.{eqb-false, eq-eqb, ne_eqb}
+use Rattle.std.specs.Prelude.{Some, None}
 use Rattle.text.specs.Ascii.{ascii, minus, digit_0}
 use Rattle.text.specs.Lines.{fields, field, equal}
 use Rattle.text.specs.Numbers.{most_digits, is_digit, all_digits, no_leading_zero, is_number, value_from, value, has_minus, without_minus, is_signed, signed_value}
-use Rattle.text.specs.Reading.{line_here, signed_line}
+use Rattle.text.specs.Reading.{line_here, signed_line, signed_number}
+use Rattle.text.specs.declared.read.Signed.{Signed}
+use Rattle.text.specs.declared.read.Signed.TheVariants.{Plus, Minus}
 use Rattle.text.proofs.Digits.{digit_low}
-use Rattle.text.proofs.Tests.{and_both, Same, same, other, same?, clash}
-use Rattle.text.proofs.ReadingSigned.{SignedAt, signed_worth}
+use Rattle.text.proofs.Tests.{and_both, Same, same, other, same?, clash, some_if, none_if}
+use Rattle.text.proofs.ReadingSigned.{SignedAt, plus_is, minus_is, plus_worth, minus_worth}
 use Rattle.model.specs.Case.{farthest}
 use Rattle.model.specs.Passing.{distance_good}
 use Rattle.model.proofs.Signs.{abs_neg}
-use Rattle.checker.specs.Checking.{held, signed_by}
-use Rattle.checker.proofs.Signs.{held_yes, low_fits}
+use Rattle.checker.specs.Checking.{distance_of}
 
 -- THE NUMBER 0 is `0` alone
 value_rises : (v : ℕ) (w : List ℕ) → v ≤ value_from v w
@@ -81,31 +80,34 @@ minus_zero (b ∷ w) h = go (eqb b minus) h
     go true h = zero_number w h
     go false h = refl
 
--- THE VALUE of a sign and a number
-abs_by : (b : Bool) (d : ℕ) → nat_abs (signed_by b d) ≡ d
-unfolding signed_by
-abs_by true d = abs_neg d
-abs_by false d = refl
+-- A SIGNED NUMBER as a distance
+good_plus : (w : List ℕ) {d : ℕ} → is_signed w ≡ true → signed_number w ≡ Plus d → distance_good w ≡ leb d farthest
+unfolding distance_good
+good_plus w {d} h e = rw (plus_worth w e, minus_zero w h, (plus_is w e).0) (and-true (leb d farthest))
 
-pub held_by : (b : Bool) (d : ℕ) → d ≤ farthest → held (signed_by b d) ≡ some (signed_by b d)
-held_by b d h = held_yes (signed_by b d) (rw (abs_by b d) (le-leb d farthest h))
+good_minus : (w : List ℕ) {d : ℕ} → is_signed w ≡ true → signed_number w ≡ Minus d → distance_good w ≡ (leb d farthest && not (eqb d 0))
+unfolding distance_good
+good_minus w {d} h e = rw (minus_worth w e, minus_zero w h, (minus_is w e).0, (minus_is w e).1, abs_neg d) refl
 
-pub fits_by : (b : Bool) (d : ℕ) → d ≤ farthest → SFits w32 (signed_by b d)
-unfolding signed_by
-fits_by true d h = low_fits d h
-fits_by false d h = record { sfits = omega arith }
+distance_read : (w : List ℕ) (g : Signed) → is_signed w ≡ true → signed_number w ≡ g → {x : ℤ} → distance_of g ≡ Some x → (distance_good w ≡ true) × (signed_value w ≡ x)
+unfolding distance_of
+distance_read w (Plus d) h e q = let k = some_if (leb d farthest) q in (good_plus w h e ∙ k.0, plus_worth w e ∙ k.1)
+distance_read w (Minus d) h e q = let k = some_if (leb d farthest && not (eqb d 0)) q in (good_minus w h e ∙ k.0, minus_worth w e ∙ k.1)
 
-module _ {s : List ℕ} {at a : ℕ} {b : Bool} {d z : ℕ} (r : SignedAt s at a b d z) where
-  pub signed_is : signed_value (field (line_here s at) 1) ≡ signed_by b d
-  unfolding signed_by
-  signed_is = signed_worth (field (line_here s at) 1) ∙ rw (r.minus, r.worth) refl
+distance_none : (w : List ℕ) (g : Signed) → is_signed w ≡ true → signed_number w ≡ g → distance_of g ≡ None → distance_good w ≡ false
+unfolding distance_of
+distance_none w (Plus d) h e q = good_plus w h e ∙ none_if (leb d farthest) _ q
+distance_none w (Minus d) h e q = good_minus w h e ∙ none_if (leb d farthest && not (eqb d 0)) _ q
 
+module _ {s : List ℕ} {at a : ℕ} {g : Signed} {z : ℕ} (r : SignedAt s at a g z) where
   second_signed : is_signed (field (line_here s at) 1) ≡ true
   unfolding signed_line
   second_signed =
       let l = line_here s at in
       (and_both (is_number (field l 0)) (is_signed (field l 1)) (and_both (l.closed && eqb (length (fields l.text)) 2) (is_number (field l 0) && is_signed (field l 1)) r.line).1).1
 
-  pub distance_is : distance_good (field (line_here s at) 1) ≡ (leb d farthest && not (b && eqb d 0))
-  unfolding distance_good
-  distance_is = rw (signed_is, abs_by b d, minus_zero (field (line_here s at) 1) second_signed, r.minus, r.worth) refl
+  pub distance_there : {x : ℤ} → distance_of g ≡ Some x → (distance_good (field (line_here s at) 1) ≡ true) × (signed_value (field (line_here s at) 1) ≡ x)
+  distance_there q = distance_read (field (line_here s at) 1) g second_signed r.signed q
+
+  pub distance_gone : distance_of g ≡ None → distance_good (field (line_here s at) 1) ≡ false
+  distance_gone q = distance_none (field (line_here s at) 1) g second_signed r.signed q

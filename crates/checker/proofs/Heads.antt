@@ -8,28 +8,30 @@ use lib.Dec.{ltb, eqb}
 use lib.ListN.{length, get_or, drop}
 use lib.Seq.{get_or-drop}
 use borrow.Author.Tests.{eqb-true, ne_eqb, ltb-false}
+use Rattle.std.specs.Prelude.{Option, Some, None}
 use Rattle.text.specs.Ascii.{space}
 use Rattle.text.specs.Lines.{fields, field, equal, begins}
 use Rattle.text.specs.Numbers.{is_number, value, all_numbers, numbers_line, number_at}
 use Rattle.text.specs.Reading.{line_here, past_line, field_here, leading_here}
-use Rattle.text.specs.declared.read.Row1.{Row1}
-use Rattle.text.specs.declared.read.Row1.TheVariants.{Fault as Fault1}
+use Rattle.text.specs.declared.read.Row.{Row as Numbers}
 use Rattle.text.proofs.ReadingRows.{Parted, Spaced, spaced, fields_more}
 use Rattle.text.proofs.Reading.{Row, NoRow, leading_fault}
 use Rattle.model.specs.Answer.{lasso_word, empty_word}
 use Rattle.model.specs.Passing.{says_lasso, says_empty, head_layout}
-use Rattle.checker.specs.Checking.{counts_here, counts_of, head_here}
+use Rattle.model.specs.declared.verdict.Verdict.{Verdict}
+use Rattle.model.specs.declared.verdict.Verdict.TheVariants.{Lasso, Empty}
+use Rattle.checker.specs.Checking.{verdict_by, counts_here, head_of, head_here}
 use Rattle.checker.specs.declared.opening.Head.{Head}
-use Rattle.checker.specs.declared.opening.Head.TheVariants.{Says, Fault}
 
 -- COUNTS
-pub counts_none : {s : List ℕ} {at : ℕ} (v : ℕ) (b : Bool) → NoRow 3 s at → Fault ≡ counts_here s at v b
+pub counts_none : {s : List ℕ} {at : ℕ} (v : ℕ) (w : Verdict) → NoRow 3 s at → None ≡ counts_here s at v w
 unfolding counts_here
-counts_none v b r = sym (rw r.none refl)
+counts_none v w r = sym (rw r.none refl)
 
-pub counts_some : {s : List ℕ} {at x y k z : ℕ} (v : ℕ) (b : Bool) → Row s at (x ∷ y ∷ k ∷ []) z → Says b (record { version = v; stem = x; cycle = y; reached = k }) z ≡ counts_here s at v b
+pub counts_some : {s : List ℕ} {at x y k z : ℕ} (v : ℕ) (w : Verdict) → Row s at (x ∷ y ∷ k ∷ []) z
+    → Some (record { version = v; verdict = w; stem = x; cycle = y; reached = k; next = z }) ≡ counts_here s at v w
 unfolding counts_here
-counts_some v b r = sym (rw (r.line, r.are 0 (omega arith), r.are 1 (omega arith), r.are 2 (omega arith), r.past) refl)
+counts_some v w r = sym (rw (r.line, r.are 0 (omega arith), r.are 1 (omega arith), r.are 2 (omega arith), r.past) refl)
 
 -- THE LINE by its end, its fields and the place past it
 abbrev layout_in : (closed : Bool) → List (List ℕ) → Bool
@@ -38,11 +40,11 @@ layout_in c fs =
     && ((is_number (get_or fs 0 []) && (equal (get_or fs 1 []) lasso_word || equal (get_or fs 1 []) empty_word))
     && (is_number (get_or fs 2 []) && (is_number (get_or fs 3 []) && is_number (get_or fs 4 []))))
 
-abbrev head_in : (closed : Bool) → List (List ℕ) → (past : ℕ) → Head
-head_in c fs z = cond (layout_in c fs) (Says (equal (get_or fs 1 []) lasso_word) (record { version = value (get_or fs 0 []); stem = value (get_or fs 2 []); cycle = value (get_or fs 3 []); reached = value (get_or fs 4 []) }) z) Fault
+abbrev head_in : (closed : Bool) → List (List ℕ) → (past : ℕ) → Option Head
+head_in c fs z = cond (layout_in c fs) (Some (record { version = value (get_or fs 0 []); verdict = verdict_by (equal (get_or fs 1 []) lasso_word); stem = value (get_or fs 2 []); cycle = value (get_or fs 3 []); reached = value (get_or fs 4 []); next = z })) None
 
 head_is : (s : List ℕ) (at : ℕ) {c : Bool} {fs : List (List ℕ)} {z : ℕ} → (line_here s at).closed ≡ c → fields (line_here s at).text ≡ fs → past_line s at ≡ z → head_here s at ≡ head_in c fs z
-unfolding head_here counts_of head_layout says_lasso says_empty number_at field
+unfolding head_here head_of head_layout says_lasso says_empty number_at field
 head_is s at {c} {fs} {z} hc hf hz =
     ap (λ (t : Bool). head_in t (fields (line_here s at).text) (past_line s at)) hc
     ∙ ap (λ (gs : List (List ℕ)). head_in c gs (past_line s at)) hf
@@ -70,7 +72,7 @@ module _ {s : List ℕ} {at v p : ℕ} (g : Parted s at v p) {w : List ℕ} (is_
       space_begins (drop (p + length w) s)
       ∙ ap (λ (b : ℕ). eqb b space) (get_or-drop (p + length w) s 0 0 ∙ ap (λ (i : ℕ). get_or s i 0) (let e : p + length w + 0 ≡ p + length (field_here s p) = omega (arith, ap length is_w) in e))
 
-  pub head_unspaced : begins (space ∷ []) (drop (p + length w) s) ≡ false → Fault ≡ head_here s at
+  pub head_unspaced : begins (space ∷ []) (drop (p + length w) s) ≡ false → None ≡ head_here s at
   head_unspaced h =
       sym
       (head_is s at refl g.pieces refl
@@ -83,7 +85,7 @@ module _ {s : List ℕ} {at v p : ℕ} (g : Parted s at v p) {w : List ℕ} (is_
   unfolding field
   word_is = sym is_w
 
-  pub head_neither : equal w lasso_word ≡ false → equal w empty_word ≡ false → Fault ≡ head_here s at
+  pub head_neither : equal w lasso_word ≡ false → equal w empty_word ≡ false → None ≡ head_here s at
   head_neither a b =
       sym
       (head_is s at refl g.pieces refl
@@ -95,7 +97,7 @@ module _ {s : List ℕ} {at v p : ℕ} (g : Parted s at v p) {w : List ℕ} (is_
         let e : p + suc (length (field_here s p)) ≡ p + length w + 1 = omega (arith, ap length is_w) in
         rw e at (spaced s p (eqb-true _ space (sym spaces ∙ h)))
 
-    head_word : (b : Bool) → equal w lasso_word ≡ b → (equal w lasso_word || equal w empty_word) ≡ true → counts_here s (p + length w + 1) v b ≡ head_here s at
+    head_word : (b : Bool) → equal w lasso_word ≡ b → (equal w lasso_word || equal w empty_word) ≡ true → counts_here s (p + length w + 1) v (verdict_by b) ≡ head_here s at
     unfolding counts_here numbers_line number_at field
     head_word b e f =
         let fs = fields (line_here s (p + length w + 1)).text in
@@ -103,13 +105,13 @@ module _ {s : List ℕ} {at v p : ℕ} (g : Parted s at v p) {w : List ℕ} (is_
         (head_is s at (g.closed ∙ next.closed) (g.pieces ∙ ap (λ (gs : List (List ℕ)). field_here s at ∷ gs) (next.pieces ∙ ap (λ (u : List ℕ). u ∷ fs) (sym is_w))) (g.past ∙ next.past)
         ∙ rw (g.number, g.worth, f, e, three_go (line_here s (p + length w + 1)).closed fs) refl)
 
-    pub head_lasso : equal w lasso_word ≡ true → counts_here s (p + length w + 1) v true ≡ head_here s at
+    pub head_lasso : equal w lasso_word ≡ true → counts_here s (p + length w + 1) v Lasso ≡ head_here s at
     head_lasso e = head_word true e (rw e refl)
 
-    pub head_empty : equal w lasso_word ≡ false → equal w empty_word ≡ true → counts_here s (p + length w + 1) v false ≡ head_here s at
+    pub head_empty : equal w lasso_word ≡ false → equal w empty_word ≡ true → counts_here s (p + length w + 1) v Empty ≡ head_here s at
     head_empty e f = head_word false e (rw (e, f) refl)
 
-pub head_torn : (s : List ℕ) (at : ℕ) {r : Row1} → r ≡ leading_here s at → r ≡ Fault1 → Fault ≡ head_here s at
+pub head_torn : (s : List ℕ) (at : ℕ) {r : Option (Numbers 1)} → r ≡ leading_here s at → r ≡ None → None ≡ head_here s at
 head_torn s at e f =
     let l = line_here s at in
     let fs = fields l.text in

@@ -1,4 +1,5 @@
 -- Laws of the checker.
+pub mod Tells
 pub mod Signs
 pub mod Ends
 pub mod Walks

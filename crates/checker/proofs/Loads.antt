@@ -1,56 +1,42 @@
 -- The case that the reader gives, and its tables. Assumes nothing.
 use mathlib.Core.Path.{◌≡◌, refl, sym, ap, ◌∙◌}
-use mathlib.Core.Bool.{Bool, true, false, cond}
+use mathlib.Core.Bool.{true}
 use mathlib.Core.List.{List}
 use Prim.Native.Nat.{ℕ, ◌≤◌}
 use native.Mathlib.Omega.{arith}
 use lib.ListN.{length}
-use Rattle.model.specs.Graph.{edge}
+use Rattle.std.specs.Prelude.{Result, Ok}
+use Rattle.model.specs.Graph.{Graph, edge}
 use Rattle.model.specs.Case.{most_vertices, most_edges, most_run_edges, Sound, Within}
-use Rattle.model.specs.CaseFile.{case_refusal, accepted, case_in}
+use Rattle.model.specs.CaseFile.{accepted, case_in}
 use Rattle.model.specs.Promise.{FilesSound}
 use Rattle.model.proofs.Accepting.{files_sound}
 use Rattle.casefile.specs.Judging.{header, judged}
 use Rattle.casefile.specs.Tables.{CaseRead}
 use Rattle.casefile.specs.declared.Case.{Case}
-use Rattle.casefile.specs.declared.Judged.{Judged}
-use Rattle.casefile.specs.declared.Judged.TheVariants.{Refused, Accepted}
+use Rattle.casefile.specs.declared.CaseTables.{CaseTables}
+use Rattle.model.specs.declared.refusal.Refusal.{Refusal}
+use Rattle.casefile.proofs.Whole.{taken}
 use Rattle.casefile.proofs.Tables.{mark_held, from_held, to_held}
 use Rattle.checker.specs.Checking.{Room, Stands}
 
 -- THE CASE that the judge gives
-judged_case : (s : List ℕ) (c : Case) → judged s ≡ Accepted c → (accepted s ≡ true) × (header s ≡ c)
-unfolding judged
-judged_case s c h = go (accepted s) refl h
-  where
-    go : (b : Bool) → accepted s ≡ b → cond b (Accepted (header s)) (Refused (case_refusal s)) ≡ Accepted c → (accepted s ≡ true) × (header s ≡ c)
-    go true e q = (e, cc)
-    go false e q = let z : ◌≡◌ {A = ℕ} 0 1 = cc in absurd (omega arith)
-
 pub record CaseOf (s : List ℕ) (c : Case) : Type 0 where
   pub is_accepted : accepted s ≡ true
   pub vertices : (case_in s).graph.vertices ≡ c.vertices
   pub edges : length (case_in s).graph.edges ≡ c.edges
   pub source : (case_in s).graph.source ≡ c.source
 
-pub case_of : {s : List ℕ} {c : Case} → judged s ≡ Accepted c → CaseOf s c
+pub case_of : {s : List ℕ} {c : Case} → judged s ≡ Ok c → CaseOf s c
 unfolding header
 case_of {s} {c} h =
-    let r = judged_case s c h in
+    let r = taken s refl h in
     record {
       is_accepted = r.0;
-      vertices = ap (λ (x : Case). x.vertices) r.1;
-      edges = ap (λ (x : Case). x.edges) r.1;
-      source = ap (λ (x : Case). x.source) r.1;
+      vertices = ap (λ (x : Case). x.vertices) (sym r.1);
+      edges = ap (λ (x : Case). x.edges) (sym r.1);
+      source = ap (λ (x : Case). x.source) (sym r.1);
     }
-
-pub refused_case : (s : List ℕ) {k : ℕ} → judged s ≡ Refused k → (case_refusal s ≡ k) × (accepted s ≡ false)
-unfolding judged
-refused_case s {k} h = go (accepted s) refl h
-  where
-    go : (b : Bool) → accepted s ≡ b → cond b (Accepted (header s)) (Refused (case_refusal s)) ≡ Refused k → (case_refusal s ≡ k) × (accepted s ≡ false)
-    go true e q = let z : ◌≡◌ {A = ℕ} 0 1 = cc in absurd (omega arith)
-    go false e q = (cc, e)
 
 sound : (s : List ℕ) → accepted s ≡ true → Sound (case_in s) × Within (case_in s)
 unfolding FilesSound
@@ -64,8 +50,8 @@ few s w = w.file
 pub room : {s : List ℕ} {c : Case} {froms tos : List ℕ} → CaseOf s c → most_run_edges ≤ length froms → most_run_edges ≤ length tos → Room c.vertices c.edges froms tos
 room {s} {c} o f t = let r = (sound s o.is_accepted).1 in record { few_vertices = rw (← o.vertices) r.vertices; few_edges = rw (← o.edges) (few s r); from_room = f; to_room = t }
 
-pub stands : {s : List ℕ} {r : Judged} {marks marks' owners owners' froms froms' tos tos' : List ℕ} (g : CaseRead s r marks marks' owners owners' froms froms' tos tos') {c : Case} → r ≡ Accepted c →
-    most_vertices ≤ length marks → most_edges ≤ length froms → most_edges ≤ length tos → Stands (case_in s).graph c marks' froms' tos'
+pub stands : {s : List ℕ} {r : Result Case Refusal} {old new : CaseTables} (g : CaseRead s r old new) {c : Case} → r ≡ Ok c →
+    most_vertices ≤ length old.marks.now → most_edges ≤ length old.froms.now → most_edges ≤ length old.tos.now → Stands (case_in s).graph c new.marks.now new.froms.now new.tos.now
 unfolding edge
 stands {s} g {c} e a b d =
     let o : CaseOf s c = case_of (sym g.answer ∙ e) in
@@ -79,3 +65,7 @@ stands {s} g {c} e a b d =
       mark_at = mark_held g e (omega (arith, r.1.vertices));
       small = r.0.mark;
     }
+
+-- and in the arrays that the tables lend
+pub stands_in : {g : Graph} {c : Case} {marks marks' froms froms' tos tos' : List ℕ} → Stands g c marks froms tos → marks' ≡ marks → froms' ≡ froms → tos' ≡ tos → Stands g c marks' froms' tos'
+stands_in s a b d = rw (a, b, d) s

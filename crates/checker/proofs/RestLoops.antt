@@ -12,6 +12,7 @@ use Rattle.model.specs.Graph.{Edge, Graph, edge, leaves, loop, loops_from, reste
 use Rattle.model.specs.Case.{answer_version}
 use Rattle.model.proofs.Rests.{leaves_at, leaves_none, rests_skip, rests_take, rested_edge}
 use Rattle.casefile.specs.declared.Case.{Case}
+use Rattle.checker.specs.declared.tables.Graph as code
 use Rattle.checker.specs.Checking.{Ends, Unmarked, Starts, Stands, meant_by, Tables}
 
 -- a new table of zeros
@@ -127,9 +128,11 @@ unfolding meant_by
 meant_file {v} g n = rw (ne_eqb v answer_version n) refl
 
 -- what the passing rules ask
-pub stands_tables : {g : Graph} {c : Case} {marks froms tos : List ℕ} → Stands g c marks froms tos → Tables g c.edges marks froms tos
+pub stands_tables : {g : Graph} {t : code.Graph} → Stands g t.case t.marks.now t.froms.now t.tos.now → Tables g t
 unfolding edge
 stands_tables s = record {
+  vertices = s.vertices;
+  source = s.source;
   many = s.ends.many;
   from_at = s.ends.from_at;
   to_at = s.ends.to_at;

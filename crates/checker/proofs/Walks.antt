@@ -11,6 +11,7 @@ use lib.ListN.{length, get_or, take, drop}
 use lib.Seq.{drop-drop}
 use borrow.Author.Tests.{lt-ltb, le-ltb, le-leb}
 use Rattle.text.proofs.Tests.{and_assoc}
+use Rattle.std.specs.Prelude.{Result, Ok, Err}
 use Rattle.text.specs.Lines.{Line, lines, line_at}
 use Rattle.text.specs.Numbers.{numbers_line, number_at}
 use Rattle.text.specs.Reading.{line_here, skip}
@@ -20,8 +21,16 @@ use Rattle.model.specs.CaseFile.{refuse, first_of, column}
 use Rattle.model.specs.Passing.{listed_edges_refusal}
 use Rattle.text.proofs.Places.{skip_none, skip_first, skip_add}
 use Rattle.casefile.proofs.Refusals.{first_one, first_decides}
-use Rattle.checker.specs.Checking.{Tables, WalkRead, WalkSays, edge_lines_refusal, LassoSays}
-use Rattle.checker.specs.declared.walk.Walked.TheVariants.{Refused, Went}
+use Rattle.model.specs.Answer.{lasso_verdict}
+use Rattle.model.specs.Refusals.{number}
+use Rattle.model.specs.declared.refusal.Refusal.{Refusal}
+use Rattle.model.specs.declared.refusal.Refusal.TheVariants.{AnswerLayout, NotShown}
+use Rattle.model.specs.declared.verdict.Verdict.{Verdict}
+use Rattle.model.specs.declared.verdict.Verdict.TheVariants.{Lasso}
+use Rattle.checker.specs.Checking.{Told, Tables, WalkRead, WalkSays, edge_lines_refusal}
+use Rattle.checker.specs.declared.walk.Walk.{Walk}
+use Rattle.checker.specs.declared.tables.Graph as code
+use Rattle.checker.proofs.Tells.{told_fault, told_pass}
 use Rattle.checker.proofs.Ends.{rest_lines, more_lines, no_more_lines}
 
 -- ONE LINE of so many
@@ -56,19 +65,19 @@ edges_both (suc x) y m ls =
     (both_go (numbers_line 1 (line_at ls 0)) (ltb (number_at (line_at ls 0) 0) m) _ _ _ (edges_both x y m (drop 1 ls)))
 
 -- THE WALK so far, and what is left of it
-pub record Going (g : Graph) (start : ℕ) (es rest : List ℕ) (v : ℕ) (joined marked : Bool) : Type 0 where
-  pub walk : is_walk g start es ≡ (joined && is_walk g v rest)
-  pub end : walk_end g start es ≡ walk_end g v rest
-  pub leaves : leaves_accepting g es ≡ (marked || leaves_accepting g rest)
+pub record Going (g : Graph) (start : ℕ) (es rest : List ℕ) (w : Walk) : Type 0 where
+  pub walk : is_walk g start es ≡ (w.joined && is_walk g w.end rest)
+  pub end : walk_end g start es ≡ walk_end g w.end rest
+  pub leaves : leaves_accepting g es ≡ (w.marked || leaves_accepting g rest)
 
-pub record Walking (s : List ℕ) (at k m start : ℕ) (marks froms tos : List ℕ) (here i v : ℕ) (joined marked : Bool) : Type 0 where
+pub record Walking (s : List ℕ) (at k start : ℕ) (t : code.Graph) (i : ℕ) (w : Walk) : Type 0 where
   pub within : i ≤ k
-  pub left : listed_edges_refusal (k - i) m (lines (drop here s)) ≡ listed_edges_refusal k m (lines (drop at s))
-  pub place : skip (k - i) s here ≡ skip k s at
-  pub going : (g : Graph) → Tables g m marks froms tos → Going g start (column 0 (take k (lines (drop at s)))) (column 0 (take (k - i) (lines (drop here s)))) v joined marked
+  pub left : listed_edges_refusal (k - i) t.case.edges (lines (drop w.next s)) ≡ listed_edges_refusal k t.case.edges (lines (drop at s))
+  pub place : skip (k - i) s w.next ≡ skip k s at
+  pub going : (g : Graph) → Tables g t → Going g start (column 0 (take k (lines (drop at s)))) (column 0 (take (k - i) (lines (drop w.next s)))) w
 
-pub walking_start : (s : List ℕ) (at k m start : ℕ) (marks froms tos : List ℕ) → Walking s at k m start marks froms tos at 0 start true false
-walking_start s at k m start marks froms tos =
+pub walking_start : (s : List ℕ) (at k start : ℕ) (t : code.Graph) → Walking s at k start t 0 (record { end = start; joined = true; marked = false; next = at })
+walking_start s at k start t =
     let e : k - 0 ≡ k = omega arith in
     record { within = omega arith; left = rw e refl; place = rw e refl; going = λ g t. record { walk = rw e refl; end = rw e refl; leaves = rw e refl } }
 
@@ -76,59 +85,63 @@ or_shift : (x y z : Bool) → (x || (y || z)) ≡ ((x || y) || z)
 or_shift true y z = refl
 or_shift false y z = refl
 
-going_on : {g : Graph} {m : ℕ} {marks froms tos : List ℕ} {start : ℕ} {es rest : List ℕ} {v : ℕ} {joined marked : Bool} (t : Tables g m marks froms tos) (e : ℕ) → e < m
-    → Going g start es (e ∷ rest) v joined marked
-    → Going g start es rest (get_or tos e 0) (joined && eqb (get_or froms e 0) v) (marked || leb 1 (get_or marks (get_or froms e 0) 0))
-unfolding is_walk walk_end leaves_accepting
-going_on {g} {m} {marks} {froms} {tos} {start} {es} {rest} {v} {joined} {marked} t e h w =
-    let l : ltb e (length g.edges) ≡ true = lt-ltb e (length g.edges) (omega (arith, t.many)) in
-    let f = t.from_at e h in
-    let o = t.to_at e h in
-    let k : get_or marks (get_or froms e 0) 0 ≡ mark g (edge g e).from = ap (λ (u : ℕ). get_or marks u 0) f ∙ t.mark_at e h in
+-- the walk after one edge more, whose line is before z
+unfoldable pub after : code.Graph → Walk → (e z : ℕ) → Walk
+after t w e z =
+    let u = get_or t.froms.now e 0 in
+    record { end = get_or t.tos.now e 0; joined = w.joined && eqb u w.end; marked = w.marked || leb 1 (get_or t.marks.now u 0); next = z }
+
+going_on : {g : Graph} {t : code.Graph} {start : ℕ} {es rest : List ℕ} {w : Walk} → Tables g t → (e z : ℕ) → e < t.case.edges → Going g start es (e ∷ rest) w → Going g start es rest (after t w e z)
+unfolding is_walk walk_end leaves_accepting after
+going_on {g} {t} {start} {es} {rest} {w} x e z h y =
+    let l : ltb e (length g.edges) ≡ true = lt-ltb e (length g.edges) (omega (arith, x.many)) in
+    let f = x.from_at e h in
+    let o = x.to_at e h in
+    let k : get_or t.marks.now (get_or t.froms.now e 0) 0 ≡ mark g (edge g e).from = ap (λ (u : ℕ). get_or t.marks.now u 0) f ∙ x.mark_at e h in
     record {
-      walk = w.walk ∙ rw (l, ← f, ← o) (and_assoc joined (eqb (get_or froms e 0) v) (is_walk g (get_or tos e 0) rest));
-      end = w.end ∙ rw (← o) refl;
-      leaves = w.leaves ∙ rw (← k) (or_shift marked (leb 1 (get_or marks (get_or froms e 0) 0)) (leaves_accepting g rest));
+      walk = y.walk ∙ rw (l, ← f, ← o) (and_assoc w.joined (eqb (get_or t.froms.now e 0) w.end) (is_walk g (get_or t.tos.now e 0) rest));
+      end = y.end ∙ rw (← o) refl;
+      leaves = y.leaves ∙ rw (← k) (or_shift w.marked (leb 1 (get_or t.marks.now (get_or t.froms.now e 0) 0)) (leaves_accepting g rest));
     }
 
-module _ {s : List ℕ} {at k m start : ℕ} {marks froms tos : List ℕ} {here i v : ℕ} {joined marked : Bool} (w : Walking s at k m start marks froms tos here i v joined marked) where
-  pub walking_end : k ≤ i → WalkSays s at k m start marks froms tos (Went here (record { end = v; joined = joined; marked = marked }))
+module _ {s : List ℕ} {at k start : ℕ} {t : code.Graph} {i : ℕ} {w : Walk} (r : Walking s at k start t i w) where
+  pub walking_end : k ≤ i → WalkSays s at k start t (Ok w)
   unfolding listed_edges_refusal column is_walk walk_end leaves_accepting
   walking_end h =
-      let z : k - i ≡ 0 = omega (arith, w.within) in
+      let z : k - i ≡ 0 = omega (arith, r.within) in
       record {
-        right = sym w.left ∙ rw z refl;
-        place = sym w.place ∙ (rw z (skip_none s here));
+        right = sym r.left ∙ rw z refl;
+        place = sym r.place ∙ (rw z (skip_none s w.next));
         went = λ g t.
-            let x = w.going g t in
-            record { walk = x.walk ∙ rw z (and-true joined); end = x.end ∙ rw z refl; leaves = x.leaves ∙ rw z (or-false marked) };
+            let x = r.going g t in
+            record { walk = x.walk ∙ rw z (and-true w.joined); end = x.end ∙ rw z refl; leaves = x.leaves ∙ rw z (or-false w.marked) };
       }
 
   module _ (h : i < k) where
     fewer : k - i ≡ suc (k - (i + 1))
     fewer = omega arith
 
-    next : let l = line_here s here in listed_edges_refusal k m (lines (drop at s))
-        ≡ cond (numbers_line 1 l) (cond (ltb (number_at l 0) m) (listed_edges_refusal (k - (i + 1)) m (drop 1 (lines (drop here s)))) 13) 12
-    next = sym w.left ∙ (rw fewer (edges_step (k - (i + 1)) m (lines (drop here s))))
+    next : let l = line_here s w.next in listed_edges_refusal k t.case.edges (lines (drop at s))
+        ≡ cond (numbers_line 1 l) (cond (ltb (number_at l 0) t.case.edges) (listed_edges_refusal (k - (i + 1)) t.case.edges (drop 1 (lines (drop w.next s)))) 13) 12
+    next = sym r.left ∙ (rw fewer (edges_step (k - (i + 1)) t.case.edges (lines (drop w.next s))))
 
-    pub walking_torn : NoRow 1 s here → WalkSays s at k m start marks froms tos (Refused 12)
+    pub walking_torn : NoRow 1 s w.next → WalkSays s at k start t (Err AnswerLayout)
     walking_torn b = (next ∙ (rw b.none refl), omega arith)
 
-    module _ {e z : ℕ} (r : Row s here (e ∷ []) z) where
-      pub walking_out : m ≤ e → WalkSays s at k m start marks froms tos (Refused 13)
-      walking_out l = (next ∙ (rw (r.line, r.are 0 (omega arith), le-ltb e m l) refl), omega arith)
+    module _ {e z : ℕ} (l : Row s w.next (e ∷ []) z) where
+      pub walking_out : t.case.edges ≤ e → WalkSays s at k start t (Err NotShown)
+      walking_out b = (next ∙ (rw (l.line, l.are 0 (omega arith), le-ltb e t.case.edges b) refl), omega arith)
 
-      listed : column 0 (take (k - i) (lines (drop here s))) ≡ e ∷ column 0 (take (k - (i + 1)) (lines (drop z s)))
-      listed = rw (fewer, column_step (k - (i + 1)) (lines (drop here s)) r.line, r.are 0 (omega arith), row_rest r) refl
+      listed : column 0 (take (k - i) (lines (drop w.next s))) ≡ e ∷ column 0 (take (k - (i + 1)) (lines (drop z s)))
+      listed = rw (fewer, column_step (k - (i + 1)) (lines (drop w.next s)) l.line, l.are 0 (omega arith), row_rest l) refl
 
-      pub walking_on : e < m → {u : ℕ} {joined' : Bool} {d : ℕ} {marked' : Bool} {v' : ℕ} → u ≡ get_or froms e 0 → joined' ≡ (joined && eqb u v) → d ≡ get_or marks u 0 → marked' ≡ (marked || leb 1 d)
-          → v' ≡ get_or tos e 0 → Walking s at k m start marks froms tos z (i + 1) v' joined' marked'
-      walking_on l a b c d f = record {
+      pub walking_on : e < t.case.edges → Walking s at k start t (i + 1) (after t w e z)
+      unfolding after
+      walking_on b = record {
         within = omega arith;
-        left = sym (next ∙ (rw (r.line, r.are 0 (omega arith), lt-ltb e m l, ← row_rest r) refl));
-        place = rw (← r.past, ← skip_first (k - (i + 1)) s here, ← fewer) w.place;
-        going = λ g t. rw (f, b, d, c, a) (going_on t e l (rw listed at (w.going g t)));
+        left = sym (next ∙ (rw (l.line, l.are 0 (omega arith), lt-ltb e t.case.edges b, ← row_rest l) refl));
+        place = rw (← l.past, ← skip_first (k - (i + 1)) s w.next, ← fewer) r.place;
+        going = λ g x. going_on x e z b (rw listed at (r.going g x));
       }
 
 -- A LASSO of stem and cycle
@@ -150,46 +163,51 @@ lasso_parts g ss es u₀ u v joined round marked e a b d f l =
     e
     ∙ rw (a, b, d, f, l) (long_go (joined && round) (eqb v u) marked (leb 1 (length es)) (λ q. leaves_long g es (l ∙ q)))
 
-module _ (s : List ℕ) (at x y m u₀ : ℕ) (marks froms tos : List ℕ) where
-  pub stem_refused : {r : ℕ} → WalkSays s at x m u₀ marks froms tos (Refused r) → LassoSays s at x y m u₀ marks froms tos r
+-- what the lines of stem and cycle tell
+abbrev pub LinesSay : (text : List ℕ) → (at stem cycle : ℕ) → code.Graph → Result Verdict Refusal → Type 0
+LinesSay s at x y t r = (g : Graph) → Tables g t → Told (edge_lines_refusal g x y (lines (drop at s))) lasso_verdict r
+
+module _ (s : List ℕ) (at x y : ℕ) {t : code.Graph} where
+  pub stem_refused : {e : Refusal} → WalkSays s at x t.case.source t (Err e) → LinesSay s at x y t (Err e)
   unfolding edge_lines_refusal
-  stem_refused {r} h g t e =
-      let nz : r ≡ 0 → ⊥ = λ q. omega (arith, h.1) in
-      sym (rw (t.many, edges_both x y m (lines (drop at s)), h.0, first_decides r (listed_edges_refusal y m (drop x (lines (drop at s))) ∷ []) nz) (first_decides r _ nz))
+  stem_refused {e} h g a =
+      let nz : number e ≡ 0 → ⊥ = λ q. omega (arith, h.1) in
+      told_fault e (sym (rw (a.many, edges_both x y t.case.edges (lines (drop at s)), h.0, first_decides (number e) (listed_edges_refusal y t.case.edges (drop x (lines (drop at s))) ∷ []) nz) (first_decides (number e) _ nz))) h.1
 
-  module _ {p u : ℕ} {joined one : Bool} (w : WalkRead s at x m u₀ marks froms tos p u joined one) where
-    rest : drop x (lines (drop at s)) ≡ lines (drop p s)
-    rest = sym (rest_lines x s at p w.place)
+  module _ {w : Walk} (a : WalkRead s at x t.case.source t w) where
+    rest : drop x (lines (drop at s)) ≡ lines (drop w.next s)
+    rest = sym (rest_lines x s at w.next a.place)
 
-    both : listed_edges_refusal (x + y) m (lines (drop at s)) ≡ listed_edges_refusal y m (lines (drop p s))
-    both = edges_both x y m (lines (drop at s)) ∙ (rw (w.right, rest) (unfold first_of in (first_one (listed_edges_refusal y m (lines (drop p s))))))
+    both : listed_edges_refusal (x + y) t.case.edges (lines (drop at s)) ≡ listed_edges_refusal y t.case.edges (lines (drop w.next s))
+    both =
+        edges_both x y t.case.edges (lines (drop at s))
+        ∙ (rw (a.right, rest) (unfold first_of in (first_one (listed_edges_refusal y t.case.edges (lines (drop w.next s))))))
 
-    pub cycle_refused : {r : ℕ} → WalkSays s p y m u marks froms tos (Refused r) → LassoSays s at x y m u₀ marks froms tos r
+    pub cycle_refused : {e : Refusal} → WalkSays s w.next y w.end t (Err e) → LinesSay s at x y t (Err e)
     unfolding edge_lines_refusal
-    cycle_refused {r} h g t e =
-        let nz : r ≡ 0 → ⊥ = λ q. omega (arith, h.1) in
-        sym (rw (t.many, both, h.0) (first_decides r _ nz))
+    cycle_refused {e} h g b = told_fault e (sym (rw (b.many, both, h.0) (first_decides (number e) _ (λ q. omega (arith, h.1))))) h.1
 
-    module _ {z v : ℕ} {round marked : Bool} (w₂ : WalkRead s p y m u marks froms tos z v round marked) where
-      end_is : skip (x + y) s at ≡ z
-      end_is = skip_add x y s at ∙ (rw w.place w₂.place)
+    module _ {v : Walk} (b : WalkRead s w.next y w.end t v) where
+      end_is : skip (x + y) s at ≡ v.next
+      end_is = skip_add x y s at ∙ (rw a.place b.place)
 
-      lasso_is : (g : Graph) → Tables g m marks froms tos → g.source ≡ u₀
-          → is_lasso g (column 0 (take x (lines (drop at s)))) (column 0 (take y (lines (drop p s)))) ≡ ((joined && round) && (eqb v u && marked))
-      lasso_is g t e =
-          let a = w.went g t in
-          let b = w₂.went g t in
-          lasso_parts g (column 0 (take x (lines (drop at s)))) (column 0 (take y (lines (drop p s)))) u₀ u v joined round marked e a.walk a.end b.walk b.end b.leaves
+      lasso_is : (g : Graph) → Tables g t
+          → is_lasso g (column 0 (take x (lines (drop at s)))) (column 0 (take y (lines (drop w.next s)))) ≡ ((w.joined && v.joined) && (eqb v.end w.end && v.marked))
+      lasso_is g c =
+          let p = a.went g c in
+          let q = b.went g c in
+          lasso_parts g (column 0 (take x (lines (drop at s)))) (column 0 (take y (lines (drop w.next s)))) t.case.source w.end v.end w.joined v.joined v.marked c.source p.walk p.end q.walk q.end q.leaves
 
-      pub lasso_trailed : z < length s → LassoSays s at x y m u₀ marks froms tos 12
+      pub lasso_trailed : v.next < length s → LinesSay s at x y t (Err AnswerLayout)
       unfolding edge_lines_refusal
-      lasso_trailed h g t e = sym (rw (t.many, both, w₂.right, more_lines (x + y) s at z end_is h) (unfold refuse first_of in refl))
+      lasso_trailed h g c = told_fault AnswerLayout (sym (rw (c.many, both, b.right, more_lines (x + y) s at v.next end_is h) (unfold refuse first_of in refl))) (omega arith)
 
-      module _ (h : length s ≤ z) {r : Bool} (is_r : r ≡ ((joined && round) && (eqb v u && marked))) where
-        pub lasso_passes : r ≡ true → LassoSays s at x y m u₀ marks froms tos 0
+      module _ (h : length s ≤ v.next) {r : Bool} (is_r : r ≡ ((w.joined && v.joined) && (eqb v.end w.end && v.marked))) where
+        pub lasso_passes : r ≡ true → LinesSay s at x y t (Ok Lasso)
         unfolding edge_lines_refusal
-        lasso_passes q g t e = sym (rw (t.many, both, w₂.right, no_more_lines (x + y) s at z end_is h, rest, lasso_is g t e, ← is_r, q) (unfold refuse first_of in refl))
+        lasso_passes q g c = told_pass Lasso (rw (c.many, both, b.right, no_more_lines (x + y) s at v.next end_is h, rest, lasso_is g c, ← is_r, q) (unfold refuse first_of in refl))
 
-        pub lasso_fails : r ≡ false → LassoSays s at x y m u₀ marks froms tos 13
+        pub lasso_fails : r ≡ false → LinesSay s at x y t (Err NotShown)
         unfolding edge_lines_refusal
-        lasso_fails q g t e = sym (rw (t.many, both, w₂.right, no_more_lines (x + y) s at z end_is h, rest, lasso_is g t e, ← is_r, q) (unfold refuse first_of in refl))
+        lasso_fails q g c =
+            told_fault NotShown (sym (rw (c.many, both, b.right, no_more_lines (x + y) s at v.next end_is h, rest, lasso_is g c, ← is_r, q) (unfold refuse first_of in refl))) (omega arith)

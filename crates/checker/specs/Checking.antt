@@ -1,51 +1,61 @@
 -- What the functions of src/ answer, by model's definition of answer files: 01's number for each refusal, or what was
 -- read. Assumes nothing: these are definitions.
-use Rattle.std.specs.Prelude.{◌≡◌, Bool, ◌&&◌, not, cond, List, [], ◌∷◌, ℕ, zero, suc, ◌+◌, ◌≤◌, ◌<◌, ltb, leb, eqb, length, get_or, take, drop, ℤ, pos, negsuc, neg_ℤ, nat_abs}
-use Rattle.std.proofs.Math.Option.{Option, none, some}
+use Rattle.std.specs.Prelude.{◌≡◌, Bool, true, false, ◌&&◌, not, cond, List, [], ◌∷◌, ℕ, zero, suc, ◌+◌, ◌≤◌, ◌<◌, ltb, leb, eqb, length, get_or, take, drop, ℤ, pos, negsuc, neg_ℤ, Option, Some, None, Result, Ok, Err}
+use Rattle.std.proofs.Math.Option as maths
 use Rattle.text.specs.Lines.{Line, lines, line_at, line_is}
 use Rattle.text.specs.Numbers.{numbers_line, number_at}
 use Rattle.text.specs.Reading.{line_here, past_line, skip}
+use Rattle.text.specs.declared.read.Signed.{Signed}
+use Rattle.text.specs.declared.read.Signed.TheVariants.{Plus, Minus}
 use Rattle.model.specs.Graph.{Edge, Graph, edge, mark, rested, is_walk, walk_end, leaves_accepting, is_lasso}
 use Rattle.model.specs.Case.{most_vertices, most_edges, most_run_edges, longest_file, most_listed, farthest, answer_version}
 use Rattle.model.specs.CaseFile.{refuse, first_of, begins_version, other_version, column}
-use Rattle.model.specs.Answer.{answer_names, no_verdict}
-use Rattle.model.specs.Passing.{says_lasso, head_layout, counts_suit, counts_fit, listed_edges_refusal, listed_vertices_refusal, Listed, number_of, listed_in, all_lead, passes_empty, lasso_refusal, empty_refusal, answer_refusal, answer_verdict}
-use Rattle.model.specs.declared.Checked.{Checked}
+use Rattle.model.specs.Answer.{answer_names, lasso_verdict, empty_verdict, no_verdict}
+use Rattle.model.specs.Passing.{says_lasso, head_layout, counts_suit, counts_fit, listed_edges_refusal, listed_vertices_refusal, Listed, number_of, listed_in, all_lead, passes_empty, lasso_refusal, empty_refusal, answer_refusal, check_refusal, answer_verdict}
+use Rattle.model.specs.Refusals.{number, refusal_of, checked_as}
+use Rattle.model.specs.declared.refusal.Refusal.{Refusal}
+use Rattle.model.specs.declared.verdict.Verdict.{Verdict}
+use Rattle.model.specs.declared.verdict.Verdict.TheVariants.{Lasso, Empty}
 use Rattle.casefile.specs.declared.Case.{Case}
-use Rattle.checker.specs.declared.opening.Counts.{Counts}
 use Rattle.checker.specs.declared.opening.Head.{Head}
-use Rattle.checker.specs.declared.opening.Head.TheVariants.{Says, Fault}
-use Rattle.checker.specs.declared.opening.Opening.{Opening}
-use Rattle.checker.specs.declared.opening.Opening.TheVariants.{Refused as BadOpening, Lasso, Empty}
-use Rattle.checker.specs.declared.walk.Walked.{Walked}
-use Rattle.checker.specs.declared.walk.Walked.TheVariants.{Refused as BadWalk, Went}
-use Rattle.checker.specs.declared.listing.Block.{Block}
-use Rattle.checker.specs.declared.listing.Block.TheVariants.{Refused as BadBlock, Past}
+use Rattle.checker.specs.declared.walk.Walk.{Walk}
+use Rattle.checker.specs.declared.tables.Graph as code
 
 -- THE END: a refusal, or the verdict where there is none
-pub record Told (refusal verdict : ℕ) (r : Checked) : Type 0 where
-  pub refused : r.refusal ≡ refusal
-  pub passed : r.verdict ≡ cond (eqb refusal 0) verdict no_verdict
+pub record Told (refusal verdict : ℕ) (r : Result Verdict Refusal) : Type 0 where
+  pub refused : (checked_as r).refusal ≡ refusal
+  pub passed : (checked_as r).verdict ≡ cond (eqb refusal 0) verdict no_verdict
 
--- LINE 2: three counts at a place after a version and a verdict; the whole line
-unfoldable pub counts_here : (text : List ℕ) → (at version : ℕ) → (lasso : Bool) → Head
-counts_here s at v b =
+abbrev pub FilesSay : (case answer : List ℕ) → Result Verdict Refusal → Type 0
+FilesSay bs ts r = Told (check_refusal bs ts) (answer_verdict ts) r
+
+-- LINE 2: its verdict
+abbrev pub verdict_by : (lasso : Bool) → Verdict
+verdict_by true = Lasso
+verdict_by false = Empty
+
+abbrev pub is_lasso_verdict : Verdict → Bool
+is_lasso_verdict Lasso = true
+is_lasso_verdict Empty = false
+
+-- three counts at a place after a version and a verdict
+unfoldable pub counts_here : (text : List ℕ) → (at version : ℕ) → Verdict → Option Head
+counts_here s at v w =
     let l = line_here s at in
-    cond (numbers_line 3 l) (Says b (record { version = v; stem = number_at l 0; cycle = number_at l 1; reached = number_at l 2 }) (past_line s at)) Fault
+    cond (numbers_line 3 l) (Some (record { version = v; verdict = w; stem = number_at l 0; cycle = number_at l 1; reached = number_at l 2; next = past_line s at })) None
 
--- the numbers on the whole line
-unfoldable pub counts_of : (head : Line) → Counts
-counts_of l = record { version = number_at l 0; stem = number_at l 2; cycle = number_at l 3; reached = number_at l 4 }
+-- what the whole line says, and a place past it
+unfoldable pub head_of : (head : Line) → (next : ℕ) → Head
+head_of l z = record { version = number_at l 0; verdict = verdict_by (says_lasso l); stem = number_at l 2; cycle = number_at l 3; reached = number_at l 4; next = z }
 
-unfoldable pub head_here : (text : List ℕ) → (at : ℕ) → Head
-head_here s at =
-    let l = line_here s at in
-    cond (head_layout l) (Says (says_lasso l) (counts_of l) (past_line s at)) Fault
+unfoldable pub head_here : (text : List ℕ) → (at : ℕ) → Option Head
+head_here s at = let l = line_here s at in cond (head_layout l) (Some (head_of l (past_line s at))) None
 
-unfoldable pub counts_right : (lasso : Bool) → (stem cycle reached : ℕ) → Bool
-counts_right b s k r = (leb s most_listed && (leb k most_listed && leb r most_listed)) && counts_suit b s k r
+unfoldable pub head_right : Head → Bool
+head_right h =
+    (leb h.stem most_listed && (leb h.cycle most_listed && leb h.reached most_listed)) && counts_suit (is_lasso_verdict h.verdict) h.stem h.cycle h.reached
 
--- LINES 1 AND 2: their refusal, or line 2's numbers by its verdict and where line 3 starts
+-- LINES 1 AND 2: their refusal, or what line 2 says and where line 3 starts
 unfoldable pub opening_refusal : (file : List ℕ) → ℕ
 opening_refusal bs =
     let ls = lines bs in
@@ -57,12 +67,8 @@ opening_refusal bs =
     ∷ refuse (not (counts_fit h)) 12
     ∷ [])
 
-unfoldable pub opening : (file : List ℕ) → Opening
-opening bs =
-    let h = line_at (lines bs) 1 in
-    cond (eqb (opening_refusal bs) 0)
-    (cond (says_lasso h) (Lasso (counts_of h) (skip 2 bs 0)) (Empty (counts_of h) (skip 2 bs 0)))
-    (BadOpening (opening_refusal bs))
+unfoldable pub opening : (file : List ℕ) → Result Head Refusal
+opening bs = cond (eqb (opening_refusal bs) 0) (Ok (head_of (line_at (lines bs) 1) (skip 2 bs 0))) (Err (refusal_of (opening_refusal bs)))
 
 -- REST LOOPS. Both ends of m edges in tables
 pub record Ends (es : List Edge) (m : ℕ) (froms tos : List ℕ) : Type 0 where
@@ -107,31 +113,33 @@ pub record MeantSays (version : ℕ) (c : Case) (froms froms' tos tos' : List �
   pub stands : (g : Graph) (marks : List ℕ) → Stands g c marks froms tos → Stands (meant_by version g) r marks froms' tos'
 
 -- the whole check, once the case stands in the tables
-abbrev pub AgainstSays : (answer : List ℕ) → Case → (marks froms tos : List ℕ) → Checked → Type 0
+abbrev pub AgainstSays : (answer : List ℕ) → Case → (marks froms tos : List ℕ) → Result Verdict Refusal → Type 0
 AgainstSays ts c marks froms tos r = (g : Graph) → Stands g c marks froms tos → Told (answer_refusal g ts) (answer_verdict ts) r
 
--- TABLES of a graph, what the passing rules ask of them: each edge's ends and the mark of its start, which is 0 or 1
-pub record Tables (g : Graph) (m : ℕ) (marks froms tos : List ℕ) : Type 0 where
-  pub many : length g.edges ≡ m
-  pub from_at : (e : ℕ) → e < m → get_or froms e 0 ≡ (edge g e).from
-  pub to_at : (e : ℕ) → e < m → get_or tos e 0 ≡ (edge g e).to
-  pub mark_at : (e : ℕ) → e < m → get_or marks (edge g e).from 0 ≡ mark g (edge g e).from
-  pub small : (e : ℕ) → e < m → mark g (edge g e).from < 2
+-- TABLES of a graph, what the passing rules ask of them: its counts, each edge's ends, and the mark of its start, 0 or 1
+pub record Tables (g : Graph) (t : code.Graph) : Type 0 where
+  pub vertices : g.vertices ≡ t.case.vertices
+  pub source : g.source ≡ t.case.source
+  pub many : length g.edges ≡ t.case.edges
+  pub from_at : (e : ℕ) → e < t.case.edges → get_or t.froms.now e 0 ≡ (edge g e).from
+  pub to_at : (e : ℕ) → e < t.case.edges → get_or t.tos.now e 0 ≡ (edge g e).to
+  pub mark_at : (e : ℕ) → e < t.case.edges → get_or t.marks.now (edge g e).from 0 ≡ mark g (edge g e).from
+  pub small : (e : ℕ) → e < t.case.edges → mark g (edge g e).from < 2
 
 -- EDGE LINES as a walk
-pub record WalkedAs (g : Graph) (start : ℕ) (es : List ℕ) (v : ℕ) (joined marked : Bool) : Type 0 where
-  pub walk : is_walk g start es ≡ joined
-  pub end : walk_end g start es ≡ v
-  pub leaves : leaves_accepting g es ≡ marked
+pub record WalkedAs (g : Graph) (start : ℕ) (es : List ℕ) (w : Walk) : Type 0 where
+  pub walk : is_walk g start es ≡ w.joined
+  pub end : walk_end g start es ≡ w.end
+  pub leaves : leaves_accepting g es ≡ w.marked
 
-pub record WalkRead (s : List ℕ) (at k m start : ℕ) (marks froms tos : List ℕ) (z v : ℕ) (joined marked : Bool) : Type 0 where
-  pub right : listed_edges_refusal k m (lines (drop at s)) ≡ 0
-  pub place : skip k s at ≡ z
-  pub went : (g : Graph) → Tables g m marks froms tos → WalkedAs g start (column 0 (take k (lines (drop at s)))) v joined marked
+pub record WalkRead (s : List ℕ) (at k start : ℕ) (t : code.Graph) (w : Walk) : Type 0 where
+  pub right : listed_edges_refusal k t.case.edges (lines (drop at s)) ≡ 0
+  pub place : skip k s at ≡ w.next
+  pub went : (g : Graph) → Tables g t → WalkedAs g start (column 0 (take k (lines (drop at s)))) w
 
-abbrev pub WalkSays : (text : List ℕ) → (at k m start : ℕ) → (marks froms tos : List ℕ) → Walked → Type 0
-WalkSays s at k m u marks froms tos (BadWalk j) = (listed_edges_refusal k m (lines (drop at s)) ≡ j) × (0 < j)
-WalkSays s at k m u marks froms tos (Went z w) = WalkRead s at k m u marks froms tos z w.end w.joined w.marked
+abbrev pub WalkSays : (text : List ℕ) → (at k start : ℕ) → code.Graph → Result Walk Refusal → Type 0
+WalkSays s at k u t (Err e) = (listed_edges_refusal k t.case.edges (lines (drop at s)) ≡ number e) × (0 < number e)
+WalkSays s at k u t (Ok w) = WalkRead s at k u t w
 
 -- the refusal of the lines of stem and cycle and what follows them
 unfoldable pub edge_lines_refusal : Graph → (stem cycle : ℕ) → List Line → ℕ
@@ -141,35 +149,31 @@ edge_lines_refusal g s k ls =
     ∷ refuse (not (is_lasso g (column 0 (take s ls)) (column 0 (take k (drop s ls))))) 13
     ∷ [])
 
-abbrev pub LassoSays : (text : List ℕ) → (at stem cycle m source : ℕ) → (marks froms tos : List ℕ) → ℕ → Type 0
-LassoSays s at x y m u marks froms tos r = (g : Graph) → Tables g m marks froms tos → g.source ≡ u → r ≡ edge_lines_refusal g x y (lines (drop at s))
+abbrev pub LassoSays : (answer : List ℕ) → code.Graph → Result Verdict Refusal → Type 0
+LassoSays s t r = (g : Graph) → Tables g t → Told (lasso_refusal g (line_at (lines s) 1) (lines s)) lasso_verdict r
 
-abbrev pub LassoChecked : (answer : List ℕ) → (m source : ℕ) → (marks froms tos : List ℕ) → ℕ → Type 0
-LassoChecked s m u marks froms tos r = (g : Graph) → Tables g m marks froms tos → g.source ≡ u → r ≡ lasso_refusal g (line_at (lines s) 1) (lines s)
+-- VERTEX LINES and their numbers. A table holds the number of each vertex that is listed
+unfoldable pub held : Option ℤ → maths.Option ℤ
+held None = maths.none
+held (Some z) = maths.some z
 
--- VERTEX LINES and their numbers. A table holds one number for each vertex, `not_listed`, which is too far, where there
--- is none
-abbrev pub not_listed : ℤ
-not_listed = pos (suc farthest)
+-- a number as a distance
+unfoldable pub distance_of : Signed → Option ℤ
+distance_of (Plus d) = cond (leb d farthest) (Some (pos d)) None
+distance_of (Minus d) = cond (leb d farthest && not (eqb d 0)) (Some (neg_ℤ (pos d))) None
 
-unfoldable pub held : (number : ℤ) → Option ℤ
-held z = cond (leb (nat_abs z) farthest) (some z) none
-
-unfoldable pub signed_by : (minus : Bool) → (number : ℕ) → ℤ
-signed_by b d = cond b (neg_ℤ (pos d)) (pos d)
-
-pub record Blank (n : ℕ) (numbers : List ℤ) : Type 0 where
+pub record Blank (n : ℕ) (numbers : List (Option ℤ)) : Type 0 where
   pub long : n ≤ length numbers
-  pub blank : (v : ℕ) → held (get_or numbers v not_listed) ≡ none
+  pub blank : (v : ℕ) → get_or numbers v None ≡ None
 
-pub record ListingRead (s : List ℕ) (at k n : ℕ) (numbers : List ℤ) (z : ℕ) : Type 0 where
-  pub right : listed_vertices_refusal k n none (lines (drop at s)) ≡ 0
+pub record ListingRead (s : List ℕ) (at k n : ℕ) (numbers : List (Option ℤ)) (z : ℕ) : Type 0 where
+  pub right : listed_vertices_refusal k n maths.none (lines (drop at s)) ≡ 0
   pub place : skip k s at ≡ z
-  pub kept : (v : ℕ) → held (get_or numbers v not_listed) ≡ number_of (listed_in (take k (lines (drop at s)))) v
+  pub kept : (v : ℕ) → held (get_or numbers v None) ≡ number_of (listed_in (take k (lines (drop at s)))) v
 
-abbrev pub ListingSays : (text : List ℕ) → (at k n : ℕ) → (numbers : List ℤ) → Block → Type 0
-ListingSays s at k n t (BadBlock j) = (listed_vertices_refusal k n none (lines (drop at s)) ≡ j) × (0 < j)
-ListingSays s at k n t (Past z) = ListingRead s at k n t z
+abbrev pub ListingSays : (text : List ℕ) → (at k n : ℕ) → (numbers : List (Option ℤ)) → Result ℕ Refusal → Type 0
+ListingSays s at k n t (Err e) = (listed_vertices_refusal k n maths.none (lines (drop at s)) ≡ number e) × (0 < number e)
+ListingSays s at k n t (Ok z) = ListingRead s at k n t z
 
 -- the length of an edge that leaves a vertex of this mark: model's edge_length, since a mark is 0 or 1
 unfoldable pub length_by : (mark : ℕ) → ℤ
@@ -177,21 +181,16 @@ length_by zero = pos 0
 length_by (suc k) = negsuc 0
 
 -- whether every edge leads right, by a table that holds what is listed
-abbrev pub LeadSays : (m : ℕ) → (marks froms tos : List ℕ) → (numbers : List ℤ) → Bool → Type 0
-LeadSays m marks froms tos t r =
-    (g : Graph) → Tables g m marks froms tos → (vs : List Listed) → ((v : ℕ) → held (get_or t v not_listed) ≡ number_of vs v) → r ≡ all_lead m 0 g vs
+abbrev pub LeadSays : code.Graph → (numbers : List (Option ℤ)) → Bool → Type 0
+LeadSays t xs r = (g : Graph) → Tables g t → (vs : List Listed) → ((v : ℕ) → held (get_or xs v None) ≡ number_of vs v) → r ≡ all_lead t.case.edges 0 g vs
 
 -- the refusal of the vertex lines and what follows them
 unfoldable pub vertex_lines_refusal : Graph → (reached : ℕ) → List Line → ℕ
 vertex_lines_refusal g k ls =
-    first_of (listed_vertices_refusal k g.vertices none ls
+    first_of (listed_vertices_refusal k g.vertices maths.none ls
     ∷ refuse (ltb k (length ls)) 12
     ∷ refuse (not (passes_empty g (listed_in (take k ls)))) 13
     ∷ [])
 
-abbrev pub EmptySays : (text : List ℕ) → (at reached n m source : ℕ) → (marks froms tos : List ℕ) → ℕ → Type 0
-EmptySays s at k n m u marks froms tos r =
-    (g : Graph) → Tables g m marks froms tos → g.source ≡ u → g.vertices ≡ n → r ≡ vertex_lines_refusal g k (lines (drop at s))
-
-abbrev pub EmptyChecked : (answer : List ℕ) → (n m source : ℕ) → (marks froms tos : List ℕ) → ℕ → Type 0
-EmptyChecked s n m u marks froms tos r = (g : Graph) → Tables g m marks froms tos → g.source ≡ u → g.vertices ≡ n → r ≡ empty_refusal g (line_at (lines s) 1) (lines s)
+abbrev pub EmptySays : (answer : List ℕ) → code.Graph → Result Verdict Refusal → Type 0
+EmptySays s t r = (g : Graph) → Tables g t → Told (empty_refusal g (line_at (lines s) 1) (lines s)) empty_verdict r

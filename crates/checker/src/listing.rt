@@ -1,197 +1,112 @@
 // Answers that say "empty": vertex lines, and whether their numbers prove that there is no lasso.
-ghost use Rattle.std.specs.Prelude.{◌≡◌, ◌&&◌, not, ◌≤◌, ltb, leb, eqb, nat_abs, get_or};
-ghost use Rattle.model.specs.Case.{most_vertices, farthest};
+ghost use Rattle.std.specs.Prelude.{◌≡◌, ◌≤◌, get_or, Ok, None};
 ghost use Rattle.model.specs.Passing.{leads};
-ghost use Rattle.checker.specs.Checking.{opening, not_listed, held, signed_by, length_by, Blank, ListingSays, LeadSays, EmptySays, EmptyChecked};
-ghost use Rattle.checker.specs.declared.opening.Opening.TheVariants.{Empty};
+ghost use Rattle.model.specs.Case.{most_vertices};
+ghost use Rattle.model.specs.declared.verdict.Verdict.TheVariants.{Empty};
+ghost use Rattle.checker.specs.Checking.{opening, held, distance_of, length_by, Blank, ListingSays, LeadSays, EmptySays};
 
-use crate::opening::Counts;
-use crate::tables::cell;
-use crate::{BROKEN, MALFORMED};
+use crate::opening::Head;
+use crate::tables::{Graph, cell};
 use casefile::Case;
-use text::read::{Named, SignedRow, name_line, signed_row};
+use model::{Refusal, Verdict};
+use text::read::{Signed, name_line, signed_row};
 
-// A vertex that is listed has a number from −FARTHEST to FARTHEST.
-const FARTHEST: i32 = Case::FARTHEST as i32;
-
-// The number of a vertex that is not listed.
-const NOT_LISTED: i32 = FARTHEST + 1;
-
-// Whether a number is that of a vertex that is listed.
-fn is_held(number: i32) -> bool
-    ensures { result ≡ leb (nat_abs number) farthest }
+// The number of a vertex, if it is listed.
+fn number_of(t: &[Option<i32>], v: usize) -> Option<i32>
+    ensures { result ≡ get_or t.now v None }
 {
-    if number < -FARTHEST {
-        return false;
-    }
-    number <= FARTHEST
+    t.get(v).copied().flatten()
 }
 
-// The number of a vertex.
-fn number_of(t: &[i32], v: usize) -> i32
-    ensures { result ≡ get_or t.now v not_listed }
+// A number as a distance, if it is one: no farther than can be, and not `-0`.
+#[tactic(auto, unfolding(crate::specs::Checking::distance_of))]
+fn distance(written: Signed) -> Option<i32>
+    ensures { result ≡ distance_of written }
 {
-    if v < t.len() {
-        return t[v];
+    match written {
+        Signed::Plus(d) if d <= Case::FARTHEST => Some(d as i32),
+        Signed::Minus(d) if 1 <= d && d <= Case::FARTHEST => Some(-(d as i32)),
+        _ => None,
     }
-    NOT_LISTED
 }
 
-// Whether a vertex is below n and not below `least`.
-fn in_order(v: usize, n: usize, least: usize) -> bool
-    ensures { result ≡ (ltb v n && leb least v) }
-{
-    if n <= v {
-        return false;
-    }
-    least <= v
-}
-
-// Whether a number, perhaps after a minus sign, is a distance: no farther than can be, and not `-0`.
-fn is_distance(minus: bool, d: u32) -> bool
-    ensures { result ≡ (leb d farthest && not (minus && eqb d 0)) }
-{
-    if Case::FARTHEST < d {
-        return false;
-    }
-    if minus {
-        return d != 0;
-    }
-    true
-}
-
-// A number after a minus sign or none.
-fn signed(minus: bool, d: u32) -> i32
-    requires { d ≤ farthest }
-    ensures { result ≡ signed_by minus d }
-{
-    if minus {
-        return 0 - d as i32;
-    }
-    d as i32
-}
-
-// A block of lines: the refusal, or the place past it.
-#[derive(Clone, Copy)]
-enum Block {
-    Refused(u32),
-    Past(usize),
-}
-
-// The lines of k vertices of n from `at` on; the number of each goes into the table.
-fn vertex_lines(text: &[u8], at: usize, k: usize, n: usize, numbers: &mut [i32]) -> Block
+// The lines of k vertices of n from `at` on, and the number of each: the place past them.
+fn vertex_lines(
+    text: &[u8],
+    at: usize,
+    k: usize,
+    n: usize,
+    numbers: &mut [Option<i32>],
+) -> Result<usize, Refusal>
     requires { Blank n numbers.old }
     ensures { ListingSays text.now at k n numbers.new result }
 {
     let mut here = at;
-    let mut i: usize = 0;
-    let mut least: usize = 0;
-    while i < k {
-        let SignedRow::Read(vertex, minus, d, next) = signed_row(text, here) else {
-            return Block::Refused(MALFORMED);
-        };
-        let v = vertex as usize;
-        if !in_order(v, n, least) {
-            return Block::Refused(BROKEN);
+    let mut least = 0;
+    for _ in 0..k {
+        let row = signed_row(text, here).ok_or(Refusal::AnswerLayout)?;
+        let v = row.number as usize;
+        if v < least || n <= v {
+            return Err(Refusal::NotShown);
         }
-        if !is_distance(minus, d) {
-            return Block::Refused(MALFORMED);
-        }
-        numbers[v] = signed(minus, d);
+        let number = distance(row.signed).ok_or(Refusal::AnswerLayout)?;
+        numbers[v] = Some(number);
         least = v + 1;
-        here = next;
-        i += 1;
+        here = row.next;
     }
-    Block::Past(here)
+    Ok(here)
 }
 
-// The length of an edge that leaves a vertex of this mark: −1 where it accepts, else 0.
-fn edge_length(mark: usize) -> i32
-    ensures { result ≡ length_by mark }
-{
-    if mark == 0 {
-        return 0;
-    }
-    -1
-}
-
-// Whether an edge leads right between vertices of these numbers, from one of this mark.
-fn leads_right(mark: usize, a: i32, b: i32) -> bool
+// Whether an edge leads right between vertices of these numbers, from one of this mark: its length is −1 where that accepts,
+// else 0.
+fn leads_right(mark: usize, a: Option<i32>, b: Option<i32>) -> bool
     ensures { result ≡ leads (held a) (held b) (length_by mark) }
 {
-    if !is_held(a) {
-        return true;
+    match (a, b) {
+        (None, _) => true,
+        (Some(_), None) => false,
+        (Some(a), Some(b)) => if mark == 0 { b <= a } else { b < a },
     }
-    if !is_held(b) {
-        return false;
-    }
-    b <= a + edge_length(mark)
 }
 
-// Whether every edge of m leads right.
-fn all_lead(m: usize, marks: &[u32], froms: &[u32], tos: &[u32], numbers: &[i32]) -> bool
-    ensures { LeadSays m marks.now froms.now tos.now numbers.now result }
+// Whether every edge leads right.
+fn all_lead(graph: Graph, numbers: &[Option<i32>]) -> bool
+    ensures { LeadSays graph.entry numbers.now result }
 {
-    let mut e: usize = 0;
-    while e < m {
-        let from = cell(froms, e);
-        let to = cell(tos, e);
+    for e in 0..graph.case.edges {
+        let from = cell(graph.froms, e);
+        let to = cell(graph.tos, e);
         let a = number_of(numbers, from);
         let b = number_of(numbers, to);
-        if !leads_right(cell(marks, from), a, b) {
+        if !leads_right(cell(graph.marks, from), a, b) {
             return false;
         }
-        e += 1;
     }
     true
 }
 
-// The vertex lines, then nothing, then the passing rule: the refusal.
-fn listed(
-    text: &[u8],
-    at: usize,
-    reached: usize,
-    case: Case,
-    marks: &[u32],
-    froms: &[u32],
-    tos: &[u32],
-) -> u32
-    requires { case.vertices ≤ most_vertices }
-    ensures { EmptySays text.now at reached case.vertices case.edges case.source marks.now froms.now tos.now result }
+// The answer from line 3 on, against the graph: the vertex lines, then nothing, then the passing rule.
+pub(crate) fn check_empty(answer: &[u8], head: Head, graph: Graph) -> Result<Verdict, Refusal>
+    requires { (opening answer.now ≡ Ok head) × (head.verdict ≡ Empty) × (graph.case.vertices ≤ most_vertices) }
+    ensures { EmptySays answer.now graph.entry result }
 {
-    let mut numbers = [NOT_LISTED; Case::MOST_VERTICES];
-    match vertex_lines(text, at, reached, case.vertices, &mut numbers) {
-        Block::Refused(k) => k,
-        Block::Past(last) => {
-            if last < text.len() {
-                return MALFORMED;
-            }
-            if !is_held(number_of(&numbers, case.source)) {
-                return BROKEN;
-            }
-            if all_lead(case.edges, marks, froms, tos, &numbers) {
-                return 0;
-            }
-            BROKEN
-        }
+    let rows = name_line(answer, head.next, b"vertex distance").ok_or(Refusal::AnswerLayout)?;
+    let mut numbers = [None; Case::MOST_VERTICES];
+    let last = vertex_lines(
+        answer,
+        rows,
+        head.reached,
+        graph.case.vertices,
+        &mut numbers,
+    )?;
+    if last < answer.len() {
+        return Err(Refusal::AnswerLayout);
     }
-}
-
-// The answer from line 3 on, against the case that stands in the tables.
-pub(crate) fn check_empty(
-    answer: &[u8],
-    counts: Counts,
-    third: usize,
-    case: Case,
-    marks: &[u32],
-    froms: &[u32],
-    tos: &[u32],
-) -> u32
-    requires { (opening answer.now ≡ Empty counts third) × (case.vertices ≤ most_vertices) }
-    ensures { EmptyChecked answer.now case.vertices case.edges case.source marks.now froms.now tos.now result }
-{
-    let Named::Past(rows) = name_line(answer, third, b"vertex distance") else {
-        return MALFORMED;
-    };
-    listed(answer, rows, counts.reached, case, marks, froms, tos)
+    if number_of(&numbers, graph.case.source).is_none() {
+        return Err(Refusal::NotShown);
+    }
+    if !all_lead(graph, &numbers) {
+        return Err(Refusal::NotShown);
+    }
+    Ok(Verdict::Empty)
 }

@@ -15,13 +15,13 @@ fn mark_starts(m: usize, froms: &[u32], starts: &mut [u32])
     }
 }
 
-// Puts the loop of each vertex of n that is not marked behind the m edges: how many there are then.
-fn add_loops(n: usize, m: usize, starts: &[u32], froms: &mut [u32], tos: &mut [u32]) -> usize
-    requires { Room n m froms.old tos.old × Starts m froms.old starts.now × (n ≤ length starts.now) }
-    ensures { RestedSays n m froms.old froms.new tos.old tos.new result }
+// Puts the loop of each vertex that is not marked behind the edges: how many there are then.
+fn add_loops(case: Case, starts: &[u32], froms: &mut [u32], tos: &mut [u32]) -> usize
+    requires { Room case.vertices case.edges froms.old tos.old × Starts case.edges froms.old starts.now × (case.vertices ≤ length starts.now) }
+    ensures { RestedSays case.vertices case.edges froms.old froms.new tos.old tos.new result }
 {
-    let mut k = m;
-    for v in 0..n {
+    let mut k = case.edges;
+    for v in 0..case.vertices {
         if cell(starts, v) != 0 {
             continue;
         }
@@ -32,14 +32,14 @@ fn add_loops(n: usize, m: usize, starts: &[u32], froms: &mut [u32], tos: &mut [u
     k
 }
 
-// Puts the rest loops of n vertices behind their m edges: how many there are then.
-fn rest_loops(n: usize, m: usize, froms: &mut [u32], tos: &mut [u32]) -> usize
-    requires { Room n m froms.old tos.old }
-    ensures { RestedSays n m froms.old froms.new tos.old tos.new result }
+// Puts the rest loops of a case behind its edges: how many there are then.
+fn rest_loops(case: Case, froms: &mut [u32], tos: &mut [u32]) -> usize
+    requires { Room case.vertices case.edges froms.old tos.old }
+    ensures { RestedSays case.vertices case.edges froms.old froms.new tos.old tos.new result }
 {
-    let mut starts = [0u32; Case::MOST_VERTICES];
-    mark_starts(m, froms, &mut starts);
-    add_loops(n, m, &starts, froms, tos)
+    let mut starts = [0; Case::MOST_VERTICES];
+    mark_starts(case.edges, froms, &mut starts);
+    add_loops(case, &starts, froms, tos)
 }
 
 // The case that an answer of this version is judged against: "the checker judges version 1 answers by the old meaning".
@@ -51,9 +51,7 @@ pub(crate) fn meant(version: u32, case: Case, froms: &mut [u32], tos: &mut [u32]
         return case;
     }
     Case {
-        vertices: case.vertices,
-        edges: rest_loops(case.vertices, case.edges, froms, tos),
-        source: case.source,
-        workers: case.workers,
+        edges: rest_loops(case, froms, tos),
+        ..case
     }
 }

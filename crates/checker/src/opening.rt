@@ -1,137 +1,90 @@
 // Lines 1 and 2 of an answer: its version, its verdict and its counts.
-ghost use Rattle.std.specs.Prelude.{◌≡◌, ◌&&◌, leb};
-ghost use Rattle.model.specs.Case.{most_listed};
-ghost use Rattle.model.specs.Passing.{counts_suit};
-ghost use Rattle.checker.specs.Checking.{counts_here, head_here, opening, counts_right};
+ghost use Rattle.std.specs.Prelude.{◌≡◌};
+ghost use Rattle.checker.specs.Checking.{counts_here, head_here, opening, head_right};
 
-use crate::{MALFORMED, OTHER_VERSION, TOO_LONG};
 use casefile::{Case, other_version};
-use text::read::{Named, Row1, Row3, begins_at, field, leading_number, name_line, row_of_3, same};
+use model::{Refusal, Verdict};
+use text::read::{begins_at, field, leading_number, name_line, numbers_row, same};
 
-// Line 2's numbers: the version, and how many stem edges, cycle edges and vertices the answer lists.
+// Line 2: the version, the verdict, how many stem edges, cycle edges and vertices the answer lists; and the place past it.
 #[derive(Clone, Copy)]
-pub(crate) struct Counts {
+pub(crate) struct Head {
     pub version: u32,
+    pub verdict: Verdict,
     pub stem: usize,
     pub cycle: usize,
     pub reached: usize,
-}
-
-// Line 2: whether it says "lasso", its numbers, and the place past it.
-#[derive(Clone, Copy)]
-enum Head {
-    Says(bool, Counts, usize),
-    Fault,
+    pub next: usize,
 }
 
 // The counts at `at`, after this version and verdict.
-fn read_counts(text: &[u8], at: usize, version: u32, lasso: bool) -> Head
-    ensures { result ≡ counts_here text.now at version lasso }
+fn read_counts(text: &[u8], at: usize, version: u32, verdict: Verdict) -> Option<Head>
+    ensures { result ≡ counts_here text.now at version verdict }
 {
-    let Row3::Read(stem, cycle, reached, next) = row_of_3(text, at) else {
-        return Head::Fault;
-    };
-    let counts = Counts {
+    let row = numbers_row::<3>(text, at)?;
+    let [stem, cycle, reached] = row.numbers;
+    Some(Head {
         version,
+        verdict,
         stem: stem as usize,
         cycle: cycle as usize,
         reached: reached as usize,
-    };
-    Head::Says(lasso, counts, next)
+        next: row.next,
+    })
 }
 
-fn read_head(text: &[u8], at: usize) -> Head
+fn read_head(text: &[u8], at: usize) -> Option<Head>
     ensures { result ≡ head_here text.now at }
 {
-    let Row1::Read(version, p) = leading_number(text, at) else {
-        return Head::Fault;
-    };
+    let row = leading_number(text, at)?;
+    let [version] = row.numbers;
+    let p = row.next;
     let verdict = field(text, p);
     let end = p + verdict.len();
     if !begins_at(text, end, b" ") {
-        return Head::Fault;
+        return None;
     }
     if same(verdict, b"lasso") {
-        return read_counts(text, end + 1, version, true);
+        return read_counts(text, end + 1, version, Verdict::Lasso);
     }
     if same(verdict, b"empty") {
-        return read_counts(text, end + 1, version, false);
+        return read_counts(text, end + 1, version, Verdict::Empty);
     }
-    Head::Fault
+    None
 }
 
-// Whether counts suit the verdict.
-fn suits(lasso: bool, counts: Counts) -> bool
-    ensures { result ≡ counts_suit lasso counts.stem counts.cycle counts.reached }
+// Whether no count is above the most that an answer lists, and the counts suit the verdict.
+#[tactic(auto, unfolding(crate::specs::Checking::head_right, model::specs::Passing::counts_suit))]
+fn right(head: Head) -> bool
+    ensures { result ≡ head_right head }
 {
-    if lasso {
-        if counts.cycle < 1 {
-            return false;
-        }
-        return counts.reached == 0;
+    let few = head.stem <= Case::MOST_LISTED
+        && head.cycle <= Case::MOST_LISTED
+        && head.reached <= Case::MOST_LISTED;
+    few && match head.verdict {
+        Verdict::Lasso => 1 <= head.cycle && head.reached == 0,
+        Verdict::Empty => head.stem == 0 && head.cycle == 0 && 1 <= head.reached,
     }
-    if counts.stem != 0 {
-        return false;
-    }
-    if counts.cycle != 0 {
-        return false;
-    }
-    1 <= counts.reached
 }
 
-// Whether no count is above the most that an answer lists.
-fn few(counts: Counts) -> bool
-    ensures { result ≡ (leb counts.stem most_listed && (leb counts.cycle most_listed && leb counts.reached most_listed)) }
-{
-    if Case::MOST_LISTED < counts.stem {
-        return false;
-    }
-    if Case::MOST_LISTED < counts.cycle {
-        return false;
-    }
-    counts.reached <= Case::MOST_LISTED
-}
-
-fn right(lasso: bool, counts: Counts) -> bool
-    ensures { result ≡ counts_right lasso counts.stem counts.cycle counts.reached }
-{
-    if few(counts) {
-        return suits(lasso, counts);
-    }
-    false
-}
-
-// The refusal; or line 2's numbers by its verdict, and where line 3 starts.
-#[derive(Clone, Copy)]
-pub(crate) enum Opening {
-    Refused(u32),
-    Lasso(Counts, usize),
-    Empty(Counts, usize),
-}
-
-pub(crate) fn read_opening(text: &[u8]) -> Opening
+pub(crate) fn read_opening(text: &[u8]) -> Result<Head, Refusal>
     ensures { result ≡ opening text.now }
 {
     if Case::LONGEST_FILE < text.len() {
-        return Opening::Refused(TOO_LONG);
+        return Err(Refusal::LongFile);
     }
     if !begins_at(text, 0, b"version ") {
-        return Opening::Refused(MALFORMED);
+        return Err(Refusal::AnswerLayout);
     }
     if other_version(text, Case::ANSWER_VERSION) {
-        return Opening::Refused(OTHER_VERSION);
+        return Err(Refusal::OtherVersion);
     }
-    let Named::Past(second) = name_line(text, 0, b"version verdict stem cycle reached") else {
-        return Opening::Refused(MALFORMED);
-    };
-    let Head::Says(lasso, counts, third) = read_head(text, second) else {
-        return Opening::Refused(MALFORMED);
-    };
-    if !right(lasso, counts) {
-        return Opening::Refused(MALFORMED);
+    let second = name_line(text, 0, b"version verdict stem cycle reached").ok_or(
+        Refusal::AnswerLayout,
+    )?;
+    let head = read_head(text, second).ok_or(Refusal::AnswerLayout)?;
+    if !right(head) {
+        return Err(Refusal::AnswerLayout);
     }
-    if lasso {
-        return Opening::Lasso(counts, third);
-    }
-    Opening::Empty(counts, third)
+    Ok(head)
 }

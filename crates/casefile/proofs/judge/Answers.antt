@@ -2,4 +2,4 @@
 use Rattle.casefile.proofs.judge.Goals as goal
 
 pub returns : goal.returns
-returns c = c.read_case.ensures.answer
+returns c = c.read_case.ensures.read.answer

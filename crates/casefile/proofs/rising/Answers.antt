@@ -1,15 +1,18 @@
--- `casefile::rising`: by the first test that decides.
-use Rattle.casefile.proofs.Blocks.{rising_first, rising_from, rising_to, rising_not}
+-- `casefile::rising`: the order of pairs, and none before any.
+use Rattle.std.proofs.Common.{◌≡◌, ℕ, refl, ◌∙◌, arith}
+use Rattle.std.proofs.lemmas.Bool.Decides.{nat_tests}
+use Rattle.std.specs.Prelude.{Option, Some, None}
+use Rattle.std.specs.Ordering.{nat_cmp, partial_lt, partial_ordering_then}
+use Rattle.std.specs.Option.{option_partial_cmp}
+use Rattle.model.specs.CaseFile.{rises}
+use Rattle.casefile.specs.Judging.{edge_before}
 use Rattle.casefile.proofs.rising.Goals as goal
 
-pub returns-then-e-eq0 : goal.returns-then-e-eq0
-returns-then-e-eq0 c = rising_first _ _ _ _ _ c.if-e-eq0.true
-
-pub returns-then-f-from : goal.returns-then-f-from
-returns-then-f-from c = rising_from _ _ _ _ _ c.if-e-eq0.false c.if-f-from.true
-
-pub returns-then-f-from-2 : goal.returns-then-f-from-2
-returns-then-f-from-2 c = rising_to _ _ _ _ _ c.if-e-eq0.false c.if-f-from-2.true
+go : (o : Option (ℕ × ℕ)) (a b : ℕ) →
+    partial_lt (option_partial_cmp {T = ℕ × ℕ} (λ x y. partial_ordering_then (Some (nat_cmp x.0 y.0)) (Some (nat_cmp x.1 y.1)))) o (Some (a, b)) ≡ rises (edge_before o) (record { from = a; to = b })
+unfolding rises edge_before
+go None a b = refl
+go (Some (f, t)) a b = grind (arith, nat_tests)
 
 pub returns : goal.returns
-returns c = rising_not _ _ _ _ _ c.if-e-eq0.false c.if-f-from.false c.if-f-from-2.false
+returns c = c.lt.ensures ∙ go c.args.before c.args.from c.args.to

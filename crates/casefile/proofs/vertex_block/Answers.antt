@@ -3,53 +3,38 @@ use native.Mathlib.Omega.{arith}
 use mathlib.Core.Path.{refl, sym, ◌∙◌}
 use lib.Dec.{lit<}
 use Rattle.text.proofs.Tests.{refuted, upheld}
-use Rattle.text.proofs.Reading.{row3_read, row3_fault}
+use Rattle.text.proofs.Reading.{row_read, row_fault}
+use Rattle.model.specs.Refusals.{refusal_of}
+use Rattle.casefile.proofs.Exits.{none_there}
 use Rattle.casefile.proofs.Blocks.{vertices_start, vertices_clean, vertices_torn, vertices_wrong, vertices_more}
 use Rattle.casefile.proofs.Tables.{lines_start, lines_more, block_stops, block_ends}
 use Rattle.std.proofs.lemmas.Bool.{not_from_false, not_from_true}
 use Rattle.casefile.proofs.vertex_block.Goals as goal
 
 pub loop-v-init : goal.loop-v-init
-loop-v-init c = (vertices_start _ _ _ _, lines_start _ _ _ _ _ _)
+loop-v-init c = (vertices_start _ _ _, lines_start _ _ _ _ _ _)
 
-pub shape_of-marks-in_default : goal.shape_of-marks-in_default
-shape_of-marks-in_default c = c.loop-v.invariant.1.long_one
-
-pub shape_of-owners-in_default : goal.shape_of-owners-in_default
-shape_of-owners-in_default c = c.loop-v.invariant.1.long_two
-
-pub returns-in_default : goal.returns-in_default
-returns-in_default c = let g = c.loop-v.invariant in block_stops g.1 (vertices_clean g.0) (omega arith) (vertices_torn g.0 (row3_fault _ _ c.row_of_3.ensures c.in_default.is))
-
-pub shape_of-marks-then-not-vertex_right : goal.shape_of-marks-then-not-vertex_right
-shape_of-marks-then-not-vertex_right c = c.loop-v.invariant.1.long_one
-
-pub shape_of-owners-then-not-vertex_right : goal.shape_of-owners-then-not-vertex_right
-shape_of-owners-then-not-vertex_right c = c.loop-v.invariant.1.long_two
+pub returns-in_err-row : goal.returns-in_err-row
+unfolding refusal_of
+returns-in_err-row c =
+    let g = c.loop-v.invariant in
+    let n = none_there c.from_residual.ensures.1 c.in_err-row.ensures.value in
+    rw n.1 (block_stops g.1 (vertices_clean g.0) (omega arith) refl (vertices_torn g.0 (row_fault 3 _ _ c.numbers_row.ensures n.0)))
 
 pub returns-then-not-vertex_right : goal.returns-then-not-vertex_right
+unfolding refusal_of
 returns-then-not-vertex_right c =
     let g = c.loop-v.invariant in
-    block_stops g.1 (vertices_clean g.0) (omega arith) (vertices_wrong g.0 (row3_read c.row_of_3.ensures c.in-Read.is) (sym c.vertex_right.ensures ∙ refuted _ _ (not_from_false _ c.if-not-vertex_right.true) refl))
-
-pub overflow_add-v : goal.overflow_add-v
-overflow_add-v c = omega (arith, c.loop-v-test.true)
-
-pub loop-v-smaller : goal.loop-v-smaller
-loop-v-smaller c = omega (arith, c.loop-v-test.true)
+    let row = row_read 3 c.numbers_row.ensures c.in_ok-row.ensures.ok_part in
+    block_stops g.1 (vertices_clean g.0) (omega arith) refl (vertices_wrong g.0 row (sym c.vertex_right.ensures ∙ refuted _ _ (not_from_false _ c.if-not-vertex_right.true) refl))
 
 pub loop-v-preserved : goal.loop-v-preserved
 loop-v-preserved c =
     let g = c.loop-v.invariant in
+    let row = row_read 3 c.numbers_row.ensures c.in_ok-row.ensures.ok_part in
     let right = sym c.vertex_right.ensures ∙ upheld _ _ (not_from_true _ c.if-not-vertex_right.false) refl in
     rw (c.put-in-loop-v.ensures, c.put.ensures)
-    (vertices_more g.0 (row3_read c.row_of_3.ensures c.in-Read.is) c.loop-v-test.true right, lines_more g.1 (row3_read c.row_of_3.ensures c.in-Read.is) (lit< tt) (lit< tt))
-
-pub shape_of-marks : goal.shape_of-marks
-shape_of-marks c = c.loop-v.invariant.1.long_one
-
-pub shape_of-owners : goal.shape_of-owners
-shape_of-owners c = c.loop-v.invariant.1.long_two
+    (vertices_more g.0 row right, lines_more g.1 row (lit< tt) (lit< tt))
 
 pub returns : goal.returns
-returns c = let g = c.loop-v.invariant in block_ends g.1 (vertices_clean g.0) (omega (arith, g.0.within, c.loop-v-test.false))
+returns c = let g = c.loop-v.invariant in block_ends g.1 (vertices_clean g.0) (omega arith)

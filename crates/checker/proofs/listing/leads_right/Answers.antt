@@ -1,22 +1,25 @@
--- `checker::listing::leads_right`: by the first test that decides.
-use Rattle.checker.proofs.Signs.{leads_none, leads_lost, leads_on, sum_fits}
-use mathlib.Core.Path.{refl, sym, ◌∙◌}
-use Rattle.text.proofs.Tests.{refuted, upheld}
+-- `checker::listing::leads_right`: by what is listed, and by the mark.
+use Rattle.std.proofs.Common.{rules}
 use mir.Facts.{to_z-of_z}
-use Rattle.std.proofs.lemmas.Bool.{not_from_false, not_from_true}
+use mir.Syntax.{w32}
+use mir.Val.{SFits}
+use Rattle.checker.proofs.Signs.{leads_none, leads_lost, leads_level, leads_down}
 use Rattle.checker.proofs.listing.leads_right.Goals as goal
 
-pub returns-then-not-is_held : goal.returns-then-not-is_held
-returns-then-not-is_held c = leads_none _ _ _ (sym (rw (to_z-of_z c.ranges.a) at c.is_held.ensures) ∙ refuted _ _ (not_from_false _ c.if-not-is_held.true) refl)
+pub returns-in-None-default : goal.returns-in-None-default
+returns-in-None-default c = rw c.in-None-default.is-0 (leads_none c.args.mark c.args.b)
 
-pub returns-then-not-is_held-2 : goal.returns-then-not-is_held-2
-returns-then-not-is_held-2 c = leads_lost _ _ _ (sym (rw (to_z-of_z c.ranges.a) at c.is_held.ensures) ∙ upheld _ _ (not_from_true _ c.if-not-is_held.false) refl) (sym (rw (to_z-of_z c.ranges.b) at c.is_held-2.ensures) ∙ refuted _ _ (not_from_false _ c.if-not-is_held-2.true) refl)
+pub returns-in-Some-None : goal.returns-in-Some-None
+returns-in-Some-None c = rw (c.in-Some-None.is-0, c.in-Some-None.is-1) (leads_lost c.args.mark c.in-Some-None.field-0-0)
 
-pub overflow_add-result : goal.overflow_add-result
-overflow_add-result c = rw (to_z-of_z c.ranges.a, to_z-of_z (record { sfits = c.edge_length.type_inv }), c.edge_length.ensures) (sum_fits c.args.mark c.args.a (sym (rw (to_z-of_z c.ranges.a) at c.is_held.ensures) ∙ upheld _ _ (not_from_true _ c.if-not-is_held.false) refl))
+pub returns-then-mark-eq0 : goal.returns-then-mark-eq0
+returns-then-mark-eq0 c =
+    let a : SFits w32 c.in-Some-Some.a = search rules in
+    let b : SFits w32 c.in-Some-Some.b = search rules in
+    rw (to_z-of_z a, to_z-of_z b, c.in-Some-Some.is-0, c.in-Some-Some.is-1) (leads_level c.args.mark c.in-Some-Some.a c.in-Some-Some.b c.if-mark-eq0.true)
 
-pub returns : goal.returns
-returns c =
-    let high = sym (rw (to_z-of_z c.ranges.a) at c.is_held.ensures) ∙ upheld _ _ (not_from_true _ c.if-not-is_held.false) refl in
-    rw (to_z-of_z c.ranges.a, to_z-of_z c.ranges.b, to_z-of_z {z = c.edge_length.result} (record { sfits = c.edge_length.type_inv }), c.edge_length.ensures, to_z-of_z (sum_fits c.args.mark c.args.a high))
-    (leads_on _ _ _ high (sym (rw (to_z-of_z c.ranges.b) at c.is_held-2.ensures) ∙ upheld _ _ (not_from_true _ c.if-not-is_held-2.false) refl))
+pub returns-else-mark-eq0 : goal.returns-else-mark-eq0
+returns-else-mark-eq0 c =
+    let a : SFits w32 c.in-Some-Some.a = search rules in
+    let b : SFits w32 c.in-Some-Some.b = search rules in
+    rw (to_z-of_z a, to_z-of_z b, c.in-Some-Some.is-0, c.in-Some-Some.is-1) (leads_down c.args.mark c.in-Some-Some.a c.in-Some-Some.b c.if-mark-eq0.false)

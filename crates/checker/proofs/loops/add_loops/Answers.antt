@@ -5,24 +5,12 @@ use Rattle.checker.proofs.RestLoops.{rests, is_start, adding_start, adding_skip,
 use Rattle.checker.proofs.loops.add_loops.Goals as goal
 
 pub loop-v-init : goal.loop-v-init
-loop-v-init c = (omega arith, omega arith, refl, refl, λ es e. adding_start e)
-
-pub overflow_step-v : goal.overflow_step-v
-overflow_step-v c = omega (arith, c.loop-v-test.true)
-
-pub loop-v-smaller-then-cell-ne0 : goal.loop-v-smaller-then-cell-ne0
-loop-v-smaller-then-cell-ne0 c = omega (arith, c.loop-v-test.true)
+loop-v-init c = (omega arith, refl, refl, λ es e. adding_start e)
 
 pub loop-v-preserved-then-cell-ne0 : goal.loop-v-preserved-then-cell-ne0
 loop-v-preserved-then-cell-ne0 c =
     let i = c.loop-v.invariant in
-    let pre = c.requires in (
-      omega (arith, c.loop-v-test.true),
-      omega (arith, i.1),
-      i.2,
-      i.3,
-      λ es e. adding_skip (i.4 es e) c.loop-v-test.true (is_start e pre.1 _ (λ z. c.if-cell-ne0.true (c.cell.ensures ∙ z))),
-    )
+    (omega (arith, i.0), i.1, i.2, λ es e. adding_skip (i.3 es e) c.loop-v-test.true (is_start e c.requires.1 _ (λ z. c.if-cell-ne0.true (c.cell.ensures ∙ z))))
 
 pub overflow_cast-v : goal.overflow_cast-v
 overflow_cast-v c = omega (arith, c.loop-v-test.true, c.requires.0.few_vertices)
@@ -33,33 +21,20 @@ overflow_cast-v-in-loop-v c = omega (arith, c.loop-v-test.true, c.requires.0.few
 pub overflow_add-k : goal.overflow_add-k
 overflow_add-k c =
     let pre = c.requires in
-    omega (arith, c.loop-v-test.true, c.loop-v.invariant.1, pre.0.few_vertices, pre.0.few_edges)
-
-pub overflow_step-v-in-loop-v : goal.overflow_step-v-in-loop-v
-overflow_step-v-in-loop-v c = omega (arith, c.loop-v-test.true)
-
-pub loop-v-smaller : goal.loop-v-smaller
-loop-v-smaller c = omega (arith, c.loop-v-test.true)
+    omega (arith, c.loop-v-test.true, c.loop-v.invariant.0, pre.0.few_vertices, pre.0.few_edges)
 
 pub loop-v-preserved : goal.loop-v-preserved
 loop-v-preserved c =
     let i = c.loop-v.invariant in
     let pre = c.requires in
     let t = c.loop-v-test.true in (
-      omega arith,
-      omega (arith, i.1),
-      c.put.auto.table ∙ i.2,
-      c.put-in-loop-v.auto.table ∙ i.3,
+      omega (arith, i.0),
+      c.put.auto.table ∙ i.1,
+      c.put-in-loop-v.auto.table ∙ i.2,
       λ es e.
-          adding_loop (i.4 es e) t (rests e pre.1 _ (omega (arith, pre.2)) (sym c.cell.ensures ∙ c.if-cell-ne0.false))
-          (omega (arith, i.1, i.2, pre.0.few_vertices, pre.0.few_edges, pre.0.from_room)) (omega (arith, i.1, i.3, pre.0.few_vertices, pre.0.few_edges, pre.0.to_room)) c.put.ensures c.put-in-loop-v.ensures,
+          adding_loop (i.3 es e) t (rests e pre.1 _ (omega (arith, pre.2)) (sym c.cell.ensures ∙ c.if-cell-ne0.false))
+          (omega (arith, i.0, i.1, pre.0.few_vertices, pre.0.few_edges, pre.0.from_room)) (omega (arith, i.0, i.2, pre.0.few_vertices, pre.0.few_edges, pre.0.to_room)) c.put.ensures c.put-in-loop-v.ensures,
     )
 
-pub shape_of-froms : goal.shape_of-froms
-shape_of-froms c = c.loop-v.invariant.2
-
-pub shape_of-tos : goal.shape_of-tos
-shape_of-tos c = c.loop-v.invariant.3
-
 pub returns : goal.returns
-returns c = λ g q e. adding_done g q (c.loop-v.invariant.4 _ e) c.loop-v-test.false
+returns c = λ g q e. adding_done g q (c.loop-v.invariant.3 _ e) c.loop-v-test.false

@@ -1,7 +1,7 @@
 -- `checker::loops::add_loops`: the loops of the vertices before v stand behind the edges, and those of the others are to come.
 use mathlib.Core.Path.{◌≡◌}
 use mathlib.Core.List.{List}
-use Prim.Native.Nat.{◌+◌, ◌-◌, ◌≤◌}
+use Prim.Native.Nat.{◌+◌, ◌≤◌}
 use lib.ListN.{length}
 use Rattle.model.specs.Graph.{Edge}
 use Rattle.checker.specs.Checking.{Ends}
@@ -9,8 +9,5 @@ use Rattle.checker.proofs.RestLoops.{Adding}
 use Rattle.checker.proofs.loops.add_loops.Given as goal
 
 abbrev pub invariant-loop-v : goal.invariant-loop-v
-invariant-loop-v l = (l.v ≤ l.n) × (l.k ≤ l.m + l.v) × (length l.froms ≡ length l.initial.froms) × (length l.tos ≡ length l.initial.tos)
-    × ((es : List Edge) → Ends es l.m l.initial.froms l.initial.tos → Adding l.n es l.v l.k l.froms l.tos)
-
-abbrev pub decreases-loop-v : goal.decreases-loop-v
-decreases-loop-v l = l.n - l.v
+invariant-loop-v l = (l.k ≤ l.fn.case.edges + l.v) × (length l.froms ≡ length l.initial.froms) × (length l.tos ≡ length l.initial.tos)
+    × ((es : List Edge) → Ends es l.fn.case.edges l.initial.froms l.initial.tos → Adding l.fn.case.vertices es l.v l.k l.froms l.tos)
