@@ -1,12 +1,12 @@
 -- What the functions over a run ask and say: each asks that the cells hold some run, and speaks of every run that they
 -- hold. Assumes nothing: these are definitions.
-use Rattle.std.specs.Prelude.{◌≡◌, Bool, true, false, List, [], ◌∷◌, ℕ, ◌+◌, ◌-◌, ◌≤◌, ◌<◌, ◌^◌, eqb, length, get_or, set, replicate, ℤ, pos, neg_ℤ}
+use Rattle.std.specs.Prelude.{◌≡◌, Bool, true, false, List, [], ◌∷◌, ℕ, ◌+◌, ◌-◌, ◌≤◌, ◌<◌, ◌^◌, eqb, length, get_or, set, replicate, ℤ, pos, neg_ℤ, None}
 use Rattle.std.proofs.Math.Option.{Option, none, some}
 use Rattle.model.specs.Graph.{Graph, edge, mark, edge_depth, edge_length, accepting_count}
 use Rattle.model.specs.Case.{Case, owner, most_vertices}
 use Rattle.model.specs.Run.{no_tallies, State, has_ended, is_some, fresh, with_queues, enqueue, lower, send, relax, scan_edge, scan, no_vertex, no_message, turn, delivery, act, acted, range, round_acts, rounds, by_rounds, Moment}
 use Rattle.search.specs.declared.run.Run.{Run}
-use Rattle.search.specs.declared.edges.Range.{Range}
+use Rattle.std.specs.declared.ops.Range.{Range}
 use Rattle.search.specs.declared.rounds.Turned.{Turned}
 use Rattle.search.specs.Cells.{far, message_at}
 use Rattle.search.specs.Rep.{Firsts, Own, Laid, coded, Rep}
@@ -90,8 +90,8 @@ pub record RangeAsks (v : ℕ) (w : List ℤ) : Type 0 where
   pub laid : Laid case w
   pub below : v < case.graph.vertices
 
-unfoldable pub RangeSays : (v : ℕ) → (r : Range) → (w : List ℤ) → Type 0
-RangeSays v r w = (c : Case) → Laid c w → v < c.graph.vertices → Own c v r.first r.end
+unfoldable pub RangeSays : (v : ℕ) → (r : Range ℕ) → (w : List ℤ) → Type 0
+RangeSays v r w = (c : Case) → Laid c w → v < c.graph.vertices → Own c v r.start r.end
 
 -- A SCAN of v at the distance d
 pub record ScanAsks (v : ℕ) (d : ℤ) (k : Run) (w : List ℤ) : Type 0 where
@@ -187,7 +187,7 @@ blank c =
     }
 
 abbrev pub blank_run : (marks : ℕ) → Run
-blank_run a = record { turns = 0; sent = 0; delivered = 0; joined = 0; marks = a; broken = 0 }
+blank_run a = record { turns = 0; sent = 0; delivered = 0; joined = 0; marks = a; broken = None }
 
 unfoldable pub BlankSays : (w w' : List ℤ) → Type 0
 BlankSays w w' = (c : Case) → Laid c w → Rep c (blank c) (blank_run (accepting_count c.graph)) w'

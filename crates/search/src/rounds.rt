@@ -3,7 +3,7 @@
 ghost use Rattle.std.specs.Prelude.{◌<◌, length};
 ghost use Rattle.search.specs.Asks.{Inserted, TurnsAsk, TurnsSay, EdgesAsk, EdgesSay, SweepAsks, SweepSays, RoundSays, RoundsAsk, RoundsDone, ByRoundsAsks, ByRoundsSays};
 
-use super::cells::{Cells, NONE, QUEUE_END, QUEUED, load_below};
+use super::cells::{Cells, QUEUE_END, QUEUED, load_below};
 use super::run::{Run, act, deliver, none_full};
 use casefile::Case;
 
@@ -12,14 +12,12 @@ pub(crate) fn insert(list: &mut [usize], many: usize, h: usize)
     requires { many < length list.old }
     ensures { Inserted many h list.old list.new }
 {
-    let mut i = many;
-    while 0 < i {
-        if list[i - 1] < h {
-            list[i] = h;
+    for i in (0..many).rev() {
+        if list[i] < h {
+            list[i + 1] = h;
             return;
         }
-        list[i] = list[i - 1];
-        i -= 1;
+        list[i + 1] = list[i];
     }
     list[0] = h;
 }
@@ -60,14 +58,13 @@ pub(crate) fn deliver_edges(work: &mut [i32], run: Run, v: usize, p: usize) -> R
     ensures { EdgesSay v p run result work.old work.new }
 {
     let end = load_below(work, Cells::FIRST + (v + 1), Case::MOST_EDGES + 1);
-    let mut e = load_below(work, Cells::FIRST + v, Case::MOST_EDGES + 1);
+    let first = load_below(work, Cells::FIRST + v, Case::MOST_EDGES + 1);
     let mut r = run;
-    while e < end {
-        if r.broken != NONE {
+    for e in first..end {
+        if r.broken.is_some() {
             return r;
         }
         r = deliver(work, r, e);
-        e += 1;
     }
     r
 }
@@ -79,13 +76,11 @@ pub(crate) fn sweep(work: &mut [i32], run: Run, p: usize, heads: &[usize]) -> Ru
     ensures { SweepSays p heads.now run result work.old work.new }
 {
     let mut r = run;
-    let mut i: usize = 0;
-    while i < heads.len() {
+    for head in heads {
         if none_full(r) {
             return r;
         }
-        r = deliver_edges(work, r, heads[i] - QUEUED, p);
-        i += 1;
+        r = deliver_edges(work, r, *head - QUEUED, p);
     }
     r
 }
@@ -111,9 +106,8 @@ pub(crate) fn rounds(work: &mut [i32], run: Run, many: usize, p: usize) -> Run
 {
     let mut heads = [0usize; Case::MOST_WORKERS];
     let mut r = run;
-    let mut left = many;
-    while 0 < left {
-        if r.broken != NONE {
+    for _ in 0..many {
+        if r.broken.is_some() {
             return r;
         }
         let done = round(work, r, p, &mut heads);
@@ -121,7 +115,6 @@ pub(crate) fn rounds(work: &mut [i32], run: Run, many: usize, p: usize) -> Run
         if done.scanned == 0 {
             return r;
         }
-        left -= 1;
     }
     r
 }

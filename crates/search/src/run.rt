@@ -1,23 +1,23 @@
 // A run of the search in the lent cells: offers, scans, turns, deliveries and acts. A distance is its signed number; each
 // function keeps the cells and the counters equal to a run of the model (specs/Rep.antt).
-ghost use Rattle.std.specs.Prelude.{◌≡◌, cond, ◌+◌, ◌<◌, ◌≤◌, ◌^◌, pos, neg_ℤ, length};
+ghost use Rattle.std.specs.Prelude.{◌≡◌, ◌+◌, ◌<◌, ◌≤◌, ◌^◌, pos, neg_ℤ, length};
 ghost use Rattle.std.specs.Int.Signed.{lt_z};
 ghost use Rattle.model.specs.Case.{most_vertices, least_work};
 ghost use Rattle.search.specs.Cells.{message_at};
 ghost use Rattle.search.specs.Asks.{PutSays, OfferAsks, SendAsks, SendSays, RelaxSays, EdgeSays, ScanAsks, ScanSays, none_waits, OverAsks, OverSays, TurnAsks, TurnSays, DeliverAsks, DeliverSays, ActAsks, ActSays, LengthIs, OfferedAsks, OfferedIs, BlankSays, FreshAsks, FreshSays, ListAsks, ListDone};
 
 use super::cells::{
-    Cells, NO_DISTANCE, NONE, NOT_QUEUED, QUEUE_END, QUEUED, SOME, fill, fill_number, load,
-    load_below, store, store_number,
+    Cells, NO_DISTANCE, NONE, NOT_QUEUED, QUEUE_END, QUEUED, SOME, fill, load, load_below, store,
+    store_number,
 };
 use super::edges::edges_of;
 use super::queue::{none_queued, pop, push};
 use casefile::Case;
 
 // What a run counts: turns of a worker that had a vertex; offers put into cells, messages delivered, offers that joined a
-// waiting message; accepting vertices; and the vertex that broke the floor (NONE, or its number and SOME). Each act hands
-// it on, so what these and the cells tell has no counter: acts are turns and deliveries, the tallies tell how many cells
-// have a message (`none_full`), and a run has ended as "empty" when nothing waits (`is_over`).
+// waiting message; accepting vertices; and the vertex that broke the floor. Each act hands it on, so what these and the
+// cells tell has no counter: acts are turns and deliveries, the tallies tell how many cells have a message (`none_full`),
+// and a run has ended as "empty" when nothing waits (`is_over`).
 #[derive(Clone, Copy)]
 pub(crate) struct Run {
     pub turns: u64,
@@ -25,7 +25,7 @@ pub(crate) struct Run {
     pub delivered: u32,
     pub joined: u32,
     pub marks: u32,
-    pub broken: usize,
+    pub broken: Option<usize>,
 }
 
 impl Run {
@@ -36,7 +36,7 @@ impl Run {
         ensures { FreshSays source marks result work.old work.new }
     {
         blank(work);
-        store(work, Cells::DISTANCE + source, 0);
+        store_number(work, Cells::DISTANCE + source, 0);
         push(work, source);
         Run {
             turns: 0,
@@ -44,7 +44,7 @@ impl Run {
             delivered: 0,
             joined: 0,
             marks: marks as u32,
-            broken: NONE,
+            broken: None,
         }
     }
 }
@@ -55,11 +55,11 @@ pub(crate) fn blank(work: &mut [i32])
     ensures { BlankSays work.old work.new }
 {
     fill(work, Cells::DISTANCE, Case::MOST_VERTICES, NO_DISTANCE);
-    fill_number(work, Cells::PARENT, Case::MOST_VERTICES, NONE);
-    fill_number(work, Cells::LINK, Case::MOST_VERTICES, NOT_QUEUED);
+    fill(work, Cells::PARENT, Case::MOST_VERTICES, NONE);
+    fill(work, Cells::LINK, Case::MOST_VERTICES, NOT_QUEUED);
     fill(work, Cells::MESSAGE, Case::MOST_EDGES, NO_DISTANCE);
-    fill_number(work, Cells::HEAD, Case::MOST_WORKERS, QUEUE_END);
-    fill_number(work, Cells::TAIL, Case::MOST_WORKERS, 0);
+    fill(work, Cells::HEAD, Case::MOST_WORKERS, QUEUE_END);
+    fill(work, Cells::TAIL, Case::MOST_WORKERS, 0);
 }
 
 // Whether a distance is below another.
@@ -67,16 +67,6 @@ pub(crate) fn lower(a: i32, b: i32) -> bool
     ensures { result ≡ lt_z a b }
 {
     a < b
-}
-
-// The lower of two distances.
-pub(crate) fn least(a: i32, b: i32) -> i32
-    ensures { result ≡ cond (lt_z a b) a b }
-{
-    if lower(a, b) {
-        return a;
-    }
-    b
 }
 
 // So far below 0.
@@ -116,7 +106,7 @@ pub(crate) fn put_offer(work: &mut [i32], e: usize, d: i32) -> bool
     ensures { PutSays e d result work.old work.new }
 {
     let waiting = load(work, Cells::MESSAGE + e);
-    store(work, Cells::MESSAGE + e, least(d, waiting));
+    store(work, Cells::MESSAGE + e, waiting.min(d));
     !missing(waiting)
 }
 
@@ -148,7 +138,7 @@ pub(crate) fn relax(work: &mut [i32], run: Run, e: usize, d: i32) -> Run
         push(work, v);
         let mut r = run;
         if below_floor(d, run.marks as usize) {
-            r.broken = v + SOME;
+            r.broken = Some(v);
         }
         return r;
     }
@@ -185,15 +175,12 @@ pub(crate) fn scan(work: &mut [i32], run: Run, v: usize, d: i32) -> Run
     let own = load_below(work, Cells::OWNER + v, Case::MOST_WORKERS);
     let offer = offered(work, v, d);
     let edges = edges_of(work, v);
-    let end = edges.end;
-    let mut e = edges.first;
     let mut r = run;
-    while e < end {
-        if r.broken != NONE {
+    for e in edges.start..edges.end {
+        if r.broken.is_some() {
             return r;
         }
         r = scan_edge(work, r, e, own, offer);
-        e += 1;
     }
     r
 }
@@ -219,7 +206,7 @@ pub(crate) fn is_over(work: &[i32], run: Run, p: usize) -> bool
     requires { OverAsks p run work.now }
     ensures { OverSays p run result work.now }
 {
-    if run.broken != NONE {
+    if run.broken.is_some() {
         return true;
     }
     none_full(run) && none_queued(work, p)
@@ -252,7 +239,7 @@ pub(crate) fn deliver(work: &mut [i32], run: Run, e: usize) -> Run
     if missing(d) {
         return run;
     }
-    store(work, Cells::MESSAGE + e, NO_DISTANCE);
+    store_number(work, Cells::MESSAGE + e, NO_DISTANCE);
     let mut r = run;
     r.delivered = run.delivered + 1;
     relax(work, r, e, d)
@@ -264,7 +251,7 @@ pub(crate) fn act(work: &mut [i32], run: Run, a: usize, p: usize) -> Run
     requires { ActAsks a p run work.old }
     ensures { ActSays a p run result work.old work.new }
 {
-    if run.broken != NONE {
+    if run.broken.is_some() {
         return run;
     }
     if a < p {
@@ -279,11 +266,8 @@ pub(crate) fn act_list(work: &mut [i32], run: Run, acts: &[u32], p: usize) -> Ru
     ensures { ListDone p acts.now run result work.old work.new }
 {
     let mut r = run;
-    let mut i: usize = 0;
-    while i < acts.len() {
-        let a = acts[i] as usize;
-        r = act(work, r, a, p);
-        i += 1;
+    for a in acts {
+        r = act(work, r, *a as usize, p);
     }
     r
 }

@@ -27,8 +27,8 @@ overflow_add-from c = omega (arith, c.requires.from)
 pub overflow_sub-from : goal.overflow_sub-from
 overflow_sub-from c = omega (arith, c.if-from-next.false)
 
-pub fill_number-requires : goal.fill_number-requires
-fill_number-requires c =
+pub fill-requires : goal.fill-requires
+fill-requires c =
     let p = c.requires in
     (omega (arith, p.from, p.most, p.long, c.if-from-next.false, c.store_number-2.auto.work, c.store_number.auto.work), omega (arith, p.number))
 
@@ -36,4 +36,4 @@ pub overflow_add-result : goal.overflow_add-result
 overflow_add-result c = omega (arith, c.requires.from)
 
 pub returns : goal.returns
-returns c = pair_new _ _ _ _ _ _ (omega (arith, c.if-from-next.false)) (rw (c.store_number-2.ensures, c.store_number.ensures) at c.fill_number.ensures)
+returns c = pair_new _ _ _ _ _ _ (omega (arith, c.if-from-next.false)) (rw (c.store_number-2.ensures, c.store_number.ensures) at c.fill.ensures)

@@ -2,7 +2,7 @@
 use native.Mathlib.Omega.{arith}
 use Prim.Native.Nat.{◌<◌}
 use lib.ListN.{get_or}
-use Rattle.model.specs.Case.{most_vertices, most_edges}
+use Rattle.model.specs.Case.{most_vertices}
 use Rattle.search.proofs.Loads.{pairs_start, pairs_end, pair_asks, pairs_step}
 use Rattle.search.proofs.load.load_edges.Goals as goal
 
@@ -29,14 +29,6 @@ load_edge-next-requires c =
     let s = c.requires in
     pair_asks c.loop-e.invariant s c.loop-e-test.true
 
-pub overflow_add-e : goal.overflow_add-e
-overflow_add-e c =
-    let few : c.loop-e.e < most_edges = omega (arith, c.loop-e-test.true, c.requires.many) in
-    omega (arith, few)
-
-pub loop-e-smaller : goal.loop-e-smaller
-loop-e-smaller c = omega (arith, c.loop-e-test.true)
-
 pub loop-e-preserved : goal.loop-e-preserved
 loop-e-preserved c =
     let s = c.requires in
@@ -51,16 +43,16 @@ overflow_add-n c = omega (arith, c.requires.vertices)
 pub overflow_sub-n : goal.overflow_sub-n
 overflow_sub-n c = omega (arith, c.loop-e.invariant.within)
 
-pub fill_number-requires : goal.fill_number-requires
-fill_number-requires c =
+pub fill-requires : goal.fill-requires
+fill-requires c =
     let p = c.requires in
     let l = c.loop-e.invariant in
     (omega (arith, l.within, l.long, p.vertices, p.long), omega (arith, p.many))
 
 pub shape_of-work : goal.shape_of-work
-shape_of-work c = omega (arith, c.fill_number.auto.work, c.loop-e.invariant.long)
+shape_of-work c = omega (arith, c.fill.auto.work, c.loop-e.invariant.long)
 
 pub returns : goal.returns
 returns c =
     let s = c.requires in
-    pairs_end c.loop-e.invariant s c.loop-e-test.false c.fill_number.ensures
+    pairs_end c.loop-e.invariant s c.loop-e-test.false c.fill.ensures

@@ -15,12 +15,6 @@ load_loop-k-requires c =
     let s = c.requires in
     record { case = s.case; looping = c.loop-v.invariant.2 s.case s.filed s.vertices s.edges; below = omega (arith, c.loop-v-test.true, s.vertices) }
 
-pub overflow_add-v : goal.overflow_add-v
-overflow_add-v c = omega (arith, c.loop-v-test.true)
-
-pub loop-v-smaller : goal.loop-v-smaller
-loop-v-smaller c = omega (arith, c.loop-v-test.true)
-
 pub loop-v-preserved : goal.loop-v-preserved
 unfolding LoopSays
 loop-v-preserved c =

@@ -14,22 +14,12 @@ overflow_cast-mark c =
     let marked : get_or c.args.marks.now c.loop-v.v 0 < 2 = c.requires.mark _ c.loop-v-test.true in
     omega (arith, marked)
 
-pub overflow_add-v : goal.overflow_add-v
-overflow_add-v c =
-    let few : c.loop-v.v < most_vertices = omega (arith, c.loop-v-test.true, c.requires.many) in
-    omega (arith, few)
-
 pub store_number-requires : goal.store_number-requires
 store_number-requires c =
     let few : c.loop-v.v < most_vertices = omega (arith, c.loop-v-test.true, c.requires.many) in
     let marked : get_or c.args.marks.now c.loop-v.v 0 < 2 = c.requires.mark _ c.loop-v-test.true in
     let s = c.requires in
     (omega (arith, few, s.long, c.loop-v.invariant.long), omega (arith, marked))
-
-pub overflow_add-v-in-loop-v : goal.overflow_add-v-in-loop-v
-overflow_add-v-in-loop-v c =
-    let few : c.loop-v.v < most_vertices = omega (arith, c.loop-v-test.true, c.requires.many) in
-    omega (arith, few)
 
 pub bounds-owners-v : goal.bounds-owners-v
 bounds-owners-v c =
@@ -53,14 +43,6 @@ overflow_add-count c =
     let few : c.loop-v.v < most_vertices = omega (arith, c.loop-v-test.true, c.requires.many) in
     let marked : get_or c.args.marks.now c.loop-v.v 0 < 2 = c.requires.mark _ c.loop-v-test.true in
     omega (arith, few, marked, c.loop-v.invariant.few)
-
-pub overflow_add-v-in-loop-v-2 : goal.overflow_add-v-in-loop-v-2
-overflow_add-v-in-loop-v-2 c =
-    let few : c.loop-v.v < most_vertices = omega (arith, c.loop-v-test.true, c.requires.many) in
-    omega (arith, few)
-
-pub loop-v-smaller : goal.loop-v-smaller
-loop-v-smaller c = omega (arith, c.loop-v-test.true)
 
 pub loop-v-preserved : goal.loop-v-preserved
 loop-v-preserved c =

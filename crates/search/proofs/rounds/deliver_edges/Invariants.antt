@@ -1,5 +1,5 @@
 use mathlib.Core.Path.{◌≡◌}
-use Prim.Native.Nat.{◌+◌, ◌-◌, ◌≤◌}
+use Prim.Native.Nat.{◌+◌, ◌≤◌}
 use lib.ListN.{length}
 use Rattle.model.specs.Case.{Case}
 use Rattle.model.specs.Run.{State, Moment}
@@ -10,6 +10,3 @@ use Rattle.search.proofs.rounds.deliver_edges.Given as goal
 abbrev pub invariant-loop-e : goal.invariant-loop-e
 invariant-loop-e l = (length l.work ≡ length l.initial.work)
     × ((c : Case) (x : State) → Rep c x l.initial.r l.initial.work → Moment c x → l.p ≡ c.workers → l.end ≤ c.file_edges → Along c x (l.p + l.initial.e) (l.p + l.end) (l.p + l.e) l.r l.work)
-
-abbrev pub decreases-loop-e : goal.decreases-loop-e
-decreases-loop-e l = l.end - l.e

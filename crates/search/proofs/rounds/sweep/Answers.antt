@@ -6,50 +6,41 @@ use Rattle.search.proofs.Acts.{sent_most}
 use Rattle.search.proofs.Sweeps.{sweep_start, sweep_step, sweep_empty, sweep_done}
 use Rattle.search.proofs.rounds.sweep.Goals as goal
 
-pub loop-i-init : goal.loop-i-init
-loop-i-init c = (omega arith, refl, λ q x F rep m e l only f. sweep_start q rep.held.laid.sound F _ f l x _ _ rep m only)
+pub loop-head-init : goal.loop-head-init
+loop-head-init c = (omega arith, refl, λ q x F rep m e l only f. sweep_start q rep.held.laid.sound F _ f l x _ _ rep m only)
 
 pub none_full-requires : goal.none_full-requires
 none_full-requires c =
     let s = c.requires in
-    sent_most (c.loop-i.invariant.2 s.case s.state s.rep.held.laid.first s.rep s.moment s.workers s.listed s.only s.rep.held.laid.firsts).rep
+    sent_most (c.loop-head.invariant.2 s.case s.state s.rep.held.laid.first s.rep s.moment s.workers s.listed s.only s.rep.held.laid.firsts).rep
 
 pub shape_of-work-then-none_full : goal.shape_of-work-then-none_full
-shape_of-work-then-none_full c = c.loop-i.invariant.1
+shape_of-work-then-none_full c = c.loop-head.invariant.1
 
 pub returns-then-none_full : goal.returns-then-none_full
 unfolding SweepSays
 returns-then-none_full c =
     λ q x rep m e l only.
     let f = rep.held.laid.firsts in
-    sweep_empty q rep.held.laid.sound rep.held.laid.first _ f l (c.loop-i.invariant.2 q x _ rep m e l only f) (sym c.none_full.ensures ∙ c.if-none_full.true)
+    sweep_empty q rep.held.laid.sound rep.held.laid.first _ f l (c.loop-head.invariant.2 q x _ rep m e l only f) (sym c.none_full.ensures ∙ c.if-none_full.true)
 
-pub bounds-heads-i : goal.bounds-heads-i
-bounds-heads-i c = c.loop-i-test.true
-
-pub overflow_sub-heads : goal.overflow_sub-heads
-overflow_sub-heads c =
+pub overflow_sub-head : goal.overflow_sub-head
+overflow_sub-head c =
     let s = c.requires in
-    s.listed.low _ c.loop-i-test.true
+    s.listed.low _ c.loop-head-test.true
 
 pub deliver_edges-r-requires : goal.deliver_edges-r-requires
 deliver_edges-r-requires c =
     let s = c.requires in
-    let u = c.loop-i.invariant.2 s.case s.state s.rep.held.laid.first s.rep s.moment s.workers s.listed s.only s.rep.held.laid.firsts in
-    let t = c.loop-i-test.true in
+    let u = c.loop-head.invariant.2 s.case s.state s.rep.held.laid.first s.rep s.moment s.workers s.listed s.only s.rep.held.laid.firsts in
+    let t = c.loop-head-test.true in
     record { case = s.case; state = u.state; rep = u.rep; moment = u.moment; workers = s.workers; below = omega (arith, s.listed.low _ t, s.listed.high _ t) }
 
-pub overflow_add-i : goal.overflow_add-i
-overflow_add-i c = omega (arith, c.loop-i-test.true)
-
-pub loop-i-smaller : goal.loop-i-smaller
-loop-i-smaller c = omega (arith, c.loop-i-test.true)
-
-pub loop-i-preserved : goal.loop-i-preserved
+pub loop-head-preserved : goal.loop-head-preserved
 unfolding EdgesSay
-loop-i-preserved c =
-    let v = c.loop-i.invariant in
-    let t = c.loop-i-test.true in (
+loop-head-preserved c =
+    let v = c.loop-head.invariant in
+    let t = c.loop-head-test.true in (
       omega arith,
       omega (arith, c.deliver_edges-r.auto.work, v.1),
       λ q x F rep m e l only f.
@@ -58,11 +49,11 @@ loop-i-preserved c =
     )
 
 pub shape_of-work : goal.shape_of-work
-shape_of-work c = c.loop-i.invariant.1
+shape_of-work c = c.loop-head.invariant.1
 
 pub returns : goal.returns
 unfolding SweepSays
 returns c =
     λ q x rep m e l only.
     let f = rep.held.laid.firsts in
-    sweep_done q rep.held.laid.sound rep.held.laid.first _ f l (c.loop-i.invariant.2 q x _ rep m e l only f) c.loop-i-test.false
+    sweep_done q rep.held.laid.sound rep.held.laid.first _ f l (c.loop-head.invariant.2 q x _ rep m e l only f) c.loop-head-test.false

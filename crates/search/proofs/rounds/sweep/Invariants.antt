@@ -1,7 +1,7 @@
 -- `rounds::sweep` meets its contract: the deliveries on edges of the first i vertices of the list are done, and all before these. Assumes nothing.
 use mathlib.Core.Path.{◌≡◌}
 use mathlib.Core.List.{List}
-use Prim.Native.Nat.{ℕ, ◌-◌, ◌≤◌}
+use Prim.Native.Nat.{ℕ, ◌≤◌}
 use lib.ListN.{length}
 use Rattle.model.specs.Case.{Case}
 use Rattle.model.specs.Run.{State, Moment}
@@ -10,9 +10,6 @@ use Rattle.search.specs.Rep.{Firsts, Rep}
 use Rattle.search.proofs.Sweeps.{Swept}
 use Rattle.search.proofs.rounds.sweep.Given as goal
 
-abbrev pub invariant-loop-i : goal.invariant-loop-i
-invariant-loop-i l = (l.i ≤ length l.heads) × (length l.work ≡ length l.initial.work)
-    × ((c : Case) (x : State) (F : List ℕ) → Rep c x l.initial.r l.initial.work → Moment c x → l.p ≡ c.workers → Listed c.graph.vertices l.heads (length l.heads) → Only c l.heads (length l.heads) x → Firsts c F → Swept c x F l.heads l.i l.r l.work)
-
-abbrev pub decreases-loop-i : goal.decreases-loop-i
-decreases-loop-i l = length l.heads - l.i
+abbrev pub invariant-loop-head : goal.invariant-loop-head
+invariant-loop-head l = (l.head-index ≤ length l.heads) × (length l.work ≡ length l.initial.work)
+    × ((c : Case) (x : State) (F : List ℕ) → Rep c x l.initial.r l.initial.work → Moment c x → l.p ≡ c.workers → Listed c.graph.vertices l.heads (length l.heads) → Only c l.heads (length l.heads) x → Firsts c F → Swept c x F l.heads l.head-index l.r l.work)

@@ -23,12 +23,6 @@ load_below-head-requires c =
       head_there s.case u.along.at _ _ _ u.along.rep (omega (arith, s.workers, c.loop-w-test.true)),
     )
 
-pub overflow_step-w : goal.overflow_step-w
-overflow_step-w c = omega (arith, c.loop-w-test.true)
-
-pub loop-w-smaller-then-head-eq-QUEUE_END : goal.loop-w-smaller-then-head-eq-QUEUE_END
-loop-w-smaller-then-head-eq-QUEUE_END c = omega (arith, c.loop-w-test.true)
-
 pub loop-w-preserved-then-head-eq-QUEUE_END : goal.loop-w-preserved-then-head-eq-QUEUE_END
 loop-w-preserved-then-head-eq-QUEUE_END c =
     let i = c.loop-w.invariant in
@@ -56,12 +50,6 @@ insert-requires c =
 
 pub overflow_add-scanned : goal.overflow_add-scanned
 overflow_add-scanned c = omega (arith, c.loop-w.invariant.1, c.loop-w-test.true)
-
-pub overflow_step-w-in-loop-w : goal.overflow_step-w-in-loop-w
-overflow_step-w-in-loop-w c = omega (arith, c.loop-w-test.true)
-
-pub loop-w-smaller : goal.loop-w-smaller
-loop-w-smaller c = omega (arith, c.loop-w-test.true)
 
 pub loop-w-preserved : goal.loop-w-preserved
 unfolding ActSays

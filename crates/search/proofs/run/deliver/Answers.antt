@@ -53,9 +53,9 @@ relax-requires c =
     to_z-of_z f ∙ loaded q x rep h ∙ ap far (waits q x rep h).1 in
     let left : (q : Case) (x : State) → let a = c.args in
     (rep : Rep q x a.run a.work.now) → (h : a.e < q.file_edges)
-    → Rep q (emptied_counted a.e x) (emptied_run a.run) c.store.new.work = λ q x rep h. let m = waits q x rep h in
+    → Rep q (emptied_counted a.e x) (emptied_run a.run) c.store_number.new.work = λ q x rep h. let m = waits q x rep h in
     let e = c.args.e in
-    rw c.store.ensures (cell_emptied q x _ _ e m.0 rep h m.1) in
+    rw c.store_number.ensures (cell_emptied q x _ _ e m.0 rep h m.1) in
     let s = c.requires in
     record {
       case = s.case;
@@ -83,9 +83,9 @@ returns c =
     to_z-of_z f ∙ loaded q x rep h ∙ ap far (waits q x rep h).1 in
     let left : (q : Case) (x : State) → let a = c.args in
     (rep : Rep q x a.run a.work.now) → (h : a.e < q.file_edges)
-    → Rep q (emptied_counted a.e x) (emptied_run a.run) c.store.new.work = λ q x rep h. let m = waits q x rep h in
+    → Rep q (emptied_counted a.e x) (emptied_run a.run) c.store_number.new.work = λ q x rep h. let m = waits q x rep h in
     let e = c.args.e in
-    rw c.store.ensures (cell_emptied q x _ _ e m.0 rep h m.1) in
+    rw c.store_number.ensures (cell_emptied q x _ _ e m.0 rep h m.1) in
     let relaxed : (q : Case) (x : State) → let a = c.args in
     (rep : Rep q x a.run a.work.now) → x.broken ≡ none → (h : a.e < q.file_edges)
     → let e = a.e in Rep q (relax q e (waits q x rep h).0 (emptied_counted e x)) c.relax.result c.relax.new.work = λ q x rep whole h. let a = c.args in

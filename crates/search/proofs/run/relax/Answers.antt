@@ -1,10 +1,9 @@
 use Rattle.model.proofs.Fits.{accepting_few}
-use mathlib.Core.Path.{◌≡◌, sym, ◌∙◌}
+use mathlib.Core.Path.{◌≡◌, refl, sym, ap, ◌∙◌}
 use mathlib.Core.Bool.{true, false}
 use mathlib.Core.Option.{none}
 use Prim.Native.Nat.{ℕ, ◌+◌, ◌<◌}
 use native.Mathlib.Omega.{arith}
-use native.Mathlib.Numerals.{add-one}
 use lib.ListN.{length, get_or}
 use lib.IntN.{pos, neg_ℤ}
 use lib.Dec.{ltb}
@@ -13,7 +12,7 @@ use Rattle.model.specs.Case.{Case, owner}
 use Rattle.model.specs.Run.{State, with_queues, takes, enqueue}
 use Rattle.search.specs.Asks.{PushSays, RelaxSays}
 use Rattle.search.specs.Cells.{distance_at}
-use Rattle.search.specs.Rep.{Rep}
+use Rattle.search.specs.Rep.{Rep, held_as}
 use Rattle.search.proofs.Numbers.{taken_test, stored, floor_test}
 use Rattle.search.proofs.Stores.{there}
 use Rattle.search.proofs.Steps.{offered, target_there, target_is, target_below, relax_offered, relax_kept, relax_taken}
@@ -64,7 +63,7 @@ returns-then-below_floor c =
     λ q x o rep whole h d.
     let v = c.load_below-v.result in
     relax_taken q x _ _ c.args.e v o true (target_is q _ _ rep.held.laid h v c.load_below-v.ensures.0) (sym (tested q x o rep h d) ∙ c.if-lower.true)
-    (joined q x o rep h d) (floored q x o rep d ∙ c.if-below_floor.true) _ (add-one v)
+    (joined q x o rep h d) (floored q x o rep d ∙ c.if-below_floor.true) _ refl
 
 pub returns-else-below_floor : goal.returns-else-below_floor
 unfolding RelaxSays PushSays
@@ -86,7 +85,7 @@ returns-else-below_floor c =
     let v = c.load_below-v.result in
     let r = joined q x o rep h d in
     relax_taken q x _ _ c.args.e v o false (target_is q _ _ rep.held.laid h v c.load_below-v.ensures.0) (sym (tested q x o rep h d) ∙ c.if-lower.true)
-    r (floored q x o rep d ∙ c.if-below_floor.false) _ (r.counted.broke ∙ rw whole)
+    r (floored q x o rep d ∙ c.if-below_floor.false) _ (r.counted.broke ∙ ap held_as whole)
 
 pub returns : goal.returns
 unfolding RelaxSays

@@ -11,7 +11,8 @@ use Rattle.model.specs.Run.{State, scan_edge}
 use Rattle.search.specs.Asks.{Room, RangeSays, OfferedIs, EdgeSays, ScanSays}
 use Rattle.search.specs.Rep.{Own, Laid, Rep}
 use Rattle.search.proofs.Ranges.{Halfway, half_start, half_step, half_broken, half_done, depth_is, room_step}
-use Rattle.search.proofs.Steps.{owner_there, owner_is, is_broken, not_broken}
+use Rattle.search.proofs.Steps.{owner_there, owner_is}
+use Rattle.search.proofs.Acts.{broken_some, broken_none}
 use Rattle.search.proofs.run.scan.Goals as goal
 
 pub load_below-own-requires : goal.load_below-own-requires
@@ -29,19 +30,19 @@ pub loop-e-init : goal.loop-e-init
 unfolding RangeSays
 loop-e-init c =
     let ranged : (q : Case) → let a = c.args in
-    Laid q a.work.now → a.v < q.graph.vertices → Own q a.v c.edges_of-edges.result.first c.edges_of-edges.result.end = λ q laid h. c.edges_of-edges.ensures q laid h in
+    Laid q a.work.now → a.v < q.graph.vertices → Own q a.v c.edges_of-edges.result.start c.edges_of-edges.result.end = λ q laid h. c.edges_of-edges.ensures q laid h in
     let s = c.requires in
     let own = ranged s.case s.rep.held.laid s.below in
     (own.order, refl, λ q x o rep own p i. half_start q x _ o _ _ own _ _ rep, omega arith, record { sent = omega (arith, own.below, s.room.sent); joined = omega (arith, own.below, s.room.joined) })
 
-pub shape_of-work-then-r-ne-NONE : goal.shape_of-work-then-r-ne-NONE
-shape_of-work-then-r-ne-NONE c = c.loop-e.invariant.1
+pub shape_of-work-then-is_some : goal.shape_of-work-then-is_some
+shape_of-work-then-is_some c = c.loop-e.invariant.1
 
-pub returns-then-r-ne-NONE : goal.returns-then-r-ne-NONE
+pub returns-then-is_some : goal.returns-then-is_some
 unfolding ScanSays RangeSays OfferedIs
-returns-then-r-ne-NONE c =
+returns-then-is_some c =
     let ranged : (q : Case) → let a = c.args in
-    Laid q a.work.now → a.v < q.graph.vertices → Own q a.v c.edges_of-edges.result.first c.edges_of-edges.result.end = λ q laid h. c.edges_of-edges.ensures q laid h in
+    Laid q a.work.now → a.v < q.graph.vertices → Own q a.v c.edges_of-edges.result.start c.edges_of-edges.result.end = λ q laid h. c.edges_of-edges.ensures q laid h in
     let offer-is : (q : Case) (o : ℕ) → let a = c.args in
     Laid q a.work.now → a.v < q.graph.vertices → a.d ≡ neg_ℤ (pos o) → c.offered-offer.result ≡ neg_ℤ (pos (o + mark q.graph a.v)) = λ q o laid h d. c.offered-offer.ensures q o laid h (to_z-of_z c.ranges.d ∙ d) in
     let fits : SFits w32 c.offered-offer.result = record { sfits = c.offered-offer.type_inv } in
@@ -49,13 +50,13 @@ returns-then-r-ne-NONE c =
     Rep q x a.run a.work.now → a.v < q.graph.vertices → a.d ≡ neg_ℤ (pos o) → Halfway q x a.v o c.loop-e.e c.loop-e.r c.loop-e.work = λ q x o rep h d. c.loop-e.invariant.2 q x o rep (ranged q rep.held.laid h) (owner_is q _ _ rep.held.laid h _ c.load_below-own.ensures.0) (to_z-of_z fits ∙ offer-is q o rep.held.laid h d) in
     λ q x o rep h d.
     let u = so_far q x o rep h d in
-    half_broken q x _ o _ _ (ranged q rep.held.laid h) _ _ _ u (is_broken u.at.broken (λ z. c.if-r-ne-NONE.true (u.rep.counted.broke ∙ z)))
+    half_broken q x _ o _ _ (ranged q rep.held.laid h) _ _ _ u (broken_some u.rep c.is_some.ensures c.if-is_some.true)
 
 pub scan_edge-r-requires : goal.scan_edge-r-requires
 unfolding RangeSays OfferedIs
 scan_edge-r-requires c =
     let ranged : (q : Case) → let a = c.args in
-    Laid q a.work.now → a.v < q.graph.vertices → Own q a.v c.edges_of-edges.result.first c.edges_of-edges.result.end = λ q laid h. c.edges_of-edges.ensures q laid h in
+    Laid q a.work.now → a.v < q.graph.vertices → Own q a.v c.edges_of-edges.result.start c.edges_of-edges.result.end = λ q laid h. c.edges_of-edges.ensures q laid h in
     let offer-is : (q : Case) (o : ℕ) → let a = c.args in
     Laid q a.work.now → a.v < q.graph.vertices → a.d ≡ neg_ℤ (pos o) → c.offered-offer.result ≡ neg_ℤ (pos (o + mark q.graph a.v)) = λ q o laid h d. c.offered-offer.ensures q o laid h (to_z-of_z c.ranges.d ∙ d) in
     let fits : SFits w32 c.offered-offer.result = record { sfits = c.offered-offer.type_inv } in
@@ -76,23 +77,17 @@ scan_edge-r-requires c =
       room = record { sent = omega (arith, c.loop-e.invariant.4.sent, test); joined = omega (arith, c.loop-e.invariant.4.joined, test) };
     }
 
-pub overflow_add-e : goal.overflow_add-e
-overflow_add-e c = omega (arith, c.loop-e-test.true)
-
-pub loop-e-smaller : goal.loop-e-smaller
-loop-e-smaller c = omega (arith, c.loop-e-test.true)
-
 pub loop-e-preserved : goal.loop-e-preserved
 unfolding EdgeSays RangeSays OfferedIs
 loop-e-preserved c =
-    let stepped : let v = c.args.v in (q : Case) (x : State) (o : ℕ) → (u : Halfway q x v o c.loop-e.e c.loop-e.r c.loop-e.work) → Own q v c.edges_of-edges.result.first c.edges_of-edges.result.end
+    let stepped : let v = c.args.v in (q : Case) (x : State) (o : ℕ) → (u : Halfway q x v o c.loop-e.e c.loop-e.r c.loop-e.work) → Own q v c.edges_of-edges.result.start c.edges_of-edges.result.end
     → owner q v ≡ c.load_below-own.result → to_z w32 (of_z w32 c.offered-offer.result) ≡ neg_ℤ (pos (o + mark q.graph v)) → Rep q (scan_edge q v o c.loop-e.e u.at) c.scan_edge-r.result c.scan_edge-r.new.work = λ q x o u own p i. let e = c.loop-e.e in
     let test = c.loop-e-test.true in
     let from = own.inside e c.loop-e.invariant.3 test in
-    c.scan_edge-r.ensures q u.at _ o u.rep (not_broken u.at.broken (sym u.rep.counted.broke ∙ c.if-r-ne-NONE.false)) (omega (arith, own.below, test)) from p
+    c.scan_edge-r.ensures q u.at _ o u.rep (broken_none u.rep c.is_some.ensures c.if-is_some.false) (omega (arith, own.below, test)) from p
     (i ∙ ap (λ (n : ℕ). neg_ℤ (pos (o + n))) (sym (depth_is q _ e from))) in
     let ranged : (q : Case) → let a = c.args in
-    Laid q a.work.now → a.v < q.graph.vertices → Own q a.v c.edges_of-edges.result.first c.edges_of-edges.result.end = λ q laid h. c.edges_of-edges.ensures q laid h in
+    Laid q a.work.now → a.v < q.graph.vertices → Own q a.v c.edges_of-edges.result.start c.edges_of-edges.result.end = λ q laid h. c.edges_of-edges.ensures q laid h in
     let offer-is : (q : Case) (o : ℕ) → let a = c.args in
     Laid q a.work.now → a.v < q.graph.vertices → a.d ≡ neg_ℤ (pos o) → c.offered-offer.result ≡ neg_ℤ (pos (o + mark q.graph a.v)) = λ q o laid h d. c.offered-offer.ensures q o laid h (to_z-of_z c.ranges.d ∙ d) in
     let fits : SFits w32 c.offered-offer.result = record { sfits = c.offered-offer.type_inv } in
@@ -124,7 +119,7 @@ pub returns : goal.returns
 unfolding ScanSays RangeSays OfferedIs
 returns c =
     let ranged : (q : Case) → let a = c.args in
-    Laid q a.work.now → a.v < q.graph.vertices → Own q a.v c.edges_of-edges.result.first c.edges_of-edges.result.end = λ q laid h. c.edges_of-edges.ensures q laid h in
+    Laid q a.work.now → a.v < q.graph.vertices → Own q a.v c.edges_of-edges.result.start c.edges_of-edges.result.end = λ q laid h. c.edges_of-edges.ensures q laid h in
     let offer-is : (q : Case) (o : ℕ) → let a = c.args in
     Laid q a.work.now → a.v < q.graph.vertices → a.d ≡ neg_ℤ (pos o) → c.offered-offer.result ≡ neg_ℤ (pos (o + mark q.graph a.v)) = λ q o laid h d. c.offered-offer.ensures q o laid h (to_z-of_z c.ranges.d ∙ d) in
     let fits : SFits w32 c.offered-offer.result = record { sfits = c.offered-offer.type_inv } in

@@ -11,9 +11,6 @@ use Rattle.search.proofs.Ranges.{Halfway}
 use Rattle.search.proofs.run.scan.Given as goal
 
 abbrev pub invariant-loop-e : goal.invariant-loop-e
-invariant-loop-e l = (l.e ≤ l.end) × (length l.work ≡ length l.initial.work)
-    × ((c : Case) (x : State) (o : ℕ) → Rep c x l.initial.r l.initial.work → Own c l.v l.initial.e l.end → owner c l.v ≡ l.own → l.offer ≡ neg_ℤ (pos (o + mark c.graph l.v)) → Halfway c x l.v o l.e l.r l.work)
-    × (l.initial.e ≤ l.e) × Room (l.end - l.e) l.r
-
-abbrev pub decreases-loop-e : goal.decreases-loop-e
-decreases-loop-e l = l.end - l.e
+invariant-loop-e l = (l.e ≤ l.e-end) × (length l.work ≡ length l.initial.work)
+    × ((c : Case) (x : State) (o : ℕ) → Rep c x l.initial.r l.initial.work → Own c l.v l.initial.e l.e-end → owner c l.v ≡ l.own → l.offer ≡ neg_ℤ (pos (o + mark c.graph l.v)) → Halfway c x l.v o l.e l.r l.work)
+    × (l.initial.e ≤ l.e) × Room (l.e-end - l.e) l.r
