@@ -1,58 +1,32 @@
 // Buffers that are lent to a run: what they hold before it, and looking at what it left in them.
-ghost use Rattle.std.specs.Prelude.{drop};
-ghost use Rattle.bench_kit.specs.Buffers.{mark, Front, AllAre};
+ghost use Rattle.std.specs.Prelude.{◌≡◌, ◌↔◌, drop, IsTrue};
+ghost use Rattle.std.specs.List.{All};
+ghost use Rattle.bench_kit.specs.Buffers.{mark, Front};
 
 // What the buffers hold before a run.
 pub const MARK: u8 = b'#';
 
 pub const CELL: i32 = 7;
 
-// The first bytes of a text, all of them where it has fewer.
-pub fn front(bytes: &[u8], size: usize) -> &[u8]
-    ensures { Front bytes.entry size result }
+// The first so many elements, all of them where there are fewer.
+pub fn front<T>(whole: &[T], size: usize) -> &[T]
+    ensures { Front whole.entry size result }
 {
-    if size <= bytes.len() {
-        &bytes[..size]
-    } else {
-        bytes
-    }
-}
-
-// The same of a list of acts.
-pub fn front_acts(acts: &[u32], size: usize) -> &[u32]
-    ensures { Front acts.entry size result }
-{
-    if size <= acts.len() {
-        &acts[..size]
-    } else {
-        acts
-    }
+    &whole[..size.min(whole.len())]
 }
 
 // Whether the bytes from a place on are as they were lent.
 pub fn untouched(output: &[u8], from: usize) -> bool
-    ensures { AllAre mark (drop from output.now) result }
+    ensures { IsTrue result ↔ All (λ b. b ≡ mark) (drop from output.now) }
 {
-    let mut i = from;
-    while i < output.len() {
-        if output[i] != MARK {
-            return false;
-        }
-        i += 1;
-    }
-    true
+    output[from.min(output.len())..]
+        .iter()
+        .all(|byte| *byte == MARK)
 }
 
 // Whether every cell has this value.
 pub fn all_are(work: &[i32], value: i32) -> bool
-    ensures { AllAre value work.now result }
+    ensures { IsTrue result ↔ All (λ c. c ≡ value) work.now }
 {
-    let mut i: usize = 0;
-    while i < work.len() {
-        if work[i] != value {
-            return false;
-        }
-        i += 1;
-    }
-    true
+    work.iter().all(|cell| *cell == value)
 }

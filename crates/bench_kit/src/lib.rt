@@ -1,5 +1,20 @@
-// What the programs that run the search share.
+// What the test programs share.
 #![tactic(auto)]
 
 pub mod buffers;
-pub mod rows;
+pub mod graph;
+
+// A case file, and an answer file, by their lines from line 2 on.
+#[macro_export]
+macro_rules! case {
+    ($lines:literal) => {
+        concat!("version vertices edges source workers\n", $lines)
+    };
+}
+
+#[macro_export]
+macro_rules! answer {
+    ($lines:literal) => {
+        concat!("version verdict stem cycle reached\n", $lines)
+    };
+}

@@ -28,15 +28,22 @@ mod rules;
 mod sizes;
 mod versions;
 
-use line::{print, print_number};
+use line::Lines;
+use std::io;
 
-fn main() {
-    let a = rules::shortcuts(rules::refusals_and_lists(kept::table(0)));
-    let b = limits::counts(limits::buffers(rests::dead_ends(a)));
-    let c = limits::lengths(limits::past_counts(b));
-    let d = answers::checker_lengths(answers::checker_cases(c));
-    let wrong = versions::by_version(answers::checker_edges(d));
-    print(b"wrong runs: ");
-    print_number(wrong);
-    print(b"\n");
+fn main(rt: HostRuntime) -> io::Result<()> {
+    let mut lines = Lines::new(&rt);
+    kept::table(&mut lines)?;
+    rules::refusals_and_lists(&mut lines)?;
+    rules::shortcuts(&mut lines)?;
+    rests::dead_ends(&mut lines)?;
+    limits::buffers(&mut lines)?;
+    limits::counts(&mut lines)?;
+    limits::past_counts(&mut lines)?;
+    limits::lengths(&mut lines)?;
+    answers::checker_cases(&mut lines)?;
+    answers::checker_lengths(&mut lines)?;
+    answers::checker_edges(&mut lines)?;
+    versions::by_version(&mut lines)?;
+    println!(rt; "wrong runs: {}", lines.wrong)
 }

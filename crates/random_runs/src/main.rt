@@ -3,276 +3,134 @@
 // has what must come.
 #![tactic(auto)]
 
-mod graph;
+mod draw;
 mod nested;
 mod runs;
+mod totals;
 
-use bench_kit::buffers::{MARK, front, front_acts};
-use graph::{below, next};
-use model::Outcome;
-use runs::count;
-
-const STDOUT: i32 = 1;
+use bench_kit::buffers::front;
+use bench_kit::graph::Graph;
+use draw::{Random, below};
+use model::Verdict;
+use runs::{Came, Trial};
+use std::alloc::{AllocError, Global};
+use std::io;
+use totals::Totals;
 
 // The first number of the sequence.
 const SEED: u32 = 2463534242;
 
 const GRAPHS: usize = 4000;
 
-// Where the totals of each kind start.
-const BY_ROUNDS: usize = 0;
+// How often each graph is given to workers.
+const OWNERS: usize = 3;
 
-const BY_LISTS: usize = 4;
+// The longest list of acts; where it is tried, a shorter front of it ran out.
+const ACTS: usize = 20000;
 
-const DAMAGED: usize = 8;
+// What goes through all trials.
+#[derive(Drop)]
+struct Trials {
+    alloc: Global,
+    random: Random,
+    totals: Totals,
+}
 
-const FOUND: usize = 11;
-
-const JOINED: usize = 14;
-
-const AT_REST: usize = 15;
-
-const VERSION_1: usize = 16;
-
-const TOTALS: usize = 19;
-
-fn verdict(lasso: bool) -> u32 {
-    if lasso {
-        Outcome::LASSO
+// A digit, or any byte.
+fn other_byte(x: u32) -> u8 {
+    let rest = x / 2;
+    if x % 2 == 0 {
+        b'0' + (rest % 10) as u8
     } else {
-        Outcome::EMPTY
+        (rest % 256) as u8
     }
 }
 
-// How many vertices: few, or one time in sixteen many.
-fn vertices(x: u32) -> usize {
-    if x % 16 == 0 {
-        80 + below(x / 16, 48)
-    } else {
-        1 + below(x / 16, 32)
+impl Trials {
+    fn try_list(&mut self, trial: Trial, acts: &[u32]) -> Came {
+        let (came, joined) = trial.by_list(acts);
+        self.totals.count_list(came, joined);
+        came
+    }
+
+    // A short list of acts below the limit and, where it runs out, a long one that begins with it. One number is passed over.
+    fn try_lists(&mut self, trial: Trial, limit: usize) -> Result<(), AllocError> {
+        let acts = draw::acts(self.alloc, &mut self.random, ACTS, limit)?;
+        let short = front(&acts, below(self.random.last, 2000));
+        if self.try_list(trial, short) == Came::CutShort {
+            self.try_list(trial, &acts);
+        }
+        self.random.next();
+        Ok(())
+    }
+
+    // The graph with its owners: by rounds, with a damaged answer, and by lists of acts.
+    fn try_owned(&mut self, graph: &Graph, want: Verdict, one: &[u8]) -> Result<(), AllocError> {
+        let text = graph.text(self.alloc)?;
+        let trial = Trial {
+            case: text.as_bytes(),
+            want,
+            one,
+        };
+        self.totals.by_rounds.count(trial.by_rounds());
+        let at = below(self.random.last, one.len());
+        let byte = other_byte(self.random.next());
+        self.totals
+            .damaged
+            .count(trial.damaged(self.alloc, at, byte)?);
+        self.try_lists(trial, graph.workers.saturating_add(graph.edges.len()))
+    }
+
+    // The graph with one worker, whose answer by rounds is tried too; that answer.
+    fn try_alone(
+        &mut self,
+        graph: &Graph,
+        want: Verdict,
+        old: Verdict,
+    ) -> Result<Vec<u8>, AllocError> {
+        let text = graph.text(self.alloc)?;
+        let one = runs::answer(self.alloc, text.as_bytes())?;
+        let trial = Trial {
+            case: text.as_bytes(),
+            want,
+            one: &one,
+        };
+        self.totals.by_rounds.count(trial.by_rounds());
+        self.totals
+            .version_1
+            .count(trial.as_version_1(self.alloc, old)?);
+        Ok(one)
+    }
+
+    // A graph drawn, and tried.
+    fn try_random(&mut self) -> Result<(), AllocError> {
+        let mut graph = draw::graph(self.alloc, &mut self.random)?;
+        let want = nested::verdict(self.alloc, &graph, true)?;
+        let old = nested::verdict(self.alloc, &graph, false)?;
+        self.totals.count_graph(want, old);
+        let one = self.try_alone(&graph, want, old)?;
+        for _ in 0..OWNERS {
+            draw::owners(&mut graph, &mut self.random);
+            self.try_owned(&graph, want, &one)?;
+        }
+        Ok(())
     }
 }
 
-// How many edges are drawn: up to three for each vertex.
-fn draws(x: u32, n: usize) -> usize {
-    if n < 128 { below(x, 3 * n + 1) } else { 0 }
-}
-
-// How many vertices in a hundred are accepting.
-fn share(x: u32) -> usize {
-    match x % 4 {
-        0 => 3,
-        1 => 10,
-        2 => 30,
-        _ => 60,
-    }
-}
-
-// A run by a list: its kind, and whether a message joined in it.
-fn try_list(totals: &mut [u32], case: &[u8], acts: &[u32], want: u32, one: &[u8]) -> usize {
-    let came = runs::by_list(case, acts, want, one);
-    count(totals, BY_LISTS, came.kind);
-    if came.joined != 0 {
-        count(totals, JOINED, 0);
-    }
-    came.kind
-}
-
-// The long list, where the short one ran out.
-fn try_again(totals: &mut [u32], case: &[u8], acts: &[u32], short: usize, want: u32, one: &[u8]) {
-    if short == runs::CUT_SHORT {
-        try_list(totals, case, acts, want, one);
-    }
-}
-
-// A short list and, where it runs out, one of 20,000 acts that begins with it.
-fn try_lists(
-    totals: &mut [u32],
-    case: &[u8],
-    limit: usize,
-    want: u32,
-    one: &[u8],
-    seed: u32,
-) -> u32 {
-    let mut acts = [0u32; 20000];
-    let x = graph::draw_acts(&mut acts, limit, seed);
-    let short = front_acts(&acts, below(x, 2000));
-    let kind = try_list(totals, case, short, want, one);
-    try_again(totals, case, &acts, kind, want, one);
-    next(x)
-}
-
-// The case by rounds, and by lists of acts below the limit.
-fn try_case(
-    totals: &mut [u32],
-    case: &[u8],
-    limit: usize,
-    want: u32,
-    one: &[u8],
-    seed: u32,
-) -> u32 {
-    count(totals, BY_ROUNDS, runs::by_rounds(case, want, one));
-    count(totals, DAMAGED, runs::damaged(case, one, want, seed));
-    try_lists(totals, case, limit, want, one, next(seed))
-}
-
-// A graph beside its edges and marks: how many vertices, its source, and the verdicts that it must get, with its rest loops
-// and as the file has it.
-#[derive(Clone, Copy)]
-struct Drawn {
-    n: usize,
-    source: usize,
-    want: u32,
-    old: u32,
-}
-
-// The graph owned by 1 to 16 workers.
-fn try_owners(
-    totals: &mut [u32],
-    edges: &[u8],
-    marks: &[u8],
-    drawn: Drawn,
-    one: &[u8],
-    seed: u32,
-) -> u32 {
-    let mut text = [0u8; 24576];
-    let mut owners = [0u8; 128];
-    let workers = 1 + below(seed, 16);
-    let n = drawn.n;
-    let x = graph::draw_owners(&mut owners, n, workers, seed);
-    let size = graph::write_case(&mut text, n, drawn.source, workers, edges, marks, &owners);
-    let limit = workers + graph::count_edges(edges);
-    try_case(totals, front(&text, size), limit, drawn.want, one, x)
-}
-
-// The answer by rounds with one worker, which is tried too; its length.
-fn first_answer(
-    totals: &mut [u32],
-    edges: &[u8],
-    marks: &[u8],
-    drawn: Drawn,
-    output: &mut [u8],
-) -> usize {
-    let mut text = [0u8; 24576];
-    let owners = [0u8; 128];
-    let size = graph::write_case(&mut text, drawn.n, drawn.source, 1, edges, marks, &owners);
-    let case = front(&text, size);
-    let written = runs::first_run(case, output);
-    let one = front(output, written);
-    count(totals, BY_ROUNDS, runs::by_rounds(case, drawn.want, one));
-    count(
-        totals,
-        VERSION_1,
-        runs::as_version_1(case, one, drawn.want, drawn.old),
-    );
-    written
-}
-
-// Counts a graph by its verdict, and if it has a lasso by rest loops alone.
-fn count_graph(totals: &mut [u32], want: u32, old: u32) {
-    count(totals, FOUND, want as usize);
-    if want != old {
-        count(totals, AT_REST, 0);
-    }
-}
-
-// The graph with several owners of its vertices.
-fn try_graph(
-    totals: &mut [u32],
-    edges: &[u8],
-    marks: &[u8],
-    n: usize,
-    source: usize,
-    seed: u32,
-) -> u32 {
-    let want = verdict(nested::has_lasso(edges, marks, n, source, true));
-    let old = verdict(nested::has_lasso(edges, marks, n, source, false));
-    let mut output = [MARK; 8192];
-    let drawn = Drawn {
-        n,
-        source,
-        want,
-        old,
+// All graphs; the totals.
+fn try_all(alloc: Global) -> Result<Totals, AllocError> {
+    let mut trials = Trials {
+        alloc,
+        random: Random { last: SEED },
+        totals: Totals::default(),
     };
-    let size = first_answer(totals, edges, marks, drawn, &mut output);
-    let one = front(&output, size);
-    count_graph(totals, want, old);
-    let x = try_owners(totals, edges, marks, drawn, one, seed);
-    let y = try_owners(totals, edges, marks, drawn, one, next(x));
-    try_owners(totals, edges, marks, drawn, one, next(y))
-}
-
-// A graph drawn, and tried.
-fn try_random(totals: &mut [u32], seed: u32) -> u32 {
-    let mut edges = [0u8; 16384];
-    let mut marks = [0u8; 128];
-    let a = next(seed);
-    let b = next(a);
-    let n = vertices(a);
-    let x = graph::draw_edges(&mut edges, n, draws(b, n), b);
-    let y = graph::draw_marks(&mut marks, n, share(x / 8), x);
-    try_graph(totals, &edges, &marks, n, below(y, n), next(y))
-}
-
-fn try_all(totals: &mut [u32]) {
-    let mut x = SEED;
-    let mut i: usize = 0;
-    while i < GRAPHS {
-        x = try_random(totals, x);
-        i += 1;
+    for _ in 0..GRAPHS {
+        trials.try_random()?;
     }
+    Ok(trials.totals)
 }
 
-fn print_number(n: u32) {
-    io::print_decimal(STDOUT, n as u64);
-}
-
-// A line: what was counted, and how often.
-fn print_total(totals: &[u32], start: usize, kind: usize, name: &[u8]) {
-    let i = runs::total(start, kind);
-    io::write_all(STDOUT, name);
-    if i < totals.len() {
-        print_number(totals[i]);
-    }
-    io::write_all(STDOUT, b"\n");
-}
-
-fn print_runs(totals: &[u32], start: usize) {
-    print_total(totals, start, runs::RIGHT_LASSO, b"  lasso: ");
-    print_total(totals, start, runs::RIGHT_EMPTY, b"  empty: ");
-    print_total(totals, start, runs::CUT_SHORT, b"  refusal 10: ");
-    print_total(totals, start, runs::MISMATCH, b"  mismatches: ");
-}
-
-// Answers that are not as a run wrote them.
-fn print_answers(totals: &[u32], start: usize, passed: &[u8]) {
-    print_total(totals, start, runs::REFUSED, b"  refused: ");
-    print_total(totals, start, runs::PASSED, passed);
-    print_total(totals, start, runs::MISMATCH, b"  mismatches: ");
-}
-
-fn print_graphs(totals: &[u32]) {
-    print_total(
-        totals,
-        FOUND,
-        Outcome::LASSO as usize,
-        b"graphs with a lasso: ",
-    );
-    print_total(totals, AT_REST, 0, b"  by rest loops alone: ");
-    print_total(totals, FOUND, Outcome::EMPTY as usize, b"graphs without: ");
-}
-
-fn main() {
-    let mut totals = [0u32; TOTALS];
-    try_all(&mut totals);
-    print_graphs(&totals);
-    io::write_all(STDOUT, b"runs by rounds\n");
-    print_runs(&totals, BY_ROUNDS);
-    io::write_all(STDOUT, b"runs by a list\n");
-    print_runs(&totals, BY_LISTS);
-    print_total(&totals, JOINED, 0, b"  with a message that joined: ");
-    io::write_all(STDOUT, b"damaged answers\n");
-    print_answers(&totals, DAMAGED, b"  passed with the same verdict: ");
-    io::write_all(STDOUT, b"answers as version 1\n");
-    print_answers(&totals, VERSION_1, b"  passed with the file's verdict: ");
+fn main(rt: HostRuntime) -> io::Result<()> {
+    let totals = try_all(rt.alloc())?;
+    print!(rt; "{totals}")
 }

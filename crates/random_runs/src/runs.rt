@@ -1,161 +1,136 @@
 // One run, held to the nested search's verdict, to the checker and, where it is empty, to the graph's one answer.
-use crate::graph::{below, byte, next, put};
 use bench_kit::buffers::{CELL, MARK, all_are, front, untouched};
 use checker::check_answer;
-use model::Outcome;
+use model::{Outcome, Refusal, Verdict};
 use search::{run_list, run_rounds};
-use text::write::write_bytes;
+use std::alloc::{AllocError, Global};
 
-// What came of a run or of a damaged answer: a place among the totals of its kind.
-pub const MISMATCH: usize = 0;
-
-pub const RIGHT_LASSO: usize = 1;
-
-pub const RIGHT_EMPTY: usize = 2;
-
-pub const CUT_SHORT: usize = 3;
-
-// No kind at all: it is not counted.
-pub const NOT_RUN: usize = 64;
-
-// What came of a run by a list: its kind, and how many messages joined.
-#[derive(Clone, Copy)]
-pub(crate) struct Came {
-    pub kind: usize,
-    pub joined: u32,
+// What came of a run.
+#[derive(Clone, Copy, Debug, PartialEq, Eq)]
+pub(crate) enum Came {
+    Right(Verdict),
+    CutShort,
+    Mismatch,
 }
 
-// What came of an answer that is not as a run wrote it.
-pub const REFUSED: usize = 1;
+// What the checker says of an answer that is not as a run wrote it.
+#[derive(Clone, Copy, Debug, PartialEq, Eq)]
+pub(crate) enum Said {
+    Refused,
+    Passed,
+    Mismatch,
+}
 
-pub const PASSED: usize = 2;
+// The least output and the least work buffer that a run takes.
+const OUTPUT: usize = 8192;
+
+const WORK: usize = 16384;
 
 // Where an answer has its version.
 const VERSION_AT: usize = 35;
 
-// Where the total of this kind stands, among those that start at a place; past all of them where it is no kind.
-pub(crate) fn total(start: usize, kind: usize) -> usize {
-    if 64 <= start {
-        return NOT_RUN;
-    }
-    if 64 <= kind {
-        return NOT_RUN;
-    }
-    start + kind
-}
-
-fn more(t: u32) -> u32 {
-    if t < 1000000 { t + 1 } else { t }
-}
-
-// One more in the total of this kind, among those that start at a place.
-pub(crate) fn count(totals: &mut [u32], start: usize, kind: usize) {
-    let i = total(start, kind);
-    if i < totals.len() {
-        totals[i] = more(totals[i]);
-    }
-}
-
-// Whether an answer passes with the verdict and, where that is empty, is the graph's one answer.
-fn answer_right(case: &[u8], answer: &[u8], want: u32, one: &[u8]) -> bool {
-    let c = check_answer(case, answer);
-    if c.verdict != want {
-        return false;
-    }
-    want == Outcome::LASSO || check::same(answer, one)
+// A case, what the search must find in it, and its answer by rounds with one worker.
+#[derive(Clone, Copy)]
+pub(crate) struct Trial<'a> {
+    pub case: &'a [u8],
+    pub want: Verdict,
+    pub one: &'a [u8],
 }
 
 // Whether no more messages are delivered and joined than sent, and all that were sent where none waits any more.
 fn tallies_right(o: Outcome) -> bool {
-    let gone = o.delivered as u64 + o.joined as u64;
-    let sent = o.sent as u64;
+    let gone = u64::from(o.delivered) + u64::from(o.joined);
+    let sent = u64::from(o.sent);
     if o.verdict == Outcome::EMPTY {
         return gone == sent;
     }
     gone <= sent
 }
 
-// What came of a run.
-fn judged(case: &[u8], o: Outcome, want: u32, one: &[u8], output: &[u8], work: &[i32]) -> usize {
-    let written = o.written as usize;
-    if !all_are(work, 0) || !untouched(output, written) || !tallies_right(o) {
-        return MISMATCH;
+// The answer with one byte written anew.
+fn changed(alloc: Global, answer: &[u8], at: usize, byte: u8) -> Result<Vec<u8>, AllocError> {
+    let mut copy = answer.to_vec(alloc)?;
+    if let Some(old) = copy.get_mut(at) {
+        *old = byte;
     }
-    if o.refusal == 10 && o.verdict == Outcome::NONE && written == 0 {
-        return CUT_SHORT;
-    }
-    if o.refusal != 0 || o.verdict != want {
-        return MISMATCH;
-    }
-    if !answer_right(case, front(output, written), want, one) {
-        return MISMATCH;
-    }
-    if want == Outcome::EMPTY {
-        RIGHT_EMPTY
-    } else {
-        RIGHT_LASSO
-    }
+    Ok(copy)
 }
 
-// A run by rounds into an output that holds marks; the answer's length.
-pub(crate) fn first_run(case: &[u8], output: &mut [u8]) -> usize {
-    let mut work = [CELL; 16384];
-    let o = run_rounds(case, output, &mut work);
-    o.written as usize
-}
-
-pub(crate) fn by_rounds(case: &[u8], want: u32, one: &[u8]) -> usize {
-    let mut output = [MARK; 8192];
-    let mut work = [CELL; 16384];
+// The answer by rounds.
+pub(crate) fn answer(alloc: Global, case: &[u8]) -> Result<Vec<u8>, AllocError> {
+    let mut output = [MARK; OUTPUT];
+    let mut work = [CELL; WORK];
     let o = run_rounds(case, &mut output, &mut work);
-    if o.joined != 0 {
-        return MISMATCH;
-    }
-    judged(case, o, want, one, &output, &work)
+    front(&output, o.written as usize).to_vec(alloc)
 }
 
-pub(crate) fn by_list(case: &[u8], acts: &[u32], want: u32, one: &[u8]) -> Came {
-    let mut output = [MARK; 8192];
-    let mut work = [CELL; 16384];
-    let o = run_list(case, acts, &mut output, &mut work);
-    Came {
-        kind: judged(case, o, want, one, &output, &work),
-        joined: o.joined,
+impl Trial<'_> {
+    // Whether an answer passes with the verdict and, where that is empty, is the graph's one answer.
+    fn is_right(self, answer: &[u8]) -> bool {
+        check_answer(self.case, answer).verdict == self.want.number()
+            && (self.want == Verdict::Lasso || answer == self.one)
     }
-}
 
-// A digit, or any byte.
-fn other_byte(x: u32) -> u8 {
-    if x % 2 == 0 {
-        byte(48 + below(x / 2, 10))
-    } else {
-        byte(below(x / 2, 256))
+    // What came of a run.
+    fn judged(self, o: Outcome, output: &[u8], work: &[i32]) -> Came {
+        let written = o.written as usize;
+        if !all_are(work, 0) || !untouched(output, written) || !tallies_right(o) {
+            return Came::Mismatch;
+        }
+        if o.refusal == Refusal::Unended.number() && o.verdict == Outcome::NONE && written == 0 {
+            return Came::CutShort;
+        }
+        if o.refusal == 0
+            && o.verdict == self.want.number()
+            && self.is_right(front(output, written))
+        {
+            return Came::Right(self.want);
+        }
+        Came::Mismatch
     }
-}
 
-// What the checker says of the answer with one byte drawn anew: never the other verdict.
-pub(crate) fn damaged(case: &[u8], answer: &[u8], want: u32, seed: u32) -> usize {
-    let mut copy = [0u8; 8192];
-    let size = answer.len();
-    write_bytes(&mut copy, 0, answer);
-    put(&mut copy, below(seed, size), other_byte(next(seed)));
-    let c = check_answer(case, front(&copy, size));
-    if c.verdict == Outcome::NONE {
-        return REFUSED;
+    pub(crate) fn by_rounds(self) -> Came {
+        let mut output = [MARK; OUTPUT];
+        let mut work = [CELL; WORK];
+        let o = run_rounds(self.case, &mut output, &mut work);
+        if o.joined != 0 {
+            return Came::Mismatch;
+        }
+        self.judged(o, &output, &work)
     }
-    if c.verdict == want { PASSED } else { MISMATCH }
-}
 
-// What it says of the answer as one of version 1, which means the graph as the file has it, with the verdict `old`: never
-// another one, and 13 only for a lasso, which may need a rest loop.
-pub(crate) fn as_version_1(case: &[u8], answer: &[u8], want: u32, old: u32) -> usize {
-    let mut copy = [0u8; 8192];
-    let size = answer.len();
-    write_bytes(&mut copy, 0, answer);
-    put(&mut copy, VERSION_AT, b'1');
-    let c = check_answer(case, front(&copy, size));
-    if c.refusal == 13 && want == Outcome::LASSO {
-        return REFUSED;
+    // By a list, and whether a message joined in it.
+    pub(crate) fn by_list(self, acts: &[u32]) -> (Came, bool) {
+        let mut output = [MARK; OUTPUT];
+        let mut work = [CELL; WORK];
+        let o = run_list(self.case, acts, &mut output, &mut work);
+        (self.judged(o, &output, &work), o.joined != 0)
     }
-    if c.verdict == old { PASSED } else { MISMATCH }
+
+    // What the checker says of the answer with one byte written anew: never the other verdict.
+    pub(crate) fn damaged(self, alloc: Global, at: usize, byte: u8) -> Result<Said, AllocError> {
+        let copy = changed(alloc, self.one, at, byte)?;
+        let c = check_answer(self.case, &copy);
+        Ok(if c.verdict == Outcome::NONE {
+            Said::Refused
+        } else if c.verdict == self.want.number() {
+            Said::Passed
+        } else {
+            Said::Mismatch
+        })
+    }
+
+    // What it says of the answer as one of version 1, which means the graph as the file has it, with the verdict `old`: never
+    // another one, and 13 only for a lasso, which may need a rest loop.
+    pub(crate) fn as_version_1(self, alloc: Global, old: Verdict) -> Result<Said, AllocError> {
+        let copy = changed(alloc, self.one, VERSION_AT, b'1')?;
+        let c = check_answer(self.case, &copy);
+        Ok(if c.refusal == Refusal::NotShown.number() && self.want == Verdict::Lasso {
+            Said::Refused
+        } else if c.verdict == old.number() {
+            Said::Passed
+        } else {
+            Said::Mismatch
+        })
+    }
 }

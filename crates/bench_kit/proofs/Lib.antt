@@ -1,2 +1,0 @@
--- Laws of looking through a buffer.
-pub mod Scanning

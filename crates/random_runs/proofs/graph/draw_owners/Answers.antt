@@ -1,6 +1,0 @@
--- `graph::draw_owners`: the table keeps its length.
-use native.Mathlib.Omega.{arith}
-use Rattle.random_runs.proofs.graph.draw_owners.Goals as goal
-
-pub loop-v-preserved : goal.loop-v-preserved
-loop-v-preserved c = omega (arith, c.put.auto.table)
