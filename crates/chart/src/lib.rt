@@ -60,15 +60,14 @@ fn without_pair(refusal: u32) -> Charted
 }
 
 // Whether the numbers of line 2 are in range.
+#[tactic(auto, unfolding(model::specs::Chart::chart_counts_good))]
 fn counts_good(version: u32, chart: Chart) -> bool
     ensures { result ≡ chart_counts_good version chart.modes chart.start chart.flags }
 {
     version == Case::VERSION
-        && 1 <= chart.modes
-        && chart.modes <= Chart::MOST_MODES
+        && (1..=Chart::MOST_MODES).contains(&chart.modes)
         && chart.start < chart.modes
-        && 1 <= chart.flags
-        && chart.flags <= Chart::MOST_FLAGS
+        && (1..=Chart::MOST_FLAGS).contains(&chart.flags)
 }
 
 // Lines 1 to 3: the counts, and the place past these lines.
@@ -203,7 +202,7 @@ pub fn check_chart(text: &[u8]) -> Charted
 {
     match read_chart(text, &mut []) {
         Ok(_) => without_pair(0),
-        Err(NoChart::Fault) => without_pair(Charted::FAULTY),
+        Err(NoChart::Fault) => without_pair(Refusal::ChartFault.number()),
         Err(NoChart::Bad(_, said)) => said,
     }
 }

@@ -23,6 +23,7 @@ struct Rule {
 
 impl Rule {
     // Whether its numbers are in range, and its value within its care.
+    #[tactic(auto, unfolding(model::specs::Chart::rule_good))]
     fn good(self, modes: usize, count: usize) -> bool
         ensures { result ≡ rule_good modes count (record { mode = self.mode; care = self.care; value = self.value; next = self.next }) }
     {
