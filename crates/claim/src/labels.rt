@@ -23,6 +23,14 @@ pub struct Values {
 // A word with every bit.
 pub(crate) const ALL: u64 = 0xFFFF_FFFF_FFFF_FFFF;
 
+// The empty set.
+pub(crate) const NOTHING: Values = Values {
+    a: 0,
+    b: 0,
+    c: 0,
+    d: 0,
+};
+
 const DEEPEST: usize = 16;
 
 fn repeated(bits: u64) -> Values
