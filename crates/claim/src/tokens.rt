@@ -36,11 +36,10 @@ pub(crate) type Parsed<T> = Result<(T, usize), Refusal>;
 
 const NUMBER_END: u64 = 2147483648;
 
-// Compared without a branch: over `matches!` blanks take half as long again.
 fn blank(b: u8) -> bool
     ensures { result ≡ is_blank b }
 {
-    (b == b' ') | ((9 <= b) & (b <= 13))
+    matches!(b, b' ' | 9..=13)
 }
 
 fn letter(b: u8) -> bool
@@ -69,12 +68,15 @@ fn blanks_end(text: &[u8], at: usize, limit: usize) -> usize
     ensures { BlanksEnd text.now limit at result }
 {
     let stop = limit.min(text.len());
-    for e in at..stop {
+    let mut e = at;
+    // Over `for e in at..stop` blanks take half as long again.
+    while e < stop {
         if !blank(text[e]) {
             return e;
         }
+        e += 1;
     }
-    at.max(stop)
+    e
 }
 
 // Where the name that begins at `at` ends.
