@@ -11,7 +11,7 @@ ghost use Rattle.claim.specs.BodySays.{TitleSays, MarksSay, MarkSays, EdgeSays, 
 
 use crate::Counts;
 use crate::header::number_at;
-use crate::labels::{ALL, NOTHING, Values, label, union};
+use crate::labels::{ALL, NOTHING, Values, label};
 use crate::tokens::{
     Parsed, Seen, Token, byte_at, claim_token, fault, is_symbol, past_blanks, word,
 };
@@ -137,7 +137,7 @@ fn add_values(sets: &mut [Values], d: usize, w: Values)
     requires sets_in_bounds { most_states ≤ length sets.old }
     ensures { Gathered d w sets.old sets.new }
 {
-    sets[d] = union(sets[d], w);
+    sets[d] = sets[d] | w;
 }
 
 // Edges lead from state c to the states of `leads`, to each on the flag values of its set.
