@@ -1,6 +1,6 @@
 // The tokens of a claim, one at a time: `token_at` reads the one at a place of a text of which `limit` bytes are looked at.
-ghost use Rattle.std.specs.Prelude.{◌≡◌, true, false, ◌&&◌, [], ◌+◌, ◌-◌, ◌<◌, min, leb, length, get_or};
-ghost use Rattle.text.specs.Lines.{equal, begins};
+ghost use Rattle.std.specs.Prelude.{◌≡◌, true, false, [], ◌+◌, ◌-◌, ◌<◌, length, get_or};
+ghost use Rattle.text.specs.Lines.{equal};
 ghost use Rattle.text.specs.Numbers.{is_digit};
 ghost use Rattle.model.specs.ClaimTokens.{longest_claim, is_blank, is_letter, is_name_byte, is_symbol, at_sign, slash, in_name, in_number, in_string, in_mark};
 ghost use Rattle.claim.specs.Reads.{part, lexed, tokens_at, claim_tokens, byte_of, LoneDigit, LoneLetter, BlanksEnd, NameEnd, Sees, is_symbol_of, fault_of};
@@ -42,16 +42,17 @@ fn blank(b: u8) -> bool
     matches!(b, b' ' | 9..=13)
 }
 
+// Small letters first: most bytes of a name are.
 fn letter(b: u8) -> bool
     ensures { result ≡ is_letter b }
 {
-    b.is_ascii_alphabetic() | (b == b'_')
+    b.is_ascii_lowercase() || (b.is_ascii_uppercase() | (b == b'_'))
 }
 
 fn name_byte(b: u8) -> bool
     ensures { result ≡ is_name_byte b }
 {
-    letter(b) | b.is_ascii_digit() | (b == b'-')
+    letter(b) || (b.is_ascii_digit() | (b == b'-'))
 }
 
 fn symbol(b: u8) -> bool
