@@ -466,7 +466,7 @@ pairs_equal [] (y ∷ b) = refl
 pairs_equal (x ∷ a) [] = refl
 pairs_equal (x ∷ a) (y ∷ b) = ap (λ (p : Bool). eqb x y && p) (pairs_equal a b)
 
-eqb_turned : (x y : ℕ) → eqb x y ≡ eqb y x
+pub eqb_turned : (x y : ℕ) → eqb x y ≡ eqb y x
 eqb_turned x y = go (same? x y)
   where
     go : Same x y → eqb x y ≡ eqb y x

@@ -8,9 +8,8 @@ use Rattle.model.specs.ClaimGrammar.{Item, State}
 use Rattle.model.specs.ClaimTable.{go, opening, version, told, taken_as, refused, claim_told, claim_refusal}
 use Rattle.model.specs.Claim.{Claim, claim_in}
 use Rattle.claim.specs.Reads.{tokens_at, Ahead}
-use Rattle.claim.specs.HeaderSays.{Gives}
+use Rattle.claim.specs.HeaderSays.{Counted}
 use Rattle.claim.specs.Cells.{claim_cells, LinesHeld, ClaimHeld}
-use Rattle.claim.specs.declared.header.Given.{Given}
 use Rattle.claim.specs.declared.Counts.{Counts}
 use Rattle.model.specs.Refusals.{number, refusal_of}
 use Rattle.model.specs.declared.refusal.Refusal.{Refusal}
@@ -29,10 +28,8 @@ OpeningSays s l (Err j) = (opens_so (tokens_at s l 0) ≡ false) × (told (go op
 pub record TreeRead (s : List ℕ) (c : Counts) (cells cells_now : List ℕ) : Type 0 where
   pub items : List Item
   pub states : List State
-  pub given : Given
   pub taken_so : claim_told s ≡ taken_as (record { items = items; states = states })
-  pub gives : Gives items given
-  pub counts : c ≡ record { states = given.states; start = given.start; propositions = given.count }
+  pub counts : Counted items c
   pub held : LinesHeld s [] cells → LinesHeld s states cells_now
 
 abbrev pub TextRead : (text : List ℕ) → Result Counts Refusal → (cells cells_now : List ℕ) → Type 0

@@ -87,13 +87,9 @@ fn read_opened(text: &[u8], cells: &mut [u32]) -> Result<Counts, Refusal>
     ensures { TextRead text.now result cells.old cells.new }
 {
     let items = opening(text, Counts::LONGEST)?;
-    let (g, lines) = header_at(text, items)?;
-    read_body(text, lines, g.states, g.count, cells)?;
-    Ok(Counts {
-        states: g.states,
-        start: g.start,
-        propositions: g.count,
-    })
+    let (counts, lines) = header_at(text, items)?;
+    read_body(text, lines, counts.states, counts.propositions, cells)?;
+    Ok(counts)
 }
 
 // The same of any text: "14, the text does not open with the tokens `HOA:` and v1", however long it is.
