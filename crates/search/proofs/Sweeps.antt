@@ -259,7 +259,7 @@ module _ (c : Case) (x : State) (p : ℕ) (e : p ≡ c.workers) where
       }
 
   pub turns_done : (H : List ℕ) (n w : ℕ) (k : Run) (cells : List ℤ) → (u : Turning c x p H n w k cells) → p ≤ w → n ≤ p
-      → TurnsLeave c (acted c (range c.workers 0) x) (record { run = k; scanned = n }) cells H
+      → TurnsLeave c (acted c (range c.workers 0) x) k n cells H
   turns_done H n w k cells u l m =
       let z : p - 0 ≡ c.workers = omega arith in
       let i : u.along.at ≡ acted c (range c.workers 0) x = along_is c x 0 p w k cells u.along l ∙ rw z in
