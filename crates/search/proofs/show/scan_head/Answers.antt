@@ -73,9 +73,6 @@ loop-e-preserved c =
     let i = c.loop-e.invariant in
     (omega (arith, i.0), kept_more _ _ _ _ i.1 c.try_edge-last.ensures.0, λ q l s h. let b = edge q l s h in c.try_edge-last.ensures.1 q _ _ (laid_kept q found_at _ _ (omega arith) i.1 l) (i.2 q l s h) b.0 b.1)
 
-pub shape_of-work : goal.shape_of-work
-shape_of-work c = c.loop-e.invariant.1.long
-
 pub returns : goal.returns
 unfolding Scans RangeSays
 returns c =

@@ -1,14 +1,7 @@
-use mathlib.Core.Path.{refl}
 use native.Mathlib.Omega.{arith}
 use Rattle.search.specs.Asks.{ActSays, ListDone}
-use Rattle.search.proofs.Acts.{onward_start, onward_step, onward_done}
+use Rattle.search.proofs.Acts.{onward_step, onward_done}
 use Rattle.search.proofs.run.Run.act_list.Goals as goal
-
-pub loop-a-init : goal.loop-a-init
-loop-a-init c = (omega arith, refl, λ q x rep m w l. onward_start q x _ _ _ rep m)
-
-pub overflow_cast-a : goal.overflow_cast-a
-overflow_cast-a c = omega (arith, c.type_inv.acts c.loop-a.a-index)
 
 pub act-requires : goal.act-requires
 act-requires c =
@@ -25,9 +18,6 @@ loop-a-preserved c = (
       let u = c.loop-a.invariant.2 q x rep m w l in
       onward_step q x _ _ _ _ _ _ u (omega arith) (c.act.ensures q u.at u.rep u.moment w (l c.loop-a.a-index (omega arith))),
 )
-
-pub shape_of-work : goal.shape_of-work
-shape_of-work c = c.loop-a.invariant.1
 
 pub returns : goal.returns
 unfolding ListDone

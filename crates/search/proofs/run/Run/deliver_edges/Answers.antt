@@ -1,4 +1,4 @@
-use mathlib.Core.Path.{◌≡◌, refl, sym, ◌∙◌}
+use mathlib.Core.Path.{◌≡◌, sym, ◌∙◌}
 use mathlib.Core.List.{List}
 use Prim.Native.Nat.{ℕ, ◌+◌, ◌≤◌, ◌<◌}
 use native.Mathlib.Omega.{arith}
@@ -6,26 +6,10 @@ use lib.ListN.{get_or}
 use Rattle.model.specs.Case.{Case}
 use Rattle.search.specs.Asks.{DeliverSays, EdgesSay}
 use Rattle.search.specs.Rep.{Firsts, Laid}
-use Rattle.search.proofs.Ranges.{first_there, first_is}
-use Rattle.search.proofs.Sweeps.{along_start, along_step, along_over, along_done, act_rep, first_same, edges_rep}
+use Rattle.search.proofs.Ranges.{first_is}
+use Rattle.search.proofs.Sweeps.{along_step, along_over, along_done, act_rep, first_same, edges_rep}
 use Rattle.search.proofs.Acts.{broken_none, broken_ended}
 use Rattle.search.proofs.run.Run.deliver_edges.Goals as goal
-
-pub load_below-end-requires : goal.load_below-end-requires
-load_below-end-requires c =
-    let s = c.requires in
-    (omega arith, first_there s.case _ _ s.rep.held.laid (omega (arith, s.below)))
-
-pub load_below-first-requires : goal.load_below-first-requires
-load_below-first-requires c =
-    let s = c.requires in
-    (omega arith, first_there s.case _ _ s.rep.held.laid (omega (arith, s.below)))
-
-pub loop-e-init : goal.loop-e-init
-loop-e-init c = (refl, λ q x rep m w l. along_start q x _ _ _ _ rep m)
-
-pub shape_of-work-then-is_some : goal.shape_of-work-then-is_some
-shape_of-work-then-is_some c = c.loop-e.invariant.0
 
 pub returns-then-is_some : goal.returns-then-is_some
 unfolding EdgesSay
@@ -68,9 +52,6 @@ loop-e-preserved c = (
       let whole = broken_none u.rep c.is_some.ensures c.if-is_some.false in
       rw z (along_step q x _ _ (p + e) _ _ _ _ u (omega arith) (act_rep q e p u.at _ _ w u.moment whole (c.deliver.ensures q u.at u.rep whole (omega arith)))),
 )
-
-pub shape_of-work : goal.shape_of-work
-shape_of-work c = c.loop-e.invariant.0
 
 pub returns : goal.returns
 unfolding EdgesSay

@@ -14,9 +14,6 @@ use Rattle.search.proofs.run.Run.rounds.Goals as goal
 pub loop-init : goal.loop-init
 loop-init c = (refl, refl, λ q x rep m w e. left_start q x _ _ _ rep m e)
 
-pub shape_of-work-then-is_some : goal.shape_of-work-then-is_some
-shape_of-work-then-is_some c = c.loop.invariant.0
-
 pub returns-then-is_some : goal.returns-then-is_some
 unfolding RoundsDone
 returns-then-is_some c =
@@ -37,9 +34,6 @@ round-scanned-requires c =
       room = omega (arith, s.workers, s.rep.held.laid.within.workers, c.loop.invariant.1);
       empty = left_empty s.case s.state _ _ _ _ u (broken_none u.rep c.is_some.ensures c.if-is_some.false);
     }
-
-pub shape_of-work-then-scanned-eq0 : goal.shape_of-work-then-scanned-eq0
-shape_of-work-then-scanned-eq0 c = omega (arith, c.round-scanned.auto.work, c.loop.invariant.0)
 
 pub returns-then-scanned-eq0 : goal.returns-then-scanned-eq0
 unfolding RoundsDone RoundSays
@@ -64,9 +58,6 @@ loop-preserved c =
       omega (arith, c.round-scanned.auto.heads, i.1),
       λ q x rep m w e. let t = again q x rep m w e in left_step q x _ _ _ _ _ _ _ t.0 (omega (arith, c.loop-test.true)) t.1.rep,
     )
-
-pub shape_of-work : goal.shape_of-work
-shape_of-work c = c.loop.invariant.0
 
 pub returns : goal.returns
 unfolding RoundsDone

@@ -35,9 +35,6 @@ loop-e-init c =
     let own = ranged s.case s.rep.held.laid s.below in
     (own.order, refl, λ q x o rep own p i. half_start q x _ o _ _ own _ _ rep, omega arith, record { sent = omega (arith, own.below, s.room.sent); joined = omega (arith, own.below, s.room.joined) })
 
-pub shape_of-work-then-is_some : goal.shape_of-work-then-is_some
-shape_of-work-then-is_some c = c.loop-e.invariant.1
-
 pub returns-then-is_some : goal.returns-then-is_some
 unfolding ScanSays RangeSays OfferedIs
 returns-then-is_some c =
@@ -111,9 +108,6 @@ loop-e-preserved c =
       omega (arith, c.loop-e.invariant.3),
       room-left,
     )
-
-pub shape_of-work : goal.shape_of-work
-shape_of-work c = c.loop-e.invariant.1
 
 pub returns : goal.returns
 unfolding ScanSays RangeSays OfferedIs

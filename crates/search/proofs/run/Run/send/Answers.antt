@@ -2,7 +2,6 @@ use mathlib.Core.Path.{◌≡◌, sym, ◌∙◌}
 use mathlib.Core.Bool.{Bool, true, false}
 use mathlib.Core.Option.{none, some}
 use Prim.Native.Nat.{ℕ, ◌+◌, ◌<◌}
-use native.Mathlib.Omega.{arith}
 use lib.ListN.{get_or, set}
 use lib.IntN.{pos, neg_ℤ}
 use mir.Facts.{to_z-of_z}
@@ -14,12 +13,6 @@ use Rattle.search.specs.Rep.{Rep}
 use Rattle.search.proofs.Stores.{there}
 use Rattle.search.proofs.Steps.{sent_run, sent_rep}
 use Rattle.search.proofs.run.Run.send.Goals as goal
-
-pub overflow_add-self : goal.overflow_add-self
-overflow_add-self c = omega (arith, c.requires.room.sent)
-
-pub overflow_add-self-then-joined : goal.overflow_add-self-then-joined
-overflow_add-self-then-joined c = omega (arith, c.requires.room.joined)
 
 pub returns-then-joined : goal.returns-then-joined
 unfolding SendSays PutSays

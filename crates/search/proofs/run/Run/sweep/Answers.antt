@@ -14,20 +14,12 @@ none_full-requires c =
     let s = c.requires in
     sent_most (c.loop-head.invariant.2 s.case s.state s.rep.held.laid.first s.rep s.moment s.workers s.listed s.only s.rep.held.laid.firsts).rep
 
-pub shape_of-work-then-none_full : goal.shape_of-work-then-none_full
-shape_of-work-then-none_full c = c.loop-head.invariant.1
-
 pub returns-then-none_full : goal.returns-then-none_full
 unfolding SweepSays
 returns-then-none_full c =
     λ q x rep m e l only.
     let f = rep.held.laid.firsts in
     sweep_empty q rep.held.laid.sound rep.held.laid.first _ f l (c.loop-head.invariant.2 q x _ rep m e l only f) (sym c.none_full.ensures ∙ c.if-none_full.true)
-
-pub overflow_sub-head : goal.overflow_sub-head
-overflow_sub-head c =
-    let s = c.requires in
-    s.listed.low _ c.loop-head-test.true
 
 pub deliver_edges-requires : goal.deliver_edges-requires
 deliver_edges-requires c =
@@ -47,9 +39,6 @@ loop-head-preserved c =
           let u = v.2 q x F rep m e l only f in
           sweep_step q rep.held.laid.sound F _ f l u t (c.deliver_edges.ensures q u.state F u.rep u.moment e (omega (arith, l.low _ t, l.high _ t)) f),
     )
-
-pub shape_of-work : goal.shape_of-work
-shape_of-work c = c.loop-head.invariant.1
 
 pub returns : goal.returns
 unfolding SweepSays

@@ -16,7 +16,7 @@ use Rattle.model.proofs.Rounds.{scan_count}
 use Rattle.search.specs.Asks.{PopSays, ScanSays, TurnSays}
 use Rattle.search.specs.Cells.{far}
 use Rattle.search.specs.Rep.{Rep}
-use Rattle.search.proofs.Acts.{depth_low, count_small, scan_room, turned_rep, link_split, link_two, turn_none, turn_is}
+use Rattle.search.proofs.Acts.{depth_low, count_small, scan_room, turned_rep, link_split, turn_none, turn_is}
 use Rattle.search.proofs.Stores.{there}
 use Rattle.search.proofs.Queues.{link_one}
 use Rattle.search.proofs.Steps.{head_there, head_is, head_below}
@@ -33,11 +33,6 @@ returns-then-head-eq-QUEUE_END c =
     λ q x rep m whole pw.
     let p = c.args.p in
     rw (turn_none q x p (link_one (get_or x.queues p []) (head_is q x _ _ _ rep pw _ c.load_below-head.ensures.0 ∙ c.if-head-eq-QUEUE_END.true))) rep
-
-pub overflow_sub-v : goal.overflow_sub-v
-overflow_sub-v c =
-    let s = c.requires in
-    link_two (get_or s.state.queues c.args.p []) c.load_below-head.result (head_is s.case s.state _ _ c.args.p s.rep s.worker _ c.load_below-head.ensures.0) c.if-head-eq-QUEUE_END.false
 
 pub pop-requires : goal.pop-requires
 pop-requires c =

@@ -9,11 +9,6 @@ use Rattle.search.proofs.run.Run.turns.Goals as goal
 pub loop-w-init : goal.loop-w-init
 loop-w-init c = (omega arith, omega arith, refl, refl, λ q x rep m e empty room. turns_start q x _ e _ _ _ rep m empty)
 
-pub overflow_add-w : goal.overflow_add-w
-overflow_add-w c =
-    let s = c.requires in
-    omega (arith, s.workers, s.rep.held.laid.within.workers, c.loop-w-test.true)
-
 pub load_below-head-requires : goal.load_below-head-requires
 load_below-head-requires c =
     let asked : Turning c.requires.case c.requires.state c.args.p c.loop-w.heads c.loop-w.scanned c.loop-w.w c.loop-w.self c.loop-w.work = let s = c.requires in c.loop-w.invariant.4 s.case s.state s.rep s.moment s.workers s.empty s.room in
@@ -48,9 +43,6 @@ insert-requires c =
     let i = c.loop-w.invariant in
     omega (arith, c.requires.room, i.1, i.3, c.loop-w-test.true)
 
-pub overflow_add-scanned : goal.overflow_add-scanned
-overflow_add-scanned c = omega (arith, c.loop-w.invariant.1, c.loop-w-test.true)
-
 pub loop-w-preserved : goal.loop-w-preserved
 unfolding ActSays
 loop-w-preserved c =
@@ -65,12 +57,6 @@ loop-w-preserved c =
           turns_step q x _ e _ _ _ _ _ _ _ _ _ u t c.insert.ensures (head_is q u.along.at _ _ _ u.along.rep (omega arith) _ c.load_below-head.ensures.0) c.if-head-eq-QUEUE_END.false
           (c.act.ensures q u.along.at u.along.rep u.along.moment e (omega arith)),
     )
-
-pub shape_of-work : goal.shape_of-work
-shape_of-work c = c.loop-w.invariant.2
-
-pub shape_of-heads : goal.shape_of-heads
-shape_of-heads c = c.loop-w.invariant.3
 
 pub returns : goal.returns
 unfolding TurnsSay
