@@ -54,9 +54,6 @@ pub record Along (c : Case) (x : State) (s t i : ℕ) (k : Run) (w : List ℤ) :
   pub rest : acted c (range (t - i) i) at ≡ acted c (range (t - s) s) x
 
 module _ (c : Case) (x : State) (s t : ℕ) where
-  pub along_start : (k : Run) (w : List ℤ) → Rep c x k w → Moment c x → Along c x s t s k w
-  along_start k w rep p = record { at = x; rep = rep; moment = p; rest = refl }
-
   pub along_step : (i : ℕ) (k k' : Run) (w w' : List ℤ) → (u : Along c x s t i k w) → i < t → Rep c (act c i u.at) k' w' → Along c x s t (i + 1) k' w'
   along_step i k k' w w' u h rep =
       let j : t - i ≡ suc (t - (i + 1)) = omega arith in

@@ -47,79 +47,7 @@ impl Run {
             broken: None,
         }
     }
-}
 
-// Cells of a run without any distance, parent, place in a queue or message.
-pub(crate) fn blank(work: &mut [i32])
-    requires { least_work ≤ length work.old }
-    ensures { BlankSays work.old work.new }
-{
-    fill(work, Cells::DISTANCE, Case::MOST_VERTICES, NO_DISTANCE);
-    fill(work, Cells::PARENT, Case::MOST_VERTICES, NONE);
-    fill(work, Cells::LINK, Case::MOST_VERTICES, NOT_QUEUED);
-    fill(work, Cells::MESSAGE, Case::MOST_EDGES, NO_DISTANCE);
-    fill(work, Cells::HEAD, Case::MOST_WORKERS, QUEUE_END);
-    fill(work, Cells::TAIL, Case::MOST_WORKERS, 0);
-}
-
-// Whether a distance is below another.
-pub(crate) fn lower(a: i32, b: i32) -> bool
-    ensures { result ≡ lt_z a b }
-{
-    a < b
-}
-
-// So far below 0.
-pub(crate) fn negated(n: usize) -> i32
-    requires { n ≤ most_vertices }
-    ensures { result ≡ neg_ℤ (pos n) }
-{
-    -(n as i32)
-}
-
-// Whether a distance is below −A.
-pub(crate) fn below_floor(d: i32, marks: usize) -> bool
-    requires { marks ≤ most_vertices }
-    ensures { result ≡ lt_z d (neg_ℤ (pos marks)) }
-{
-    d < negated(marks)
-}
-
-// The length of an edge by the mark of the vertex that it leaves: −1 where that is accepting, else 0.
-pub(crate) fn edge_length(mark: usize) -> i32
-    requires { mark < 2 }
-    ensures { LengthIs mark result }
-{
-    negated(mark)
-}
-
-// Whether a cell has no distance or message.
-pub(crate) fn missing(d: i32) -> bool
-    ensures { result ≡ lt_z (pos 0) d }
-{
-    0 < d
-}
-
-// Puts an offer into the cell of an edge: the lower of two remains. Whether it joined a message that waited there.
-pub(crate) fn put_offer(work: &mut [i32], e: usize, d: i32) -> bool
-    requires { message_at + e < length work.old }
-    ensures { PutSays e d result work.old work.new }
-{
-    let waiting = load(work, Cells::MESSAGE + e);
-    store(work, Cells::MESSAGE + e, waiting.min(d));
-    !missing(waiting)
-}
-
-// What a vertex at this distance offers along each of its edges: that distance plus the edge's length.
-pub(crate) fn offered(work: &[i32], v: usize, d: i32) -> i32
-    requires { OfferedAsks v d work.now }
-    ensures { OfferedIs v d result work.now }
-{
-    let length = edge_length(load_below(work, Cells::ACCEPTING + v, 2));
-    d + length
-}
-
-impl Run {
     // Sends an offer along an edge: it is counted, and so is whether it joins.
     fn send(&mut self, work: &mut [i32], e: usize, d: i32)
         requires { SendAsks e d self.old work.old }
@@ -261,4 +189,74 @@ impl Run {
             self.act(work, *a as usize, p);
         }
     }
+}
+
+// Cells of a run without any distance, parent, place in a queue or message.
+pub(crate) fn blank(work: &mut [i32])
+    requires { least_work ≤ length work.old }
+    ensures { BlankSays work.old work.new }
+{
+    fill(work, Cells::DISTANCE, Case::MOST_VERTICES, NO_DISTANCE);
+    fill(work, Cells::PARENT, Case::MOST_VERTICES, NONE);
+    fill(work, Cells::LINK, Case::MOST_VERTICES, NOT_QUEUED);
+    fill(work, Cells::MESSAGE, Case::MOST_EDGES, NO_DISTANCE);
+    fill(work, Cells::HEAD, Case::MOST_WORKERS, QUEUE_END);
+    fill(work, Cells::TAIL, Case::MOST_WORKERS, 0);
+}
+
+// Whether a distance is below another.
+pub(crate) fn lower(a: i32, b: i32) -> bool
+    ensures { result ≡ lt_z a b }
+{
+    a < b
+}
+
+// So far below 0.
+pub(crate) fn negated(n: usize) -> i32
+    requires { n ≤ most_vertices }
+    ensures { result ≡ neg_ℤ (pos n) }
+{
+    -(n as i32)
+}
+
+// Whether a distance is below −A.
+pub(crate) fn below_floor(d: i32, marks: usize) -> bool
+    requires { marks ≤ most_vertices }
+    ensures { result ≡ lt_z d (neg_ℤ (pos marks)) }
+{
+    d < negated(marks)
+}
+
+// The length of an edge by the mark of the vertex that it leaves: −1 where that is accepting, else 0.
+pub(crate) fn edge_length(mark: usize) -> i32
+    requires { mark < 2 }
+    ensures { LengthIs mark result }
+{
+    negated(mark)
+}
+
+// Whether a cell has no distance or message.
+pub(crate) fn missing(d: i32) -> bool
+    ensures { result ≡ lt_z (pos 0) d }
+{
+    0 < d
+}
+
+// Puts an offer into the cell of an edge: the lower of two remains. Whether it joined a message that waited there.
+pub(crate) fn put_offer(work: &mut [i32], e: usize, d: i32) -> bool
+    requires { message_at + e < length work.old }
+    ensures { PutSays e d result work.old work.new }
+{
+    let waiting = load(work, Cells::MESSAGE + e);
+    store(work, Cells::MESSAGE + e, waiting.min(d));
+    !missing(waiting)
+}
+
+// What a vertex at this distance offers along each of its edges: that distance plus the edge's length.
+pub(crate) fn offered(work: &[i32], v: usize, d: i32) -> i32
+    requires { OfferedAsks v d work.now }
+    ensures { OfferedIs v d result work.now }
+{
+    let length = edge_length(load_below(work, Cells::ACCEPTING + v, 2));
+    d + length
 }

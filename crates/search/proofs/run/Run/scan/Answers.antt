@@ -8,12 +8,13 @@ use mir.Facts.{to_z-of_z}
 use Rattle.model.specs.Graph.{mark}
 use Rattle.model.specs.Case.{Case, owner}
 use Rattle.model.specs.Run.{State, scan_edge}
-use Rattle.search.specs.Asks.{Room, RangeSays, OfferedIs, EdgeSays, ScanSays}
+use Rattle.search.specs.Asks.{RangeSays, OfferedIs, EdgeSays, ScanSays}
 use Rattle.search.specs.Rep.{Own, Laid, Rep}
 use Rattle.search.proofs.Ranges.{Halfway, half_start, half_step, half_broken, half_done, depth_is, room_step}
 use Rattle.search.proofs.Steps.{owner_there, owner_is}
 use Rattle.search.proofs.Acts.{broken_some, broken_none}
 use Rattle.search.proofs.run.Run.scan.Goals as goal
+use Rattle.search.proofs.run.Run.scan.Goals.{At-loop-e}
 
 pub load_below-own-requires : goal.load_below-own-requires
 load_below-own-requires c = let s = c.requires in (omega arith, owner_there s.case _ _ s.rep.held.laid s.below)
@@ -29,38 +30,41 @@ edges_of-edges-requires c = let s = c.requires in record { case = s.case; laid =
 pub loop-e-init : goal.loop-e-init
 unfolding RangeSays
 loop-e-init c =
-    let ranged : (q : Case) → let a = c.args in
-    Laid q a.work.now → a.v < q.graph.vertices → Own q a.v c.edges_of-edges.result.start c.edges_of-edges.result.end = λ q laid h. c.edges_of-edges.ensures q laid h in
     let s = c.requires in
-    let own = ranged s.case s.rep.held.laid s.below in
+    let own = c.edges_of-edges.ensures s.case s.rep.held.laid s.below in
     (own.order, refl, λ q x o rep own p i. half_start q x _ o _ _ own _ _ rep, omega arith, record { sent = omega (arith, own.below, s.room.sent); joined = omega (arith, own.below, s.room.joined) })
 
+-- where an edge is to be scanned, or none is left
+module _ (c : At-loop-e) where
+  ranged : (q : Case) → Laid q c.args.work.now → c.args.v < q.graph.vertices → Own q c.args.v c.edges_of-edges.result.start c.edges_of-edges.result.end
+  unfolding RangeSays
+  ranged q laid h = c.edges_of-edges.ensures q laid h
+
+  offer-is : (q : Case) (o : ℕ) → Laid q c.args.work.now → c.args.v < q.graph.vertices → c.args.d ≡ neg_ℤ (pos o) → to_z w32 (of_z w32 c.offered-offer.result) ≡ neg_ℤ (pos (o + mark q.graph c.args.v))
+  unfolding OfferedIs
+  offer-is q o laid h d =
+      let fits : SFits w32 c.offered-offer.result = record { sfits = c.offered-offer.type_inv } in
+      to_z-of_z fits ∙ c.offered-offer.ensures q o laid h (to_z-of_z c.ranges.d ∙ d)
+
+  owned : (q : Case) → Laid q c.args.work.now → c.args.v < q.graph.vertices → owner q c.args.v ≡ c.load_below-own.result
+  owned q laid h = owner_is q _ _ laid h _ c.load_below-own.ensures.0
+
+  so_far : (q : Case) (x : State) (o : ℕ) → Rep q x c.args.self.now c.args.work.now → c.args.v < q.graph.vertices → c.args.d ≡ neg_ℤ (pos o) → Halfway q x c.args.v o c.loop-e.e c.loop-e.self c.loop-e.work
+  so_far q x o rep h d = let l = rep.held.laid in c.loop-e.invariant.2 q x o rep (ranged q l h) (owned q l h) (offer-is q o l h d)
+
 pub returns-then-is_some : goal.returns-then-is_some
-unfolding ScanSays RangeSays OfferedIs
+unfolding ScanSays
 returns-then-is_some c =
-    let ranged : (q : Case) → let a = c.args in
-    Laid q a.work.now → a.v < q.graph.vertices → Own q a.v c.edges_of-edges.result.start c.edges_of-edges.result.end = λ q laid h. c.edges_of-edges.ensures q laid h in
-    let offer-is : (q : Case) (o : ℕ) → let a = c.args in
-    Laid q a.work.now → a.v < q.graph.vertices → a.d ≡ neg_ℤ (pos o) → c.offered-offer.result ≡ neg_ℤ (pos (o + mark q.graph a.v)) = λ q o laid h d. c.offered-offer.ensures q o laid h (to_z-of_z c.ranges.d ∙ d) in
-    let fits : SFits w32 c.offered-offer.result = record { sfits = c.offered-offer.type_inv } in
-    let so_far : (q : Case) (x : State) (o : ℕ) → let a = c.args in
-    Rep q x a.self.now a.work.now → a.v < q.graph.vertices → a.d ≡ neg_ℤ (pos o) → Halfway q x a.v o c.loop-e.e c.loop-e.self c.loop-e.work = λ q x o rep h d. c.loop-e.invariant.2 q x o rep (ranged q rep.held.laid h) (owner_is q _ _ rep.held.laid h _ c.load_below-own.ensures.0) (to_z-of_z fits ∙ offer-is q o rep.held.laid h d) in
     λ q x o rep h d.
-    let u = so_far q x o rep h d in
-    half_broken q x _ o _ _ (ranged q rep.held.laid h) _ _ _ u (broken_some u.rep c.is_some.ensures c.if-is_some.true)
+    let a = (goal.at.returns-then-is_some c).At-loop-e in
+    let u = so_far a q x o rep h d in
+    half_broken q x _ o _ _ (ranged a q rep.held.laid h) _ _ _ u (broken_some u.rep c.is_some.ensures c.if-is_some.true)
 
 pub scan_edge-requires : goal.scan_edge-requires
-unfolding RangeSays OfferedIs
 scan_edge-requires c =
-    let ranged : (q : Case) → let a = c.args in
-    Laid q a.work.now → a.v < q.graph.vertices → Own q a.v c.edges_of-edges.result.start c.edges_of-edges.result.end = λ q laid h. c.edges_of-edges.ensures q laid h in
-    let offer-is : (q : Case) (o : ℕ) → let a = c.args in
-    Laid q a.work.now → a.v < q.graph.vertices → a.d ≡ neg_ℤ (pos o) → c.offered-offer.result ≡ neg_ℤ (pos (o + mark q.graph a.v)) = λ q o laid h d. c.offered-offer.ensures q o laid h (to_z-of_z c.ranges.d ∙ d) in
-    let fits : SFits w32 c.offered-offer.result = record { sfits = c.offered-offer.type_inv } in
-    let so_far : (q : Case) (x : State) (o : ℕ) → let a = c.args in
-    Rep q x a.self.now a.work.now → a.v < q.graph.vertices → a.d ≡ neg_ℤ (pos o) → Halfway q x a.v o c.loop-e.e c.loop-e.self c.loop-e.work = λ q x o rep h d. c.loop-e.invariant.2 q x o rep (ranged q rep.held.laid h) (owner_is q _ _ rep.held.laid h _ c.load_below-own.ensures.0) (to_z-of_z fits ∙ offer-is q o rep.held.laid h d) in
+    let a = (goal.at.scan_edge-requires c).At-loop-e in
     let s = c.requires in
-    let u = so_far s.case s.state s.depth s.rep s.below s.is in
+    let u = so_far a s.case s.state s.depth s.rep s.below s.is in
     let test = c.loop-e-test.true in
     record {
       offer = record {
@@ -68,56 +72,38 @@ scan_edge-requires c =
         state = u.at;
         offer = s.depth + mark s.case.graph c.args.v;
         rep = u.rep;
-        below = omega (arith, (ranged s.case s.rep.held.laid s.below).below, test);
-        is = to_z-of_z fits ∙ offer-is s.case s.depth s.rep.held.laid s.below s.is;
+        below = omega (arith, (ranged a s.case s.rep.held.laid s.below).below, test);
+        is = offer-is a s.case s.depth s.rep.held.laid s.below s.is;
       };
       room = record { sent = omega (arith, c.loop-e.invariant.4.sent, test); joined = omega (arith, c.loop-e.invariant.4.joined, test) };
     }
 
 pub loop-e-preserved : goal.loop-e-preserved
-unfolding EdgeSays RangeSays OfferedIs
+unfolding EdgeSays
 loop-e-preserved c =
+    let a = (goal.at.loop-e-preserved c).At-loop-e in
+    let test = c.loop-e-test.true in
     let stepped : let v = c.args.v in (q : Case) (x : State) (o : ℕ) → (u : Halfway q x v o c.loop-e.e c.loop-e.self c.loop-e.work) → Own q v c.edges_of-edges.result.start c.edges_of-edges.result.end
     → owner q v ≡ c.load_below-own.result → to_z w32 (of_z w32 c.offered-offer.result) ≡ neg_ℤ (pos (o + mark q.graph v)) → Rep q (scan_edge q v o c.loop-e.e u.at) c.scan_edge.new.self c.scan_edge.new.work = λ q x o u own p i. let e = c.loop-e.e in
-    let test = c.loop-e-test.true in
     let from = own.inside e c.loop-e.invariant.3 test in
     c.scan_edge.ensures q u.at _ o u.rep (broken_none u.rep c.is_some.ensures c.if-is_some.false) (omega (arith, own.below, test)) from p
     (i ∙ ap (λ (n : ℕ). neg_ℤ (pos (o + n))) (sym (depth_is q _ e from))) in
-    let ranged : (q : Case) → let a = c.args in
-    Laid q a.work.now → a.v < q.graph.vertices → Own q a.v c.edges_of-edges.result.start c.edges_of-edges.result.end = λ q laid h. c.edges_of-edges.ensures q laid h in
-    let offer-is : (q : Case) (o : ℕ) → let a = c.args in
-    Laid q a.work.now → a.v < q.graph.vertices → a.d ≡ neg_ℤ (pos o) → c.offered-offer.result ≡ neg_ℤ (pos (o + mark q.graph a.v)) = λ q o laid h d. c.offered-offer.ensures q o laid h (to_z-of_z c.ranges.d ∙ d) in
-    let fits : SFits w32 c.offered-offer.result = record { sfits = c.offered-offer.type_inv } in
-    let so_far : (q : Case) (x : State) (o : ℕ) → let a = c.args in
-    Rep q x a.self.now a.work.now → a.v < q.graph.vertices → a.d ≡ neg_ℤ (pos o) → Halfway q x a.v o c.loop-e.e c.loop-e.self c.loop-e.work = λ q x o rep h d. c.loop-e.invariant.2 q x o rep (ranged q rep.held.laid h) (owner_is q _ _ rep.held.laid h _ c.load_below-own.ensures.0) (to_z-of_z fits ∙ offer-is q o rep.held.laid h d) in
-    let room-left : Room (c.edges_of-edges.result.end - (c.loop-e.e + 1)) c.scan_edge.new.self = let s = c.requires in
-    let v = c.args.v in
-    let laid = s.rep.held.laid in
-    let test = c.loop-e-test.true in
-    let u = so_far s.case s.state s.depth s.rep s.below s.is in
+    let s = c.requires in
+    let l = s.rep.held.laid in
+    let u = so_far a s.case s.state s.depth s.rep s.below s.is in
     let n = c.edges_of-edges.result.end - (c.loop-e.e + 1) in
-    let z : c.edges_of-edges.result.end - c.loop-e.e ≡ n + 1 = omega (arith, test) in
-    room_step v s.depth c.loop-e.e n u.rep
-    (stepped s.case s.state s.depth u (ranged s.case laid s.below) (owner_is s.case _ _ laid s.below _ c.load_below-own.ensures.0)
-    (to_z-of_z fits ∙ offer-is s.case s.depth laid s.below s.is))
-    (rw z at c.loop-e.invariant.4) in
-    let test = c.loop-e-test.true in (
+    let z : c.edges_of-edges.result.end - c.loop-e.e ≡ n + 1 = omega (arith, test) in (
       omega (arith, test),
       omega (arith, c.scan_edge.auto.work, c.loop-e.invariant.1),
       λ q x o rep own p i. half_step q x _ o _ _ own c.loop-e.e _ _ _ _ (c.loop-e.invariant.2 q x o rep own p i) test (stepped q x o (c.loop-e.invariant.2 q x o rep own p i) own p i),
       omega (arith, c.loop-e.invariant.3),
-      room-left,
+      room_step c.args.v s.depth c.loop-e.e n u.rep
+          (stepped s.case s.state s.depth u (ranged a s.case l s.below) (owned a s.case l s.below) (offer-is a s.case s.depth l s.below s.is)) (rw z at c.loop-e.invariant.4),
     )
 
 pub returns : goal.returns
-unfolding ScanSays RangeSays OfferedIs
+unfolding ScanSays
 returns c =
-    let ranged : (q : Case) → let a = c.args in
-    Laid q a.work.now → a.v < q.graph.vertices → Own q a.v c.edges_of-edges.result.start c.edges_of-edges.result.end = λ q laid h. c.edges_of-edges.ensures q laid h in
-    let offer-is : (q : Case) (o : ℕ) → let a = c.args in
-    Laid q a.work.now → a.v < q.graph.vertices → a.d ≡ neg_ℤ (pos o) → c.offered-offer.result ≡ neg_ℤ (pos (o + mark q.graph a.v)) = λ q o laid h d. c.offered-offer.ensures q o laid h (to_z-of_z c.ranges.d ∙ d) in
-    let fits : SFits w32 c.offered-offer.result = record { sfits = c.offered-offer.type_inv } in
-    let so_far : (q : Case) (x : State) (o : ℕ) → let a = c.args in
-    Rep q x a.self.now a.work.now → a.v < q.graph.vertices → a.d ≡ neg_ℤ (pos o) → Halfway q x a.v o c.loop-e.e c.loop-e.self c.loop-e.work = λ q x o rep h d. c.loop-e.invariant.2 q x o rep (ranged q rep.held.laid h) (owner_is q _ _ rep.held.laid h _ c.load_below-own.ensures.0) (to_z-of_z fits ∙ offer-is q o rep.held.laid h d) in
     λ q x o rep h d.
-    half_done q x _ o _ _ (ranged q rep.held.laid h) _ _ _ (so_far q x o rep h d) (omega (arith, c.loop-e-test.false, c.loop-e.invariant.0))
+    let a = (goal.at.returns c).At-loop-e in
+    half_done q x _ o _ _ (ranged a q rep.held.laid h) _ _ _ (so_far a q x o rep h d) (omega (arith, c.loop-e-test.false, c.loop-e.invariant.0))
