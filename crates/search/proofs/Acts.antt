@@ -11,7 +11,7 @@ use borrow.Author.Tests.{lt-ltb, le-ltb, eq-eqb, ne_eqb}
 use lib.Dec.{eqb}
 use lib.ListN.{length, get_or, set, drop, drop_of_length-le}
 use lib.Seq.{drop-cons}
-use lib.IntN.{ℤ, pos}
+use lib.IntN.{ℤ, pos, neg_ℤ}
 use lib.Signed.{lt_z}
 use Rattle.model.specs.Case.{Case, most_vertices, most_edges, most_run_edges, Sound, Within}
 use Rattle.model.specs.Run.{Tallies, deliver_one, State, is_some, ended_lasso, has_ended, with_queues, emptied, full_cells, takes, taken, relax, scan, no_vertex, no_message, counted, depth_or, turn_of, turn, delivery_of, delivery, act, acted, Moment}
@@ -28,11 +28,12 @@ use Rattle.model.specs.Graph.{edge}
 use Rattle.model.specs.Promise.{Balanced, NothingWaits}
 use Rattle.text.proofs.Tests.{Same, same?, same, other, or_left, clash}
 use Rattle.search.specs.declared.run.Run.{Run}
-use Rattle.search.specs.Cells.{far, more, message_at}
+use Rattle.search.specs.Cells.{far, more, message_at, distance_at, head_at}
 use Rattle.search.specs.Rep.{Rep, tallies_in, link}
 use Rattle.search.specs.Asks.{Room, none_waits}
 use Rattle.search.proofs.Stores.{held_cell}
-use Rattle.search.proofs.Steps.{is_broken, not_broken}
+use Rattle.search.proofs.Steps.{is_broken, not_broken, head_is, head_below}
+use Rattle.search.proofs.Stores.{there}
 
 -- COUNTS fit 32 bits, and so do the tallies after one delivery or one scan more
 pub count_small : (c : Case) (x : State) → Sound c → Within c → Moment c x → x.count < 2 ^ 32 - 1
@@ -141,6 +142,22 @@ turned_rep c x k w rep =
       lined = rep.lined;
       counted = record { full = q.full; acts = omega (arith, q.acts); tallied = q.tallied; broke = q.broke; marks = q.marks };
     }
+
+-- a worker's head, once it is taken off: d is read of it then
+module _ {q : Case} {x : State} {k : Run} {w : List ℤ} (p h : ℕ) (rep : Rep q x k w) (pw : p < q.workers) (here : get_or w (head_at + p) (pos 0) ≡ pos h) (some : h ≡ 1 → ⊥) where
+  pub head_split : (r : List ℕ) × (get_or x.queues p [] ≡ (h - 2) ∷ r)
+  head_split = link_split (get_or x.queues p []) h (head_is q x k w p rep pw h here) some
+
+  pub head_low : h - 2 < q.graph.vertices
+  head_low = head_below q x k w p (h - 2) head_split.0 rep pw head_split.1
+
+  abbrev pub without : State
+  without = with_queues (set x.queues p head_split.0) x
+
+  pub head_read : {v : List ℤ} → Rep q without k v → Moment q x → (d : ℤ) → d ≡ get_or v (distance_at + (h - 2)) (pos 0) → d ≡ neg_ℤ (pos (depth_or (get_or x.depths (h - 2) none)))
+  head_read r m d e =
+      let ok = rep.held.laid.sound in
+      e ∙ there r.held.depths (h - 2) head_low ∙ ap far (head_depth q ok p (h - 2) head_split.0 x (moment_known q ok x m).paid.shape head_split.1)
 
 -- DELIVERIES
 pub some_there : (s : Option ℕ) → lt_z (pos 0) (far s) ≡ false → (o : ℕ) × (s ≡ some o)
@@ -254,9 +271,6 @@ pub record Onward (c : Case) (x : State) (acts : List ℕ) (i : ℕ) (k : Run) (
   pub rest : acted c (drop i acts) at ≡ acted c acts x
 
 module _ (c : Case) (x : State) (acts : List ℕ) where
-  pub onward_start : (k : Run) (w : List ℤ) → Rep c x k w → Moment c x → Onward c x acts 0 k w
-  onward_start k w rep p = record { at = x; rep = rep; moment = p; rest = refl }
-
   pub onward_step : (i : ℕ) (k k' : Run) (w w' : List ℤ) → (u : Onward c x acts i k w) → i < length acts → Rep c (act c (get_or acts i 0) u.at) k' w' → Onward c x acts (i + 1) k' w'
   onward_step i k k' w w' u h rep =
       record {

@@ -1,5 +1,5 @@
 -- A sorted list: a number goes to its place among the first of a list, and what holds of the list then. Assumes nothing.
-use mathlib.Core.Path.{◌≡◌, refl, sym, ap, subst, ◌∙◌}
+use mathlib.Core.Path.{◌≡◌, sym, ap, subst, ◌∙◌}
 use mathlib.Core.List.{List}
 use mathlib.Core.Logic.{◌⊎◌, inl, inr}
 use Prim.Native.Nat.{ℕ, ◌+◌, ◌-◌, ◌≤◌, ◌<◌}
@@ -16,9 +16,6 @@ pub record Shifting (many h : ℕ) (l : List ℕ) (i : ℕ) (m : List ℕ) : Typ
   pub kept : (j : ℕ) → j < i → get_or m j 0 ≡ get_or l j 0
   pub moved : (j : ℕ) → i ≤ j → j < many → get_or m (j + 1) 0 ≡ get_or l j 0
   pub high : (j : ℕ) → i ≤ j → j < many → h ≤ get_or l j 0
-
-pub shift_start : (many h : ℕ) (l : List ℕ) → Shifting many h l many l
-shift_start many h l = record { within = omega arith; long = refl; kept = λ j b. refl; moved = λ j a b. absurd (omega arith); high = λ j a b. absurd (omega arith) }
 
 module _ {many h i : ℕ} {l m : List ℕ} (s : Shifting many h l i m) (room : many < length l) where
   pub shift_step : 0 < i → h ≤ get_or m (i - 1) 0 → Shifting many h l (i - 1) (set m i (get_or m (i - 1) 0))

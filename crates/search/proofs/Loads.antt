@@ -6,7 +6,7 @@ use mathlib.Core.Logic.{◌⊎◌, inl, inr}
 use mathlib.Core.Option.{none, some}
 use Prim.Native.Nat.{ℕ, zero, suc, ◌+◌, ◌-◌, ◌≤◌, ◌<◌}
 use native.Mathlib.Omega.{arith}
-use native.Mathlib.Nat.{add-zero, zero-add}
+use native.Mathlib.Nat.{add-zero}
 use native.Mathlib.Numerals.{add-one}
 use borrow.Author.Tests.{eqb-true, ltb-true}
 use lib.Dec.{eqb, ltb}
@@ -25,7 +25,7 @@ use Rattle.casefile.specs.Tables.{Holds}
 use Rattle.search.specs.Cells.{Region, Filled, by_from, by_to, accepting_at, owner_at, from_at, to_at, first_at}
 use Rattle.search.specs.Rep.{FirstEdges, Firsts, no_edge}
 use Rattle.search.specs.Loading.{LoadAsks, LoadSays, RowsAsk, RowsSay, PairAsks, PairSays, PairsAsk, PairsSay, Filed}
-use Rattle.search.proofs.Regions.{same_or, below_or, fill_start, region_below, region_above, region_none, region_grow, region_whole}
+use Rattle.search.proofs.Regions.{same_or, below_or, fill_start, region_below, region_above, region_grow, region_whole}
 
 pub sound_in : (s : List ℕ) → accepted s ≡ true → Sound (case_in s)
 unfolding FilesSound
@@ -57,17 +57,6 @@ pub record RowsLaid (marks owners : List ℕ) (v count : ℕ) (w₀ w : List ℤ
   pub mark_cells : Region pos 0 accepting_at (take v marks) w
   pub owner_cells : Region pos 0 owner_at (take v owners) w
   pub long : length w ≡ length w₀
-
-pub rows_start : (marks owners : List ℕ) (w : List ℤ) → RowsLaid marks owners 0 0 w w
-rows_start marks owners w =
-    record {
-      most = omega arith;
-      counted = zero-add (total marks);
-      few = omega arith;
-      mark_cells = region_none pos 0 accepting_at marks w;
-      owner_cells = region_none pos 0 owner_at owners w;
-      long = refl;
-    }
 
 module _ {marks owners : List ℕ} {v count : ℕ} {w₀ w : List ℤ} (l : RowsLaid marks owners v count w₀ w) (a : RowsAsk marks owners w₀) where
   pub rows_end : length marks ≤ v → RowsSay marks owners count w₀ w
@@ -119,18 +108,6 @@ getD_back : (l : List ℕ) (k e i : ℕ) → length l ≤ i → i < length l + k
 getD_back [] k e i h g = getD_same k e i (omega arith)
 getD_back (a ∷ l) k e zero h g = absurd (omega arith)
 getD_back (a ∷ l) k e (suc i) h g = getD_back l k e i (omega arith) (omega arith)
-
-first_start : (f : ℕ → ℕ) (m : ℕ) (w : List ℤ) → FirstPart f m 0 0 w
-first_start f m w =
-    record {
-      first = [];
-      sized = refl;
-      cells = record { each = λ i h. absurd (omega arith) };
-      below = λ v h. absurd (omega arith);
-      before = λ v j h. absurd (omega arith);
-      after = λ v j h. absurd (omega arith);
-      low = λ j h. absurd (omega arith);
-    }
 
 -- one more edge, which leaves a vertex that has its first edge
 first_on : {f : ℕ → ℕ} {m e next : ℕ} {w : List ℤ} → FirstPart f m e next w → f e < next → FirstPart f m (e + 1) next w
@@ -236,18 +213,6 @@ pub record PairsLaid (froms tos : List ℕ) (n e next : ℕ) (w₀ w : List ℤ)
   pub to_cells : Region pos 0 to_at (take e tos) w
   pub kept : (i : ℕ) → i < from_at → get_or w i (pos 0) ≡ get_or w₀ i (pos 0)
   pub long : length w ≡ length w₀
-
-pub pairs_start : (froms tos : List ℕ) (n : ℕ) (w : List ℤ) → PairsLaid froms tos n 0 0 w w
-pairs_start froms tos n w =
-    record {
-      most = omega arith;
-      within = omega arith;
-      firsts = first_start (λ j. get_or froms j 0) (length froms) w;
-      from_cells = region_none pos 0 from_at froms w;
-      to_cells = region_none pos 0 to_at tos w;
-      kept = λ i h. refl;
-      long = refl;
-    }
 
 -- a fill behind a region leaves it
 region_fill : {A : Type 0} {code : A → ℤ} {d : A} {base : ℕ} {l : List A} {w v : List ℤ} {b k : ℕ} {z : ℤ} → Region code d base l w → Filled b k z w v → base + length l ≤ b → Region code d base l v

@@ -13,10 +13,10 @@ use lib.Dec.{eqb}
 use lib.ListN.{length, get_or, set}
 use lib.IntN.{ℤ, pos}
 use Rattle.model.specs.Graph.{edge, edge_depth, mark}
-use Rattle.model.specs.Case.{Case, owner, most_edges, most_run_edges}
+use Rattle.model.specs.Case.{Case, owner}
 use Rattle.model.specs.Run.{Tallies, put_one, State, is_some, ended_lasso, with_cells, relax, lower, scan_edge, scan_from, scan}
 use Rattle.search.specs.declared.run.Run.{Run}
-use Rattle.search.specs.Cells.{Below, first_at, rest_at}
+use Rattle.search.specs.Cells.{first_at, rest_at}
 use Rattle.search.specs.Rep.{Own, Laid, Rep}
 use Rattle.search.specs.Asks.{Room}
 use Rattle.model.proofs.Few.{relax_tallies}
@@ -24,27 +24,11 @@ use Rattle.search.proofs.Regions.{below_or}
 
 -- FIRST EDGES
 module _ (c : Case) (w : List ℤ) (v : ℕ) (laid : Laid c w) (below : v ≤ c.graph.vertices) where
-  pub first_there : Below (most_edges + 1) (get_or w (first_at + v) (pos 0))
-  first_there =
-      record {
-        number = get_or laid.first v 0;
-        is = laid.first_cells.each v (omega (arith, laid.firsts.sized));
-        less = omega (arith, laid.firsts.below v below, laid.within.file);
-      }
-
   pub first_is : (r : ℕ) → get_or w (first_at + v) (pos 0) ≡ pos r → get_or laid.first v 0 ≡ r
   first_is r e = let z : pos (get_or laid.first v 0) ≡ pos r = sym (laid.first_cells.each v (omega (arith, laid.firsts.sized))) ∙ e in cc
 
 -- THE EDGES of a vertex that goes on are its file edges; of one that rests, its loop
 module _ {c : Case} {w : List ℤ} (v : ℕ) (laid : Laid c w) (below : v < c.graph.vertices) where
-  pub rest_there : get_or laid.first (v + 1) 0 ≤ get_or laid.first v 0 → Below most_run_edges (get_or w (rest_at + v) (pos 0))
-  rest_there h =
-      record {
-        number = get_or laid.rest v 0;
-        is = laid.rest_cells.each v (omega (arith, laid.rests.sized));
-        less = omega (arith, (laid.rests.rests v below h).below, laid.within.edges);
-      }
-
   pub rest_is : (r : ℕ) → get_or w (rest_at + v) (pos 0) ≡ pos r → get_or laid.rest v 0 ≡ r
   rest_is r e = let z : pos (get_or laid.rest v 0) ≡ pos r = sym (laid.rest_cells.each v (omega (arith, laid.rests.sized))) ∙ e in cc
 

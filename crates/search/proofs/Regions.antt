@@ -50,9 +50,6 @@ fill_start b z w = record { long = refl; inside = λ j h g. absurd (omega arith)
 
 -- a region is written from its front: what a loop that lays a list into the cells has done so far
 module _ {A : Type 0} (enc : A → ℤ) (d : A) (base : ℕ) (l : List A) where
-  pub region_none : (w : List ℤ) → Region enc d base (take 0 l) w
-  region_none w = record { each = λ j h. absurd (omega arith) }
-
   pub region_grow : (w : List ℤ) (i : ℕ) (z : ℤ) → Region enc d base (take i l) w → i < length l → base + length l ≤ length w → z ≡ enc (get_or l i d)
       → Region enc d base (take (i + 1) l) (set w (base + i) z)
   region_grow w i z r h fits e = record { each = λ j g. go j (omega (arith, length-take (i + 1) l)) (same_or j i) }

@@ -15,7 +15,7 @@ use Rattle.model.specs.Graph.{Edge, edge, leaves, loop, loops_from, rested}
 use Rattle.model.specs.Case.{Case, resting, most_edges, most_run_edges, Sound, Within}
 use Rattle.model.specs.Promise.{RestingSound}
 use Rattle.model.proofs.Rests.{leaves_at, leaves_none, rests_skip, rests_take, loops_of, resting_sound}
-use Rattle.search.specs.Cells.{Region, Below, by_from, by_to, accepting_at, owner_at, from_at, to_at, first_at, rest_at}
+use Rattle.search.specs.Cells.{Region, by_from, by_to, accepting_at, owner_at, from_at, to_at, first_at, rest_at}
 use Rattle.search.specs.Rep.{Firsts, Own, no_edge, Laid}
 use Rattle.search.specs.Loading.{Filed, Looping}
 use Rattle.search.proofs.Regions.{same_or, below_or, region_below, region_above, region_grow, region_whole}
@@ -98,14 +98,6 @@ module _ {c : Case} {v k : ℕ} {w : List ℤ} (l : Looping c v k w) (below : v 
 
   firsts_many : length f.first ≡ c.graph.vertices + 1
   firsts_many = f.firsts.sized
-
-  pub first_there : (u : ℕ) → u ≤ c.graph.vertices → Below (most_edges + 1) (get_or w (first_at + u) (pos 0))
-  first_there u h =
-      record {
-        number = get_or f.first u 0;
-        is = f.first_cells.each u (omega (arith, firsts_many));
-        less = omega (arith, f.firsts.below u h, f.within.file);
-      }
 
   pub first_is : (u r : ℕ) → u ≤ c.graph.vertices → get_or w (first_at + u) (pos 0) ≡ pos r → get_or f.first u 0 ≡ r
   first_is u r h e = let z : pos (get_or f.first u 0) ≡ pos r = sym (f.first_cells.each u (omega (arith, firsts_many))) ∙ e in cc

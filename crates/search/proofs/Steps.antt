@@ -13,6 +13,8 @@ use lib.Dec.{ltb}
 use lib.ListN.{length, get_or, set}
 use lib.IntN.{ℤ, pos, neg_ℤ, ◌+ℤ◌, neg_ℤ-+ℤ, pos-+ℤ-pos}
 use lib.Signed.{mag}
+use mir.Syntax.{w32}
+use mir.Val.{SFits, to_z, of_z}
 use Rattle.model.specs.Graph.{edge, edge_depth, edge_length, mark, accepting_count}
 use Rattle.model.specs.Case.{Case, owner, most_vertices, most_workers}
 use Rattle.model.specs.Run.{State, is_some, ended_lasso, with_queues, takes, member, enqueue, below_floor, relax, lower, send, scan_edge, put_one}
@@ -22,6 +24,7 @@ use Rattle.search.specs.declared.run.Run.{Run}
 use Rattle.search.specs.Cells.{Below, far, accepting_at, owner_at, to_at, distance_at, parent_at, link_at, message_at, head_at, tail_at}
 use Rattle.search.specs.Rep.{Table, Laid, Rep, tallies_in, held_as, link}
 use Rattle.search.specs.Asks.{LengthIs}
+use Rattle.search.proofs.Numbers.{stored}
 use Rattle.search.proofs.Stores.{there, held_depth, held_parent, held_link, held_cell, held_head, held_tail}
 use Rattle.search.proofs.Queues.{join_first, join_next, leave, chain_marked, true_or, link_low, links_low, last_below}
 
@@ -47,9 +50,6 @@ module _ (c : Case) (w : List ℤ) (v : ℕ) (laid : Laid c w) (below : v < c.gr
   pub owner_is : (p : ℕ) → get_or w (owner_at + v) (pos 0) ≡ pos p → owner c v ≡ p
   unfolding owner
   owner_is p e = let z : pos (owner c v) ≡ pos p = sym (laid.owner_cells.each v (omega (arith, laid.sound.owned))) ∙ e in cc
-
-  pub mark_there : Below 2 (get_or w (accepting_at + v) (pos 0))
-  mark_there = record { number = mark c.graph v; is = laid.mark_cells.each v (omega (arith, laid.sound.marks)); less = laid.sound.mark v below }
 
   pub mark_is : (m : ℕ) → get_or w (accepting_at + v) (pos 0) ≡ pos m → mark c.graph v ≡ m
   mark_is m e = let z : pos (mark c.graph v) ≡ pos m = sym (laid.mark_cells.each v (omega (arith, laid.sound.marks))) ∙ e in cc
@@ -230,7 +230,7 @@ module _ (c : Case) (w : List ℤ) (e : ℕ) (laid : Laid c w) (below : e < leng
   pub target_below : (v : ℕ) → get_or w (to_at + e) (pos 0) ≡ pos v → v < c.graph.vertices
   target_below v g = rw (target_is v g) (laid.sound.to e below)
 
-pub relax_offered : (c : Case) (x : State) (k : Run) (w : List ℤ) (e v o : ℕ) → Rep c x k w → v < c.graph.vertices
+relax_offered : (c : Case) (x : State) (k : Run) (w : List ℤ) (e v o : ℕ) → Rep c x k w → v < c.graph.vertices
     → Rep c (offered x v o e) k (set (set w (distance_at + v) (neg_ℤ (pos o))) (parent_at + v) (pos (e + 1)))
 relax_offered c x k w e v o rep h =
     rw (add-one e)
@@ -242,6 +242,11 @@ relax_offered c x k w e v o rep h =
       lined = rep.lined;
       counted = rep.counted;
     })
+
+-- by two stores
+pub relax_written : {c : Case} {x : State} {k : Run} {w u z : List ℤ} {d : ℤ} (e v o : ℕ) → Rep c x k w → v < c.graph.vertices → SFits w32 d → d ≡ neg_ℤ (pos o)
+    → u ≡ set w (distance_at + v) (to_z w32 (of_z w32 d)) → z ≡ set u (parent_at + v) (pos (e + 1)) → Rep c (offered x v o e) k z
+relax_written {c} {x} {k} {w} {u} e v o rep h f p s t = rw (t, stored u w (distance_at + v) _ o f s p) (relax_offered c x k w e v o rep h)
 
 pub relax_kept : (c : Case) (x : State) (k : Run) (w : List ℤ) (e v o : ℕ) → Rep c x k w → v ≡ (edge c.graph e).to → takes (get_or x.depths v none) o ≡ false → Rep c (relax c e o x) k w
 unfolding relax

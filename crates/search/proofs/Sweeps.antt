@@ -54,9 +54,6 @@ pub record Along (c : Case) (x : State) (s t i : ℕ) (k : Run) (w : List ℤ) :
   pub rest : acted c (range (t - i) i) at ≡ acted c (range (t - s) s) x
 
 module _ (c : Case) (x : State) (s t : ℕ) where
-  pub along_start : (k : Run) (w : List ℤ) → Rep c x k w → Moment c x → Along c x s t s k w
-  along_start k w rep p = record { at = x; rep = rep; moment = p; rest = refl }
-
   pub along_step : (i : ℕ) (k k' : Run) (w w' : List ℤ) → (u : Along c x s t i k w) → i < t → Rep c (act c i u.at) k' w' → Along c x s t (i + 1) k' w'
   along_step i k k' w w' u h rep =
       let j : t - i ≡ suc (t - (i + 1)) = omega arith in
@@ -259,7 +256,7 @@ module _ (c : Case) (x : State) (p : ℕ) (e : p ≡ c.workers) where
       }
 
   pub turns_done : (H : List ℕ) (n w : ℕ) (k : Run) (cells : List ℤ) → (u : Turning c x p H n w k cells) → p ≤ w → n ≤ p
-      → TurnsLeave c (acted c (range c.workers 0) x) (record { run = k; scanned = n }) cells H
+      → TurnsLeave c (acted c (range c.workers 0) x) k n cells H
   turns_done H n w k cells u l m =
       let z : p - 0 ≡ c.workers = omega arith in
       let i : u.along.at ≡ acted c (range c.workers 0) x = along_is c x 0 p w k cells u.along l ∙ rw z in

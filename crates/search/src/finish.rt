@@ -4,7 +4,7 @@ ghost use Rattle.std.specs.Prelude.{◌≡◌};
 
 use crate::answer::{write_empty, write_lasso};
 use crate::cells::{Cells, clear};
-use crate::run::{Run, acts_done, is_over};
+use crate::run::Run;
 use crate::show::show_lasso;
 use casefile::Case;
 use model::{Outcome, Refusal, Verdict};
@@ -53,8 +53,8 @@ pub(crate) fn finish(output: &mut [u8], work: &mut [i32], run: Run, case: Case) 
     requires { FinishAsks run case.workers case.vertices case.source work.old output.old }
     ensures { FinishSays run case.workers case.vertices case.source result work.old work.new output.old output.new }
 {
-    let acts = acts_done(run);
-    if !is_over(work, run, case.workers) {
+    let acts = run.acts_done();
+    if !run.is_over(work, case.workers) {
         clear(work);
         return Outcome {
             refusal: Refusal::Unended.number(),

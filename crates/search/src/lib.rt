@@ -22,8 +22,7 @@ use casefile::{Case, CaseTables, read_case};
 use finish::finish;
 use load::{load_case, load_loops};
 use model::{Outcome, Refusal};
-use rounds::run_by_rounds;
-use run::{Run, act_list};
+use run::Run;
 
 // The outcome of a refused call.
 fn refused(refusal: Refusal) -> Outcome
@@ -104,8 +103,8 @@ pub fn run_list(case: &[u8], acts: &[u32], output: &mut [u8], work: &mut [i32]) 
         Err(refusal) => refused(refusal),
         Ok(loaded) => {
             let case = loaded.case;
-            let fresh = Run::fresh(work, case.source, loaded.marks);
-            let run = act_list(work, fresh, acts, case.workers);
+            let mut run = Run::fresh(work, case.source, loaded.marks);
+            run.act_list(work, acts, case.workers);
             finish(output, work, run, case)
         }
     }
@@ -122,8 +121,8 @@ pub fn run_rounds(case: &[u8], output: &mut [u8], work: &mut [i32]) -> Outcome
         Err(refusal) => refused(refusal),
         Ok(loaded) => {
             let case = loaded.case;
-            let fresh = Run::fresh(work, case.source, loaded.marks);
-            let run = run_by_rounds(work, fresh, case.workers, case.vertices, loaded.edges);
+            let mut run = Run::fresh(work, case.source, loaded.marks);
+            run.run_by_rounds(work, case.workers, case.vertices, loaded.edges);
             finish(output, work, run, case)
         }
     }

@@ -4,7 +4,7 @@ ghost use Rattle.std.specs.Prelude.{◌<◌, length};
 ghost use Rattle.search.specs.Asks.{Inserted, TurnsAsk, TurnsSay, EdgesAsk, EdgesSay, SweepAsks, SweepSays, RoundSays, RoundsAsk, RoundsDone, ByRoundsAsks, ByRoundsSays};
 
 use super::cells::{Cells, QUEUE_END, QUEUED, load_below};
-use super::run::{Run, act, deliver, none_full};
+use super::run::Run;
 use casefile::Case;
 
 // Puts h into its place among the first `many` numbers of a list, which rise; those behind it move up by one.
@@ -22,108 +22,88 @@ pub(crate) fn insert(list: &mut [usize], many: usize, h: usize)
     list[0] = h;
 }
 
-// What a round and its turns leave: the run, and how many vertices were scanned.
-#[derive(Clone, Copy)]
-pub(crate) struct Turned {
-    pub run: Run,
-    pub scanned: usize,
-}
-
-// Every turn by worker number. The vertices that are scanned, coded as a queue's head, stand in rising order at the
-// front of `heads`.
-pub(crate) fn turns(work: &mut [i32], run: Run, p: usize, heads: &mut [usize]) -> Turned
-    requires { TurnsAsk p run work.old (length heads.old) }
-    ensures { TurnsSay p run result work.old work.new heads.new }
-{
-    let mut r = run;
-    let mut scanned: usize = 0;
-    for w in 0..p {
-        let head = load_below(work, Cells::HEAD + w, Case::MOST_VERTICES + QUEUED);
-        if head == QUEUE_END {
-            continue;
+impl Run {
+    // Every turn by worker number. The vertices that are scanned, coded as a queue's head, stand in rising order at the
+    // front of `heads`. Gives how many they are.
+    fn turns(&mut self, work: &mut [i32], p: usize, heads: &mut [usize]) -> usize
+        requires { TurnsAsk p self.old work.old (length heads.old) }
+        ensures { TurnsSay p self.old self.new result work.old work.new heads.new }
+    {
+        let mut scanned: usize = 0;
+        for w in 0..p {
+            let head = load_below(work, Cells::HEAD + w, Case::MOST_VERTICES + QUEUED);
+            if head == QUEUE_END {
+                continue;
+            }
+            self.act(work, w, p);
+            insert(heads, scanned, head);
+            scanned += 1;
         }
-        r = act(work, r, w, p);
-        insert(heads, scanned, head);
-        scanned += 1;
+        scanned
     }
-    Turned {
-        run: r,
-        scanned: scanned,
-    }
-}
 
-// Every delivery on the edges of a vertex, by edge number.
-pub(crate) fn deliver_edges(work: &mut [i32], run: Run, v: usize, p: usize) -> Run
-    requires { EdgesAsk v p run work.old }
-    ensures { EdgesSay v p run result work.old work.new }
-{
-    let end = load_below(work, Cells::FIRST + (v + 1), Case::MOST_EDGES + 1);
-    let first = load_below(work, Cells::FIRST + v, Case::MOST_EDGES + 1);
-    let mut r = run;
-    for e in first..end {
-        if r.broken.is_some() {
-            return r;
-        }
-        r = deliver(work, r, e);
-    }
-    r
-}
-
-// Every delivery by edge number, where only edges of the vertices in `heads` have messages: those vertices in rising
-// order, until no cell has a message.
-pub(crate) fn sweep(work: &mut [i32], run: Run, p: usize, heads: &[usize]) -> Run
-    requires { SweepAsks p heads.now run work.old }
-    ensures { SweepSays p heads.now run result work.old work.new }
-{
-    let mut r = run;
-    for head in heads {
-        if none_full(r) {
-            return r;
-        }
-        r = deliver_edges(work, r, *head - QUEUED, p);
-    }
-    r
-}
-
-// A round. The list for the vertices that it scans is lent.
-pub(crate) fn round(work: &mut [i32], run: Run, p: usize, heads: &mut [usize]) -> Turned
-    requires { TurnsAsk p run work.old (length heads.old) }
-    ensures { RoundSays p run result work.old work.new (length heads.old) }
-{
-    let turned = turns(work, run, p, heads);
-    let scanned = turned.scanned;
-    let swept = sweep(work, turned.run, p, &heads[..scanned]);
-    Turned {
-        run: swept,
-        scanned: scanned,
-    }
-}
-
-// Rounds, at most so many, to the end of the run: the floor is broken, or a round had nothing to scan.
-pub(crate) fn rounds(work: &mut [i32], run: Run, many: usize, p: usize) -> Run
-    requires { RoundsAsk p run work.old }
-    ensures { RoundsDone many p run result work.old work.new }
-{
-    let mut heads = [0usize; Case::MOST_WORKERS];
-    let mut r = run;
-    for _ in 0..many {
-        if r.broken.is_some() {
-            return r;
-        }
-        let done = round(work, r, p, &mut heads);
-        r = done.run;
-        if done.scanned == 0 {
-            return r;
+    // Every delivery on the edges of a vertex, by edge number.
+    fn deliver_edges(&mut self, work: &mut [i32], v: usize, p: usize)
+        requires { EdgesAsk v p self.old work.old }
+        ensures { EdgesSay v p self.old self.new work.old work.new }
+    {
+        let end = load_below(work, Cells::FIRST + (v + 1), Case::MOST_EDGES + 1);
+        let first = load_below(work, Cells::FIRST + v, Case::MOST_EDGES + 1);
+        for e in first..end {
+            if self.broken.is_some() {
+                return;
+            }
+            self.deliver(work, e);
         }
     }
-    r
-}
 
-// The run by rounds, from a fresh run: most acts are (n + m) × (A + 1), so that many rounds reach the end.
-pub(crate) fn run_by_rounds(work: &mut [i32], run: Run, p: usize, n: usize, m: usize) -> Run
-    requires { ByRoundsAsks p n m run work.old }
-    ensures { ByRoundsSays p n m run result work.old work.new }
-{
-    let many = (n + m) * (run.marks as usize + 1);
-    rounds(work, run, many, p)
+    // Every delivery by edge number, where only edges of the vertices in `heads` have messages: those vertices in rising
+    // order, until no cell has a message.
+    fn sweep(&mut self, work: &mut [i32], p: usize, heads: &[usize])
+        requires { SweepAsks p heads.now self.old work.old }
+        ensures { SweepSays p heads.now self.old self.new work.old work.new }
+    {
+        for head in heads {
+            if self.none_full() {
+                return;
+            }
+            self.deliver_edges(work, *head - QUEUED, p);
+        }
+    }
+
+    // A round. The list for the vertices that it scans is lent. Gives how many they are.
+    fn round(&mut self, work: &mut [i32], p: usize, heads: &mut [usize]) -> usize
+        requires { TurnsAsk p self.old work.old (length heads.old) }
+        ensures { RoundSays p self.old self.new result work.old work.new (length heads.old) }
+    {
+        let scanned = self.turns(work, p, heads);
+        self.sweep(work, p, &heads[..scanned]);
+        scanned
+    }
+
+    // Rounds, at most so many, to the end of the run: the floor is broken, or a round had nothing to scan.
+    fn rounds(&mut self, work: &mut [i32], many: usize, p: usize)
+        requires { RoundsAsk p self.old work.old }
+        ensures { RoundsDone many p self.old self.new work.old work.new }
+    {
+        let mut heads = [0usize; Case::MOST_WORKERS];
+        for _ in 0..many {
+            if self.broken.is_some() {
+                return;
+            }
+            let scanned = self.round(work, p, &mut heads);
+            if scanned == 0 {
+                return;
+            }
+        }
+    }
+
+    // The run by rounds, from a fresh run: most acts are (n + m) × (A + 1), so that many rounds reach the end.
+    pub(crate) fn run_by_rounds(&mut self, work: &mut [i32], p: usize, n: usize, m: usize)
+        requires { ByRoundsAsks p n m self.old work.old }
+        ensures { ByRoundsSays p n m self.old self.new work.old work.new }
+    {
+        let many = (n + m) * (self.marks as usize + 1);
+        self.rounds(work, many, p);
+    }
 }

@@ -14,17 +14,17 @@ load_text-requires c =
     let a = c.args in
     (buffers_enough (length a.output.now) _ (sym c.too_short.ensures ∙ c.if-too_short.false)).1
 
-pub fresh-fresh-requires : goal.fresh-fresh-requires
-fresh-fresh-requires c = fresh_asks _ _ _ _ _ _ _ c.in-Ok.ensures
+pub fresh-run-requires : goal.fresh-run-requires
+fresh-run-requires c = fresh_asks _ _ _ _ _ _ _ c.in-Ok.ensures
 
-pub run_by_rounds-run-requires : goal.run_by_rounds-run-requires
-run_by_rounds-run-requires c = rounds_asks _ _ _ _ _ _ _ c.in-Ok.ensures _ _ c.fresh-fresh.ensures
+pub run_by_rounds-requires : goal.run_by_rounds-requires
+run_by_rounds-requires c = rounds_asks _ _ _ _ _ _ _ c.in-Ok.ensures _ _ c.fresh-run.ensures
 
 pub finish-requires : goal.finish-requires
-finish-requires c = rounds_finish _ _ _ _ _ _ _ c.in-Ok.ensures _ _ c.fresh-fresh.ensures _ _ _ (sym c.too_short.ensures ∙ c.if-too_short.false) c.run_by_rounds-run.ensures
+finish-requires c = rounds_finish _ _ _ _ _ _ _ c.in-Ok.ensures _ _ c.fresh-run.ensures _ _ _ (sym c.too_short.ensures ∙ c.if-too_short.false) c.run_by_rounds.ensures
 
 pub returns-in-Err : goal.returns-in-Err
 returns-in-Err c = rw c.refused-in-Err.ensures (rounds_turned _ [] _ _ (sym c.too_short.ensures ∙ c.if-too_short.false) _ _ c.in-Err.ensures)
 
 pub returns-in-Ok : goal.returns-in-Ok
-returns-in-Ok c = rounds_say _ _ _ _ _ _ _ c.in-Ok.ensures _ _ c.fresh-fresh.ensures _ _ _ (sym c.too_short.ensures ∙ c.if-too_short.false) c.run_by_rounds-run.ensures c.finish.ensures (omega (arith, c.run_by_rounds-run.auto.work, c.fresh-fresh.auto.work, c.load_text.auto.work))
+returns-in-Ok c = rounds_say _ _ _ _ _ _ _ c.in-Ok.ensures _ _ c.fresh-run.ensures _ _ _ (sym c.too_short.ensures ∙ c.if-too_short.false) c.run_by_rounds.ensures c.finish.ensures (omega (arith, c.run_by_rounds.auto.work, c.fresh-run.auto.work, c.load_text.auto.work))

@@ -21,9 +21,6 @@ loop-v-preserved c =
     let i = c.loop-v.invariant in
     (omega (arith, c.loop-v-test.true), omega (arith, c.load_loop-k.auto.work, i.1), λ q f a b. c.load_loop-k.ensures q (i.2 q f a b) (omega (arith, c.loop-v-test.true, a)))
 
-pub shape_of-work : goal.shape_of-work
-shape_of-work c = c.loop-v.invariant.1
-
 pub returns : goal.returns
 unfolding LoopsSay resting rested
 returns c =

@@ -8,9 +8,6 @@ use Rattle.search.proofs.Steps.{head_there, head_is}
 use Rattle.search.proofs.Queues.{link_one, some_vertex, all_empty, one_more}
 use Rattle.search.proofs.queue.none_queued.Goals as goal
 
-pub loop-w-init : goal.loop-w-init
-loop-w-init c = (omega arith, λ q x k rep e j h. absurd (omega arith))
-
 pub load_below-head-requires : goal.load_below-head-requires
 load_below-head-requires c =
     let s = c.requires in

@@ -2,19 +2,10 @@
 use mathlib.Core.Path.{◌≡◌, subst}
 use Prim.Native.Nat.{ℕ, ◌+◌, ◌-◌}
 use native.Mathlib.Omega.{arith}
-use lib.ListN.{set, length-set}
+use lib.ListN.{set}
 use Rattle.search.specs.Asks.{Inserted}
-use Rattle.search.proofs.Inserts.{shift_start, shift_step, shift_done}
+use Rattle.search.proofs.Inserts.{shift_step, shift_done}
 use Rattle.search.proofs.rounds.insert.Goals as goal
-
-pub loop-i-init : goal.loop-i-init
-loop-i-init c = shift_start _ _ _
-
-pub bounds-list-i : goal.bounds-list-i
-bounds-list-i c = let s = c.loop-i.invariant in omega (arith, s.within, s.long, c.requires, c.loop-i-test.true)
-
-pub shape_of-list-then-list-i : goal.shape_of-list-then-list-i
-shape_of-list-then-list-i c = simp length-set c.loop-i.invariant.long
 
 pub returns-then-list-i : goal.returns-then-list-i
 returns-then-list-i c =
@@ -25,12 +16,6 @@ pub loop-i-preserved : goal.loop-i-preserved
 loop-i-preserved c =
     let up : c.loop-i.i - 1 + 1 ≡ c.loop-i.i = omega (arith, c.loop-i-test.true) in
     rw up (shift_step c.loop-i.invariant c.requires c.loop-i-test.true c.if-list-i.false)
-
-pub bounds-list-0 : goal.bounds-list-0
-bounds-list-0 c = let s = c.loop-i.invariant in omega (arith, s.within, s.long, c.requires)
-
-pub shape_of-list : goal.shape_of-list
-shape_of-list c = simp length-set c.loop-i.invariant.long
 
 pub returns : goal.returns
 returns c =

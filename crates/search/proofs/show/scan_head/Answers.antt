@@ -1,9 +1,6 @@
 -- `scan_head` meets its contract. The invariant: the edges below e of the vertex at the head are scanned.
-use mathlib.Core.Path.{◌≡◌}
 use Prim.Native.Nat.{◌<◌}
 use native.Mathlib.Omega.{arith}
-use lib.ListN.{length}
-use Rattle.model.specs.Graph.{edge as edge_of}
 use Rattle.model.specs.Case.{Case}
 use Rattle.search.specs.Cells.{found_at}
 use Rattle.search.specs.Rep.{Own, Laid}
@@ -12,6 +9,7 @@ use Rattle.search.specs.Show.{Searching, Tried, Scans}
 use Rattle.search.proofs.Frames.{kept_same, kept_more, laid_kept}
 use Rattle.search.proofs.Search.{head_there, vertex_low, scan_start, scan_edge, scan_done}
 use Rattle.search.proofs.show.scan_head.Goals as goal
+use Rattle.search.proofs.show.scan_head.Goals.{After-edges_of-edges}
 
 pub overflow_add-head : goal.overflow_add-head
 overflow_add-head c = let s = c.requires in omega (arith, (head_there _ _ _ _ s.laid s.search s.on).0)
@@ -23,33 +21,23 @@ load_below-v-requires c =
     (omega (arith, h.0, s.laid.long), h.1)
 
 pub edges_of-edges-requires : goal.edges_of-edges-requires
-edges_of-edges-requires c =
-    let vertex : let a = c.args in
-    (q : Case) → Laid q a.work.now → Searching q a.head 0 a.tail a.work.now → a.head < a.tail → c.load_below-v.result < q.graph.vertices = λ q l s i. vertex_low q _ _ _ l s i _ c.load_below-v.ensures.0 in
-    let s = c.requires in record { case = s.case; laid = s.laid; below = vertex s.case s.laid s.search s.on }
+edges_of-edges-requires c = let s = c.requires in record { case = s.case; laid = s.laid; below = vertex_low s.case _ _ _ s.laid s.search s.on _ c.load_below-v.ensures.0 }
+
+own : (c : After-edges_of-edges) (q : Case) → Laid q c.args.work.now → Searching q c.args.head 0 c.args.tail c.args.work.now → c.args.head < c.args.tail → Own q c.load_below-v.result c.edges_of-edges.result.start c.edges_of-edges.result.end
+unfolding RangeSays
+own c q l s i = c.edges_of-edges.ensures q l (vertex_low q _ _ _ l s i _ c.load_below-v.ensures.0)
 
 pub loop-e-init : goal.loop-e-init
-unfolding RangeSays
 loop-e-init c =
-    let vertex : let a = c.args in
-    (q : Case) → Laid q a.work.now → Searching q a.head 0 a.tail a.work.now → a.head < a.tail → c.load_below-v.result < q.graph.vertices = λ q l s i. vertex_low q _ _ _ l s i _ c.load_below-v.ensures.0 in
-    let own : let a = c.args in
-    (q : Case) → Laid q a.work.now → Searching q a.head 0 a.tail a.work.now → a.head < a.tail → Own q c.load_below-v.result c.edges_of-edges.result.start c.edges_of-edges.result.end = λ q l s i. c.edges_of-edges.ensures q l (vertex q l s i) in
-    (omega arith, kept_same _ _, λ q l s i. scan_start q _ _ _ l s i _ c.load_below-v.ensures.0 _ _ (own q l s i))
+    let a = (goal.at.loop-e-init c).After-edges_of-edges in
+    (omega arith, kept_same _ _, λ q l s i. scan_start q _ _ _ l s i _ c.load_below-v.ensures.0 _ _ (own a q l s i))
 
 pub try_edge-last-requires : goal.try_edge-last-requires
-unfolding RangeSays
 try_edge-last-requires c =
-    let vertex : let a = c.args in
-    (q : Case) → Laid q a.work.now → Searching q a.head 0 a.tail a.work.now → a.head < a.tail → c.load_below-v.result < q.graph.vertices = λ q l s i. vertex_low q _ _ _ l s i _ c.load_below-v.ensures.0 in
-    let own : let a = c.args in
-    (q : Case) → Laid q a.work.now → Searching q a.head 0 a.tail a.work.now → a.head < a.tail → Own q c.load_below-v.result c.edges_of-edges.result.start c.edges_of-edges.result.end = λ q l s i. c.edges_of-edges.ensures q l (vertex q l s i) in
-    let edge : let a = c.args in
-    (q : Case) → Laid q a.work.now → Searching q a.head 0 a.tail a.work.now → a.head < a.tail →
-    (c.loop-e.e < length q.graph.edges) × ((edge_of q.graph c.loop-e.e).from ≡ c.load_below-v.result) = λ q l s i. scan_edge q _ _ _ l s i _ c.load_below-v.ensures.0 _ _ (own q l s i) _ c.loop-e.invariant.0 c.loop-e-test.true in
+    let a = (goal.at.try_edge-last-requires c).After-edges_of-edges in
     let s = c.requires in
     let i = c.loop-e.invariant in
-    let b = edge s.case s.laid s.search s.on in
+    let b = scan_edge s.case _ _ _ s.laid s.search s.on _ c.load_below-v.ensures.0 _ _ (own a s.case s.laid s.search s.on) _ i.0 c.loop-e-test.true in
     record {
       case = s.case;
       head = _;
@@ -61,27 +49,20 @@ try_edge-last-requires c =
     }
 
 pub loop-e-preserved : goal.loop-e-preserved
-unfolding Tried RangeSays
+unfolding Tried
 loop-e-preserved c =
-    let vertex : let a = c.args in
-    (q : Case) → Laid q a.work.now → Searching q a.head 0 a.tail a.work.now → a.head < a.tail → c.load_below-v.result < q.graph.vertices = λ q l s i. vertex_low q _ _ _ l s i _ c.load_below-v.ensures.0 in
-    let own : let a = c.args in
-    (q : Case) → Laid q a.work.now → Searching q a.head 0 a.tail a.work.now → a.head < a.tail → Own q c.load_below-v.result c.edges_of-edges.result.start c.edges_of-edges.result.end = λ q l s i. c.edges_of-edges.ensures q l (vertex q l s i) in
-    let edge : let a = c.args in
-    (q : Case) → Laid q a.work.now → Searching q a.head 0 a.tail a.work.now → a.head < a.tail →
-    (c.loop-e.e < length q.graph.edges) × ((edge_of q.graph c.loop-e.e).from ≡ c.load_below-v.result) = λ q l s i. scan_edge q _ _ _ l s i _ c.load_below-v.ensures.0 _ _ (own q l s i) _ c.loop-e.invariant.0 c.loop-e-test.true in
-    let i = c.loop-e.invariant in
-    (omega (arith, i.0), kept_more _ _ _ _ i.1 c.try_edge-last.ensures.0, λ q l s h. let b = edge q l s h in c.try_edge-last.ensures.1 q _ _ (laid_kept q found_at _ _ (omega arith) i.1 l) (i.2 q l s h) b.0 b.1)
-
-pub shape_of-work : goal.shape_of-work
-shape_of-work c = c.loop-e.invariant.1.long
+    let a = (goal.at.loop-e-preserved c).After-edges_of-edges in
+    let i = c.loop-e.invariant in (
+      omega (arith, i.0),
+      kept_more _ _ _ _ i.1 c.try_edge-last.ensures.0,
+      λ q l s h.
+          let b = scan_edge q _ _ _ l s h _ c.load_below-v.ensures.0 _ _ (own a q l s h) _ i.0 c.loop-e-test.true in
+          c.try_edge-last.ensures.1 q _ _ (laid_kept q found_at _ _ (omega arith) i.1 l) (i.2 q l s h) b.0 b.1,
+    )
 
 pub returns : goal.returns
-unfolding Scans RangeSays
+unfolding Scans
 returns c =
-    let vertex : let a = c.args in
-    (q : Case) → Laid q a.work.now → Searching q a.head 0 a.tail a.work.now → a.head < a.tail → c.load_below-v.result < q.graph.vertices = λ q l s i. vertex_low q _ _ _ l s i _ c.load_below-v.ensures.0 in
-    let own : let a = c.args in
-    (q : Case) → Laid q a.work.now → Searching q a.head 0 a.tail a.work.now → a.head < a.tail → Own q c.load_below-v.result c.edges_of-edges.result.start c.edges_of-edges.result.end = λ q l s i. c.edges_of-edges.ensures q l (vertex q l s i) in
+    let a = (goal.at.returns c).After-edges_of-edges in
     let i = c.loop-e.invariant in
-    (i.1, λ q l s h. scan_done q _ _ _ l s h _ c.load_below-v.ensures.0 _ _ (own q l s h) _ _ _ (i.2 q l s h) (omega arith))
+    (i.1, λ q l s h. scan_done q _ _ _ l s h _ c.load_below-v.ensures.0 _ _ (own a q l s h) _ _ _ (i.2 q l s h) (omega arith))

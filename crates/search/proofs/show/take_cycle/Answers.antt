@@ -23,9 +23,6 @@ parent_edge-e-requires c =
     let r = under in
     record { case = s.case; parents = s.parents; lies = r.lies; chained = r.chained }
 
-pub overflow_sub-at : goal.overflow_sub-at
-overflow_sub-at c = omega (arith, c.loop.invariant.0)
-
 pub store_number-requires : goal.store_number-requires
 unfolding ParentIs
 store_number-requires c =
@@ -71,9 +68,6 @@ loop-preserved c =
     let s = (goal.at.loop-preserved c).After-one_back-v in
     let i = c.loop.invariant in
     (omega arith, omega (arith, i.1), put s, stepped s _ (λ e. absurd (c.if-v-start.false e)) (λ n. omega arith))
-
-pub shape_of-work : goal.shape_of-work
-shape_of-work c = c.loop.invariant.2.long
 
 pub returns : goal.returns
 unfolding Cycled
