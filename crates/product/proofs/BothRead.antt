@@ -34,11 +34,11 @@ use Rattle.claim.proofs.EntryCode.{SomeClaim, judged_by}
 use Rattle.chart.specs.Pairs.{table_after, most_combinations, most_pairs, one_rule}
 use Rattle.chart.specs.Reading.{counts_in, returned, ChartRead}
 use Rattle.chart.specs.declared.Chart as D
-use Rattle.chart.specs.declared.Read.{Read}
-use Rattle.chart.specs.declared.Read.TheVariants.{Faulty, Bad, Accepted}
+use Rattle.chart.specs.declared.NoChart.{NoChart}
+use Rattle.chart.specs.declared.NoChart.TheVariants.{Fault, Bad}
 use Rattle.chart.proofs.Whole.{PassedRead, passed_read, bad_read, read_returns, handed_at}
 use Rattle.product.specs.Edges.{most_product, Leads, Asks}
-use Rattle.product.specs.Refused.{refused_as, refused_by, refused_pair, built_as}
+use Rattle.product.specs.Refused.{refused_as, refused_by, refused_pair, refused_chart, built_as}
 use Rattle.product.specs.Both.{texts_refusal, BothAsks, BothHeld, BothRefused}
 
 -- WHICH REFUSAL of both texts comes first
@@ -86,22 +86,19 @@ chart_refused bs cs c e n =
     let k : texts_refusal bs cs ≡ c.refusal = by_chart bs cs (λ z. n (sym (ap (λ (x : Charted). x.refusal) e) ∙ z)) ∙ ap (λ (x : Charted). x.refusal) e in
     record { fails = λ z. n (sym k ∙ z); says = λ t o. rw (k, e) (pair_says c (rw e at (charts_definite bs)) n t o) }
 
-pub chart_faulty : (bs cs : List ℕ) {t t' : List ℕ} {r : Read} → ChartRead bs r t t' → r ≡ Faulty → BothRefused bs cs (refused_by ChartFault)
+pub chart_no : (bs cs : List ℕ) (n : NoChart) {t t' : List ℕ} → ChartRead bs (Err n) t t' → BothRefused bs cs (refused_chart n)
 unfolding returned
-chart_faulty bs cs g q = chart_refused bs cs (charted 17 0 0) (sym (read_returns g q)) (λ z. omega arith)
-
-pub chart_bad : (bs cs : List ℕ) {t t' : List ℕ} {r : Read} {x : D.Chart} {c : Charted} → ChartRead bs r t t' → r ≡ Bad x c
-    → BothRefused bs cs (refused_pair c)
-chart_bad bs cs {c = c} g q = let b = bad_read g q in chart_refused bs cs c b.said (not_zero b.refusal)
+chart_no bs cs Fault g = chart_refused bs cs (charted 17 0 0) (sym (read_returns g refl)) (λ z. omega arith)
+chart_no bs cs (Bad h c) g = let b = bad_read g refl in chart_refused bs cs c b.said (not_zero b.refusal)
   where
     not_zero : (c.refusal ≡ 18) ⊎ (c.refusal ≡ 19) → c.refusal ≡ 0 → ⊥
     not_zero (inl e) z = omega arith
     not_zero (inr e) z = omega arith
 
 -- AFTER AN ACCEPTED CHART
-module _ (bs cs : List ℕ) {t follow : List ℕ} {r : Read} {x : D.Chart} (g : ChartRead bs r t follow) (q : r ≡ Accepted x) where
+module _ (bs cs : List ℕ) {t follow : List ℕ} {x : D.Chart} (g : ChartRead bs (Ok x) t follow) where
   read : PassedRead bs x
-  read = passed_read g q
+  read = passed_read g refl
 
   module _ {w cells : List ℕ} {k : Refusal} (d : ClaimRead cs (Err k) w cells) where
     number_is : number k ≡ claim_refusal cs

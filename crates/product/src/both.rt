@@ -3,7 +3,7 @@ ghost use Rattle.product.specs.Both.{BothAsks, BothSays};
 
 use crate::edges::Sizes;
 use crate::refused::Refused;
-use chart::{Read, combinations, read_chart};
+use chart::{combinations, read_chart};
 use claim::read_claim;
 use model::Refusal;
 
@@ -17,20 +17,16 @@ pub(crate) fn read_both(
     requires { BothAsks follow.old cells.old }
     ensures { BothSays chart.now claim.now result follow.new cells.new }
 {
-    let counts = match read_chart(chart, follow) {
-        Read::Faulty => return Err(Refused::from(Refusal::ChartFault)),
-        Read::Bad(_, said) => return Err(Refused::from(said)),
-        Read::Accepted(counts) => counts,
-    };
-    let read = read_claim(claim, cells)?;
-    if read.propositions as usize != counts.flags {
+    let chart = read_chart(chart, follow)?;
+    let claim = read_claim(claim, cells)?;
+    if claim.propositions as usize != chart.flags {
         return Err(Refused::from(Refusal::CountsDiffer));
     }
-    let states = read.states as usize;
+    let states = claim.states as usize;
     Ok(Sizes {
-        modes: counts.modes,
+        modes: chart.modes,
         states,
-        count: combinations(counts.flags),
-        source: counts.start * states + read.start as usize,
+        count: combinations(chart.flags),
+        source: chart.start * states + claim.start as usize,
     })
 }

@@ -1,10 +1,12 @@
 // Why nothing is written, and what an entry returns. Contracts cite specs/Refused.antt.
 ghost use Rattle.std.specs.Prelude.{◌≡◌};
-ghost use Rattle.product.specs.Refused.{refused_by, refused_pair, built_as};
+ghost use Rattle.product.specs.Refused.{refused_by, refused_chart, built_as};
 
-use model::{Built, Charted, Refusal};
+use chart::NoChart;
+use model::{Built, Refusal};
 
-// A refusal; of a chart's 18 and 19 with its first bad pair, else with 0 and 0.
+// A refusal's number, as the C interface has it in `Charted` and `Checked` too; of a chart's 18 and 19 with its first bad pair,
+// else with 0 and 0.
 #[derive(Clone, Copy)]
 pub(crate) struct Refused {
     pub refusal: u32,
@@ -24,14 +26,17 @@ impl From<Refusal> for Refused {
     }
 }
 
-impl From<Charted> for Refused {
-    ghost from_gives = { λ c r. r ≡ refused_pair c };
+impl From<NoChart> for Refused {
+    ghost from_gives = { λ n r. r ≡ refused_chart n };
 
-    fn from(said: Charted) -> Refused {
-        Refused {
-            refusal: said.refusal,
-            mode: said.mode,
-            combination: said.combination,
+    fn from(why: NoChart) -> Refused {
+        match why {
+            NoChart::Fault => Refused::from(Refusal::ChartFault),
+            NoChart::Bad(_, said) => Refused {
+                refusal: said.refusal,
+                mode: said.mode,
+                combination: said.combination,
+            },
         }
     }
 }

@@ -9,7 +9,7 @@ ghost use Rattle.claim.specs.Cells.{claim_cells};
 use crate::names::{Place, name_at};
 use crate::table::Edges;
 use claim::Counts;
-use text::read::{Row1, row_of_1};
+use text::read::numbers_row;
 use text::write::{write_byte, write_bytes, write_number};
 
 // What the vertices of a product are named by: both texts, where the modes' names stand, and the claim's cells.
@@ -72,12 +72,13 @@ impl Names<'_> {
         let mut place: usize = 0;
         let mut w = v;
         while here < answer.len() {
-            let Row1::Read(e, next) = row_of_1(answer, here) else {
+            let Some(row) = numbers_row::<1>(answer, here) else {
                 return place;
             };
+            let [e] = row.numbers;
             place = self.write_step(output, place, w);
             w = edges.end_of(e as usize, w);
-            here = next;
+            here = row.next;
         }
         place
     }
