@@ -1,8 +1,10 @@
 -- Name lines, byte by byte and line by line: what is left of a name or of a block decides as the whole does. Assumes
 -- nothing.
 use mathlib.Core.Path.{◌≡◌, refl, sym, ap, ◌∙◌}
-use mathlib.Core.Bool.{Bool, true, false, ◌&&◌, and-false, and-true}
+use mathlib.Core.Bool.{Bool, true, false, ◌&&◌, ◌||◌, and-false, and-true, or-true}
 use mathlib.Core.List.{List, [], ◌∷◌}
+use Rattle.std.specs.Prelude.{Option, Some, None}
+use Rattle.std.specs.Char.{is_ascii_alphanumeric}
 use Prim.Native.Nat.{ℕ, zero, suc, ◌+◌, ◌-◌, ◌≤◌, ◌<◌}
 use native.Mathlib.Omega.{arith}
 use native.Mathlib.Numerals.{add-one}
@@ -14,12 +16,10 @@ use Rattle.text.specs.Ascii.{line_feed, space}
 use Rattle.text.specs.Lines.{Line, lines, line_at, put_first, fields, field, open_line, closed_line}
 use Rattle.text.specs.Numbers.{is_digit}
 use Rattle.text.specs.Reading.{line_here, past_line, skip}
-use Rattle.text.specs.declared.read.Named.{Named}
-use Rattle.text.specs.declared.read.Named.TheVariants.{Past, Other}
-use Rattle.text.proofs.Tests.{and_both, clash}
+use Rattle.text.proofs.Tests.{and_both, clash, some_if, none_if}
 use Rattle.text.proofs.Lines.{with_byte, first_nil, first_feed, first_byte}
 use Rattle.text.proofs.ReadingSteps.{past_feed, past_byte, past_end}
-use Rattle.text.proofs.Reading.{past_lines, named_go, other_go}
+use Rattle.text.proofs.Reading.{past_lines}
 use Rattle.model.proofs.ChartSound.{name_short}
 use Rattle.model.specs.ClaimTokens.{is_capital, is_small}
 use Rattle.model.specs.Chart.{longest_name, is_alphanumeric, all_alphanumeric, is_name, name_line, names_right, texts_of}
@@ -37,6 +37,17 @@ module _ (s : List ℕ) (e : ℕ) where
   here_end : length s ≤ e → line_here s e ≡ open_line []
   here_end h = rw (drop_of_length-le s h) first_nil
 
+-- as std has it
+pub alphanumeric_ascii : (b : ℕ) → is_alphanumeric b ≡ is_ascii_alphanumeric b
+unfolding is_alphanumeric is_capital is_small is_digit
+alphanumeric_ascii b = go (leb 48 b && leb b 57) (leb 65 b && leb b 90) (leb 97 b && leb b 122)
+  where
+    go : (d k l : Bool) → ((k || l) || d) ≡ ((d || k) || l)
+    go true k l = simp or-true
+    go false true l = refl
+    go false false true = refl
+    go false false false = refl
+
 -- A NAME: the bytes from at to e are name bytes, and the rest of the line starts at e
 pub record NameLeft (s : List ℕ) (at e : ℕ) : Type 0 where
   pub from : at ≤ e
@@ -45,14 +56,11 @@ pub record NameLeft (s : List ℕ) (at e : ℕ) : Type 0 where
   pub closed : (line_here s at).closed ≡ (line_here s e).closed
   pub past : past_line s at ≡ past_line s e
 
-pub name_start : (s : List ℕ) (at : ℕ) → NameLeft s at at
-name_start s at = record { from = omega arith; long = omega arith; bytes = refl; closed = refl; past = refl }
-
 name_is : (l : Line) {c : Bool} {n : ℕ} {a : Bool} → l.closed ≡ c → length l.text ≡ n → all_alphanumeric l.text ≡ a → name_line l ≡ (c && ((leb 1 n && leb n longest_name) && a))
 unfolding name_line is_name
 name_is l p q r = rw (p, q, r) refl
 
-not_named : (s : List ℕ) (at : ℕ) → name_line (line_here s at) ≡ false → Other ≡ name_here s at
+not_named : (s : List ℕ) (at : ℕ) → name_line (line_here s at) ≡ false → None ≡ name_here s at
 unfolding name_here
 not_named s at h = rw h refl
 
@@ -69,10 +77,10 @@ module _ {s : List ℕ} {at e : ℕ} (g : NameLeft s at e) where
         past = g.past ∙ past_byte s e h n;
       }
 
-  pub name_torn : length s ≤ e → Other ≡ name_here s at
+  pub name_torn : length s ≤ e → None ≡ name_here s at
   name_torn h = not_named s at (name_is (line_here s at) (g.closed ∙ ap (λ (x : Line). x.closed) (here_end s e h)) refl refl)
 
-  pub name_wrong : e < length s → (get_or s e 0 ≡ line_feed → ⊥) → is_alphanumeric (get_or s e 0) ≡ false → Other ≡ name_here s at
+  pub name_wrong : e < length s → (get_or s e 0 ≡ line_feed → ⊥) → is_alphanumeric (get_or s e 0) ≡ false → None ≡ name_here s at
   unfolding all_alphanumeric
   name_wrong h n t =
       let a : all_alphanumeric (line_here s at).text ≡ false = g.bytes ∙ ap (λ (x : Line). all_alphanumeric x.text) (here_byte s e h n) ∙ (rw t refl) in
@@ -87,13 +95,13 @@ module _ {s : List ℕ} {at e : ℕ} (g : NameLeft s at e) where
         name_is (line_here s at) (g.closed ∙ ap (λ (x : Line). x.closed) l) n (g.bytes ∙ ap (λ (x : Line). all_alphanumeric x.text) l)
         ∙ and-true (leb 1 (e - at) && leb (e - at) longest_name)
 
-    pub name_empty : e ≡ at → Other ≡ name_here s at
+    pub name_empty : e ≡ at → None ≡ name_here s at
     name_empty z = not_named s at (ended ∙ (rw (lt-leb 1 (e - at) (omega arith)) refl))
 
-    pub name_long : longest_name < e - at → Other ≡ name_here s at
+    pub name_long : longest_name < e - at → None ≡ name_here s at
     name_long z = not_named s at (ended ∙ (rw (lt-leb (e - at) longest_name z, and-false) refl))
 
-    pub name_whole : (e ≡ at → ⊥) → e - at ≤ longest_name → Past (e + 1) ≡ name_here s at
+    pub name_whole : (e ≡ at → ⊥) → e - at ≤ longest_name → Some (e + 1) ≡ name_here s at
     unfolding name_here
     name_whole z k = rw (ended, le-leb 1 (e - at) (one z), le-leb (e - at) longest_name k, g.past, past_feed s e h q) refl
       where
@@ -139,23 +147,23 @@ module _ {s : List ℕ} {at n here q : ℕ} (g : NamesLeft s at n here q) where
       let e : n - q ≡ suc (n - (q + 1)) = omega arith in
       sym g.left ∙ (rw (e, past_lines s here) refl)
 
-  pub names_end : n ≤ q → Past here ≡ names_here n s at
+  pub names_end : n ≤ q → Some here ≡ names_here n s at
   unfolding names_here
   names_end h =
       let z : n - q ≡ 0 = omega arith in
       let t : names_right n (lines (drop at s)) ≡ true = sym g.left ∙ (rw z (unfold names_right in refl)) in
       rw (t, ← lines_end g.way h) refl
 
-  pub names_wrong : {r : Named} → q < n → r ≡ name_here s here → r ≡ Other → Other ≡ names_here n s at
+  pub names_wrong : {r : Option ℕ} → q < n → r ≡ name_here s here → r ≡ None → None ≡ names_here n s at
   unfolding names_here name_here
   names_wrong h a b =
-      let t : name_line (line_here s here) ≡ false = other_go (name_line (line_here s here)) (past_line s here) (sym a ∙ b) in
+      let t : name_line (line_here s here) ≡ false = none_if (name_line (line_here s here)) _ (sym a ∙ b) in
       rw (names_next h, t) refl
 
-  pub names_more : {z : ℕ} {r : Named} → q < n → r ≡ name_here s here → r ≡ Past z → NamesLeft s at n z (q + 1)
+  pub names_more : {z : ℕ} {r : Option ℕ} → q < n → r ≡ name_here s here → r ≡ Some z → NamesLeft s at n z (q + 1)
   unfolding name_here
   names_more {z} h a b =
-      let t = named_go (name_line (line_here s here)) (past_line s here) z (sym a ∙ b) in
+      let t = some_if (name_line (line_here s here)) (sym a ∙ b) in
       record { way = lines_more g.way h (sym t.1); left = rw (← t.1) (sym (names_next h ∙ (rw t.0 refl))) }
 
 -- A NAME has one field, which is the whole line

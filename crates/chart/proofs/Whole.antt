@@ -4,6 +4,7 @@ use mathlib.Core.Path.{◌≡◌, refl, sym, ap, ◌∙◌}
 use mathlib.Core.Bool.{Bool, true, false, ◌&&◌, cond, and-false}
 use mathlib.Core.List.{List, [], ◌∷◌, ◌++◌}
 use mathlib.Core.Logic.{◌⊎◌}
+use Rattle.std.specs.Prelude.{Option, Some, None, Result, Ok, Err}
 use Prim.Native.Nat.{ℕ, ◌+◌, ◌*◌, ◌^◌, ◌≤◌, ◌<◌}
 use native.Mathlib.Omega.{arith}
 use native.Mathlib.Nat.{pow-le-pow_right, one-le-pow}
@@ -14,11 +15,9 @@ use Rattle.text.specs.Lines.{Line, lines, line_at, line_is, field}
 use Rattle.text.specs.Numbers.{numbers_line, number_at}
 use Rattle.text.specs.Reading.{line_here, field_here, skip}
 use Rattle.text.specs.Writing.{put, Writes}
-use Rattle.text.specs.declared.read.Named.{Named}
-use Rattle.text.specs.declared.read.Named.TheVariants.{Past, Other}
-use Rattle.text.proofs.Tests.{and_both}
+use Rattle.text.proofs.Tests.{and_both, some_if, none_if}
 use Rattle.text.proofs.Writing.{put_front}
-use Rattle.text.proofs.Reading.{Row, NoRow, LineNamed, named_go, other_go}
+use Rattle.text.proofs.Reading.{Row, NoRow, LineNamed}
 use Rattle.model.specs.Case.{longest_file}
 use Rattle.model.specs.Chart.{most_modes, most_flags, longest_name, mode_name, name_line, Rule, combinations, next_mode, chart_names, mode_names, rule_names, chart_counts_good, chart_head_good, names_right, rules_in, first_bad, charted, rules_fit, chart_head_right, chart_rest_right, chart_right, chart_in, chart_says}
 use Rattle.model.specs.declared.Charted.{Charted}
@@ -28,27 +27,25 @@ use Rattle.model.proofs.Pairs.{next_base}
 use Rattle.model.proofs.ChartSound.{counts_fit}
 use Rattle.model.proofs.Charts.{chart_passed, right_bad, first_bad_pair}
 use Rattle.text.proofs.Places.{skip_one, skip_add, skip_last, skip_lines, skip_line}
-use Rattle.chart.specs.Pairs.{most_combinations, most_pairs, one_rule, Fresh, Marked, RulesRead, table_says, next_entry, chart_entries, table_after}
+use Rattle.chart.specs.Pairs.{most_combinations, most_pairs, one_rule, Fresh, Marked, RulesRead, table_says, bad_in, next_entry, chart_entries, table_after}
 use Rattle.chart.specs.Reading.{names_here, name_place, counts_in, head_says, rules_place, rest_right, ChartLaid, returned, read_says, ChartRead}
 use Rattle.chart.specs.declared.Chart.{Chart}
-use Rattle.chart.specs.declared.Head.{Head}
-use Rattle.chart.specs.declared.Head.TheVariants.{Fault, Counts}
-use Rattle.chart.specs.declared.Read.{Read}
-use Rattle.chart.specs.declared.Read.TheVariants.{Faulty, Bad, Accepted}
+use Rattle.chart.specs.declared.NoChart.{NoChart}
+use Rattle.chart.specs.declared.NoChart.TheVariants.{Fault, Bad}
 use Rattle.chart.proofs.NameLines.{named_line, names_each, text_at}
 use Rattle.chart.proofs.Entries.{pairs_fit}
-use Rattle.chart.proofs.BadPairs.{table_first, table_entries, entry_at}
+use Rattle.chart.proofs.BadPairs.{bad_is, bad_not, table_first, table_entries, entry_at}
 
 -- LINES 1 TO 3, fault by fault
 module _ (s : List ℕ) where
-  head_fault : chart_head_right s ≡ false → Fault ≡ head_says s
+  head_fault : chart_head_right s ≡ false → None ≡ head_says s
   unfolding head_says
   head_fault h = rw h refl
 
-  pub head_long : longest_file < length s → Fault ≡ head_says s
+  pub head_long : longest_file < length s → None ≡ head_says s
   head_long h = head_fault (unfold chart_head_right in (rw (lt-leb (length s) longest_file h) refl))
 
-  pub head_unnamed : line_is chart_names (line_here s 0) ≡ false → Fault ≡ head_says s
+  pub head_unnamed : line_is chart_names (line_here s 0) ≡ false → None ≡ head_says s
   head_unnamed h = head_fault (unfold chart_head_right in (rw (h, and-false) refl))
 
 module _ {s : List ℕ} where
@@ -59,7 +56,7 @@ module _ {s : List ℕ} where
     line_2 : line_here s z ≡ line_at (lines s) 1
     line_2 = rw second (skip_line 1 s 0)
 
-    pub head_torn : NoRow 4 s z → Fault ≡ head_says s
+    pub head_torn : NoRow 4 s z → None ≡ head_says s
     head_torn b = head_fault s (unfold chart_head_right in (rw (named.line, ← line_2, b.none, and-false) refl))
 
     module _ {a m u k y : ℕ} (r : Row s z (a ∷ m ∷ u ∷ k ∷ []) y) where
@@ -69,13 +66,13 @@ module _ {s : List ℕ} where
       laid : numbers_line 4 (line_at (lines s) 1) ≡ true
       laid = rw (← line_2) r.line
 
-      pub head_miscounted : chart_counts_good a m u k ≡ false → Fault ≡ head_says s
+      pub head_miscounted : chart_counts_good a m u k ≡ false → None ≡ head_says s
       head_miscounted g = head_fault s (unfold chart_head_right in (rw (named.line, laid, counts, g, and-false) refl))
 
       third : y ≡ skip 2 s 0
       third = sym r.past ∙ (rw second (sym (skip_last 1 s 0)))
 
-      pub head_untitled : line_is mode_names (line_here s y) ≡ false → Fault ≡ head_says s
+      pub head_untitled : line_is mode_names (line_here s y) ≡ false → None ≡ head_says s
       head_untitled b = head_fault s (unfold chart_head_right in (rw (title b, and-false) refl))
         where
           title : line_is mode_names (line_here s y) ≡ false → line_is mode_names (line_at (lines s) 2) ≡ false
@@ -88,7 +85,7 @@ module _ {s : List ℕ} where
             let t : line_is mode_names (line_at (lines s) 2) ≡ true = rw (third, skip_line 2 s 0) at b.line in
             rw (le-leb (length s) longest_file l, named.line, laid, counts, g, t) refl
 
-        pub head_whole : Counts (record { modes = m; start = u; flags = k }) x ≡ head_says s
+        pub head_whole : Some ((record { modes = m; start = u; flags = k }), x) ≡ head_says s
         unfolding head_says counts_in
         head_whole =
             let e : x ≡ skip 3 s 0 = sym b.past ∙ (rw third (sym (skip_last 2 s 0))) in
@@ -99,17 +96,13 @@ says_faulty : (s : List ℕ) → chart_right s ≡ false → chart_says s ≡ ch
 unfolding chart_says
 says_faulty s e = rw e refl
 
-faulty_read : (s t : List ℕ) → chart_right s ≡ false → ChartRead s Faulty t t
+faulty_read : (s t : List ℕ) → chart_right s ≡ false → ChartRead s (Err Fault) t t
 unfolding read_says returned table_after
 faulty_read s t e = record { answer = rw e refl; returns = sym (says_faulty s e); table = rw (says_faulty s e) refl }
 
-pub fault_read : (s t : List ℕ) {r : Head} → r ≡ head_says s → r ≡ Fault → ChartRead s Faulty t t
-unfolding head_says
-fault_read s t e q = go (chart_head_right s) refl (sym e ∙ q)
-  where
-    go : (b : Bool) → chart_head_right s ≡ b → cond b (Counts (counts_in s) (skip 3 s 0)) Fault ≡ Fault → ChartRead s Faulty t t
-    go true h q = let z : ◌≡◌ {A = ℕ} 0 1 = cc in absurd (omega arith)
-    go false h q = faulty_read s t (unfold chart_right in (rw h refl))
+pub fault_read : (s t : List ℕ) {r : Option (Chart × ℕ)} → r ≡ head_says s → r ≡ None → ChartRead s (Err Fault) t t
+unfolding head_says chart_right
+fault_read s t e q = faulty_read s t (rw (none_if (chart_head_right s) _ (sym e ∙ q)) refl)
 
 -- AFTER LINE 3
 pub record Headed (s : List ℕ) (h : Chart) (names : ℕ) : Type 0 where
@@ -117,13 +110,11 @@ pub record Headed (s : List ℕ) (h : Chart) (names : ℕ) : Type 0 where
   pub counts : counts_in s ≡ h
   pub place : skip 3 s 0 ≡ names
 
-pub headed : {s : List ℕ} {h : Chart} {names : ℕ} {r : Head} → r ≡ head_says s → r ≡ Counts h names → Headed s h names
+pub headed : {s : List ℕ} {x : Chart × ℕ} {r : Option (Chart × ℕ)} → r ≡ head_says s → r ≡ Some x → Headed s x.0 x.1
 unfolding head_says
-headed {s} {h} {names} e q = go (chart_head_right s) refl (sym e ∙ q)
-  where
-    go : (b : Bool) → chart_head_right s ≡ b → cond b (Counts (counts_in s) (skip 3 s 0)) Fault ≡ Counts h names → Headed s h names
-    go true e q = record { right = e; counts = cc; place = cc }
-    go false e q = let z : ◌≡◌ {A = ℕ} 0 1 = cc in absurd (omega arith)
+headed {s} e q =
+    let g = some_if (chart_head_right s) (sym e ∙ q) in
+    record { right = g.0; counts = ap (λ (y : Chart × ℕ). y.0) g.1; place = ap (λ (y : Chart × ℕ). y.1) g.1 }
 
 -- the counts are in range
 pub record InRange (m k : ℕ) : Type 0 where
@@ -172,7 +163,7 @@ module _ {s : List ℕ} {x : Chart} {names : ℕ} (h : Headed s x names) where
   unfolding chart_right chart_rest_right rest_right
   chart_rest = rw (h.right, modes_are, flags_are, name_lines, title_line, rule_lines) refl
 
-  pub laid_not : {c : ℕ} {b : Bool} {p : List ℕ} → c ≡ 2 ^ x.flags → ChartLaid s names x.modes c b p → b ≡ false → (t : List ℕ) → ChartRead s Faulty t t
+  pub laid_not : {c : ℕ} {b : Bool} {p : List ℕ} → c ≡ 2 ^ x.flags → ChartLaid s names x.modes c b p → b ≡ false → (t : List ℕ) → ChartRead s (Err Fault) t t
   laid_not e g q t = faulty_read s t (chart_rest ∙ (rw (← e) (sym g.answer ∙ q)))
 
   -- the chart's parts
@@ -241,45 +232,47 @@ module _ {s : List ℕ} {x : Chart} {names : ℕ} (h : Headed s x names) {c : �
       ap (λ (n : ℕ). table_says n 0 c p) (sym many_is) ∙ ap (λ (d : ℕ). table_says ((chart_in s).modes * combinations (chart_in s)) 0 d p) (sym count_is)
       ∙ table_first (chart_in s) p marked some ((chart_in s).modes * combinations (chart_in s)) 0 (omega arith) ∙ sym says
 
-  module _ {y : Charted} (q : y ≡ table_says (x.modes * c) 0 c p) where
-    pub pair_refused : (y.refusal ≡ 0 → ⊥) → (t : List ℕ) → ChartRead s (Bad x y) t t
-    unfolding read_says returned table_after
-    pair_refused n t =
-        let z : chart_says s ≡ y = sym (q ∙ said) in
-        record { answer = rw (text_right, z, ne_eqb y.refusal 0 n, h.counts) refl; returns = sym z; table = rw (z, ne_eqb y.refusal 0 n) refl }
+  bad_said : bad_in (table_says (x.modes * c) 0 c p) ≡ bad_in (chart_says s)
+  bad_said = ap bad_in said
 
-    module _ (z : y.refusal ≡ 0) where
-      passes : (chart_says s).refusal ≡ 0
-      passes = ap (λ (w : Charted). w.refusal) (sym (q ∙ said)) ∙ z
+  pub pair_refused : {y : Charted} → bad_in (table_says (x.modes * c) 0 c p) ≡ Some y → (t : List ℕ) → ChartRead s (Err (Bad x y)) t t
+  unfolding read_says returned table_after
+  pair_refused {y} q t =
+      let b = bad_is (sym bad_said ∙ q) in
+      record { answer = rw (text_right, b.0, ne_eqb y.refusal 0 b.1, h.counts) refl; returns = sym b.0; table = rw (b.0, ne_eqb y.refusal 0 b.1) refl }
 
-      entries_are : take (x.modes * c) p ≡ chart_entries (chart_in s)
-      unfolding chart_entries
-      entries_are =
-          ap (λ (n : ℕ). take n p) (sym many_is)
-          ∙ table_entries (chart_in s) p marked some ((chart_in s).modes * combinations (chart_in s)) 0 (omega arith) (omega (arith, few_pairs h e, g.long, many_is))
-          (ap (λ (w : Charted). w.refusal) (sym says) ∙ passes)
+  module _ (q : bad_in (table_says (x.modes * c) 0 c p) ≡ None) where
+    passes : (chart_says s).refusal ≡ 0
+    passes = bad_not _ (sym bad_said ∙ q)
 
-      pub chart_passes : {r : ℕ} {t t' : List ℕ} → Writes 0 (take (x.modes * c) p) r t t' → ChartRead s (Accepted x) t t'
-      chart_passes {r} {t} w = record { answer = answer; returns = unfold returned in sym (chart_passed s passes); table = handed_on s t passes (rw entries_are at w) }
-        where
-          answer : Accepted x ≡ read_says s
-          answer = unfold read_says in (rw (text_right, eq-eqb (chart_says s).refusal 0 passes, h.counts) refl)
+    entries_are : take (x.modes * c) p ≡ chart_entries (chart_in s)
+    unfolding chart_entries
+    entries_are =
+        ap (λ (n : ℕ). take n p) (sym many_is)
+        ∙ table_entries (chart_in s) p marked some ((chart_in s).modes * combinations (chart_in s)) 0 (omega arith) (omega (arith, few_pairs h e, g.long, many_is))
+        (ap (λ (w : Charted). w.refusal) (sym says) ∙ passes)
+
+    pub chart_passes : {r : ℕ} {t t' : List ℕ} → Writes 0 (take (x.modes * c) p) r t t' → ChartRead s (Ok x) t t'
+    chart_passes {r} {t} w = record { answer = answer; returns = unfold returned in sym (chart_passed s passes); table = handed_on s t passes (rw entries_are at w) }
+      where
+        answer : Ok x ≡ read_says s
+        answer = unfold read_says in (rw (text_right, eq-eqb (chart_says s).refusal 0 passes, h.counts) refl)
 
 -- THE LINES AFTER LINE 3, fault by fault
-named_all : (m : ℕ) (s : List ℕ) (at z : ℕ) {r : Named} → r ≡ names_here m s at → r ≡ Past z → (names_right m (lines (drop at s)) ≡ true) × (skip m s at ≡ z)
+named_all : (m : ℕ) (s : List ℕ) (at z : ℕ) {r : Option ℕ} → r ≡ names_here m s at → r ≡ Some z → (names_right m (lines (drop at s)) ≡ true) × (skip m s at ≡ z)
 unfolding names_here
-named_all m s at z e q = named_go (names_right m (lines (drop at s))) (skip m s at) z (sym e ∙ q)
+named_all m s at z e q = some_if (names_right m (lines (drop at s))) (sym e ∙ q)
 
-module _ {s : List ℕ} {at m c : ℕ} {r : Named} where
-  pub rest_unnamed : r ≡ names_here m s at → r ≡ Other → {p : List ℕ} → Fresh m c p → ChartLaid s at m c false p
+module _ {s : List ℕ} {at m c : ℕ} {r : Option ℕ} where
+  pub rest_unnamed : r ≡ names_here m s at → r ≡ None → {p : List ℕ} → Fresh m c p → ChartLaid s at m c false p
   unfolding names_here rest_right
-  rest_unnamed e q f = record { answer = rw (other_go (names_right m (lines (drop at s))) (skip m s at) (sym e ∙ q)) refl; long = f.long; all = tt }
+  rest_unnamed e q f = record { answer = rw (none_if (names_right m (lines (drop at s))) _ (sym e ∙ q)) refl; long = f.long; all = tt }
 
-  pub rest_untitled : {z : ℕ} → r ≡ names_here m s at → r ≡ Past z → line_is rule_names (line_here s z) ≡ false → {p : List ℕ} → Fresh m c p → ChartLaid s at m c false p
+  pub rest_untitled : {z : ℕ} → r ≡ names_here m s at → r ≡ Some z → line_is rule_names (line_here s z) ≡ false → {p : List ℕ} → Fresh m c p → ChartLaid s at m c false p
   unfolding rest_right
   rest_untitled {z} e q b f = let n = named_all m s at z e q in record { answer = rw (n.0, n.1, b) refl; long = f.long; all = tt }
 
-  pub rest_read : {z y : ℕ} {b : Bool} {p : List ℕ} → r ≡ names_here m s at → r ≡ Past z → LineNamed s z rule_names y → RulesRead s y m c b p → ChartLaid s at m c b p
+  pub rest_read : {z y : ℕ} {b : Bool} {p : List ℕ} → r ≡ names_here m s at → r ≡ Some z → LineNamed s z rule_names y → RulesRead s y m c b p → ChartLaid s at m c b p
   unfolding rest_right
   rest_read {z} e q l g =
       let n = named_all m s at z e q in
@@ -290,7 +283,7 @@ module _ {s : List ℕ} {at m c : ℕ} {r : Named} where
       }
 
 -- WHAT IS READ gives what the chart says
-pub read_returns : {s t t' : List ℕ} {r x : Read} → ChartRead s r t t' → r ≡ x → returned x ≡ chart_says s
+pub read_returns : {s t t' : List ℕ} {r x : Result Chart NoChart} → ChartRead s r t t' → r ≡ x → returned x ≡ chart_says s
 read_returns g q = ap returned (sym q) ∙ g.returns
 
 -- A BAD PAIR is told of a right text, and its mode is the chart's
@@ -300,11 +293,11 @@ pub record BadRead (s : List ℕ) (h : Chart) (c : Charted) : Type 0 where
   pub said : chart_says s ≡ c
   pub refusal : (c.refusal ≡ 18) ⊎ (c.refusal ≡ 19)
 
-pub bad_read : {s t t' : List ℕ} {h : Chart} {c : Charted} {r : Read} → ChartRead s r t t' → r ≡ Bad h c → BadRead s h c
+pub bad_read : {s t t' : List ℕ} {h : Chart} {c : Charted} {r : Result Chart NoChart} → ChartRead s r t t' → r ≡ Err (Bad h c) → BadRead s h c
 unfolding read_says
 bad_read {s} {h = h} {c = c} g q = go (chart_right s) (eqb (chart_says s).refusal 0) refl refl (sym g.answer ∙ q)
   where
-    go : (a b : Bool) → chart_right s ≡ a → eqb (chart_says s).refusal 0 ≡ b → cond a (cond b (Accepted (counts_in s)) (Bad (counts_in s) (chart_says s))) Faulty ≡ Bad h c → BadRead s h c
+    go : (a b : Bool) → chart_right s ≡ a → eqb (chart_says s).refusal 0 ≡ b → cond a (cond b (Ok (counts_in s)) (Err (Bad (counts_in s) (chart_says s)))) (Err Fault) ≡ Err (Bad h c) → BadRead s h c
     go false b e z q = let y : ◌≡◌ {A = ℕ} 0 1 = cc in absurd (omega arith)
     go true true e z q = let y : ◌≡◌ {A = ℕ} 0 1 = cc in absurd (omega arith)
     go true false e z q =
@@ -316,11 +309,11 @@ pub record PassedRead (s : List ℕ) (h : Chart) : Type 0 where
   pub passes : (chart_says s).refusal ≡ 0
   pub counts : counts_in s ≡ h
 
-pub passed_read : {s t t' : List ℕ} {h : Chart} {r : Read} → ChartRead s r t t' → r ≡ Accepted h → PassedRead s h
+pub passed_read : {s t t' : List ℕ} {h : Chart} {r : Result Chart NoChart} → ChartRead s r t t' → r ≡ Ok h → PassedRead s h
 unfolding read_says
 passed_read {s} {h = h} g q = go (chart_right s) (eqb (chart_says s).refusal 0) refl (sym g.answer ∙ q)
   where
-    go : (a b : Bool) → eqb (chart_says s).refusal 0 ≡ b → cond a (cond b (Accepted (counts_in s)) (Bad (counts_in s) (chart_says s))) Faulty ≡ Accepted h → PassedRead s h
+    go : (a b : Bool) → eqb (chart_says s).refusal 0 ≡ b → cond a (cond b (Ok (counts_in s)) (Err (Bad (counts_in s) (chart_says s)))) (Err Fault) ≡ Ok h → PassedRead s h
     go true true z q = record { passes = eqb-true (chart_says s).refusal 0 z; counts = cc }
     go true false z q = let y : ◌≡◌ {A = ℕ} 0 1 = cc in absurd (omega arith)
     go false b z q = let y : ◌≡◌ {A = ℕ} 0 1 = cc in absurd (omega arith)

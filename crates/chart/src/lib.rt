@@ -2,26 +2,24 @@
 // text. Contracts cite specs/Reading.antt and specs/Pairs.antt.
 #![tactic(auto)]
 
-ghost use Rattle.std.specs.Prelude.{◌≡◌, true, ◌^◌, ◌≤◌, ◌<◌, length};
+ghost use Rattle.std.specs.Prelude.{◌≡◌, true, ◌*◌, ◌^◌, ◌≤◌, ◌<◌, length};
 ghost use Rattle.text.specs.Reading.{Part};
 ghost use Rattle.model.specs.Chart.{chart_counts_good, chart_says, most_flags};
 ghost use Rattle.chart.specs.Reading.{head_says, ChartLaid, ChartRead, name_place};
-ghost use Rattle.chart.specs.Pairs.{most_pairs, Fresh, entry_refusal, table_says, AllOne, GoodFront};
+ghost use Rattle.chart.specs.Pairs.{most_pairs, Fresh, entry_refused, table_says, bad_in, AllOne, GoodFront};
 
 use casefile::Case;
-use model::Charted;
+use model::{Charted, Refusal};
 use names::name_block;
 use rules::rule_block;
-use text::read::{
-    Named, Row1, Row3, field, leading_number, name_line, next_line, past_head, row_of_3,
-};
+use text::read::{field, name_line, next_line, numbers_row, past_head};
 use text::write::write_bytes;
 
 mod names;
 mod rules;
 
 // The counts of an accepted chart.
-#[derive(Clone, Copy)]
+#[derive(Clone, Copy, Debug, PartialEq, Eq)]
 pub struct Chart {
     pub modes: usize,
     pub start: usize,
@@ -43,12 +41,11 @@ impl Chart {
     pub const ONE_RULE: u8 = 64;
 }
 
-// What a text is as a chart: a fault of the text; the first bad pair and its refusal; or a right chart.
+// Why a text is no right chart: a fault of the text; or the chart's counts, its first bad pair and that pair's refusal.
 #[derive(Clone, Copy)]
-pub enum Read {
-    Faulty,
+pub enum NoChart {
+    Fault,
     Bad(Chart, Charted),
-    Accepted(Chart),
 }
 
 // Of a text without a bad pair: a refusal that is of the whole, or none.
@@ -56,7 +53,7 @@ fn without_pair(refusal: u32) -> Charted
     ensures { result ≡ record { refusal = refusal; mode = 0; combination = 0 } }
 {
     Charted {
-        refusal: refusal,
+        refusal,
         mode: 0,
         combination: 0,
     }
@@ -66,58 +63,34 @@ fn without_pair(refusal: u32) -> Charted
 fn counts_good(version: u32, chart: Chart) -> bool
     ensures { result ≡ chart_counts_good version chart.modes chart.start chart.flags }
 {
-    if version != Case::VERSION {
-        return false;
-    }
-    if chart.modes < 1 {
-        return false;
-    }
-    if Chart::MOST_MODES < chart.modes {
-        return false;
-    }
-    if chart.modes <= chart.start {
-        return false;
-    }
-    if chart.flags < 1 {
-        return false;
-    }
-    chart.flags <= Chart::MOST_FLAGS
+    version == Case::VERSION
+        && 1 <= chart.modes
+        && chart.modes <= Chart::MOST_MODES
+        && chart.start < chart.modes
+        && 1 <= chart.flags
+        && chart.flags <= Chart::MOST_FLAGS
 }
 
-// Lines 1 to 3: a fault, or the counts and the place past them.
-#[derive(Clone, Copy)]
-enum Head {
-    Fault,
-    Counts(Chart, usize),
-}
-
-fn read_head(text: &[u8]) -> Head
+// Lines 1 to 3: the counts, and the place past these lines.
+fn read_head(text: &[u8]) -> Option<(Chart, usize)>
     ensures { result ≡ head_says text.now }
 {
     if Case::LONGEST_FILE < text.len() {
-        return Head::Fault;
+        return None;
     }
-    let Named::Past(second) = name_line(text, 0, b"version modes start flags") else {
-        return Head::Fault;
-    };
-    let Row1::Read(version, rest) = leading_number(text, second) else {
-        return Head::Fault;
-    };
-    let Row3::Read(modes, start, flags, third) = row_of_3(text, rest) else {
-        return Head::Fault;
-    };
+    let second = name_line(text, 0, b"version modes start flags")?;
+    let row = numbers_row::<4>(text, second)?;
+    let [version, modes, start, flags] = row.numbers;
     let chart = Chart {
         modes: modes as usize,
         start: start as usize,
         flags: flags as usize,
     };
     if !counts_good(version, chart) {
-        return Head::Fault;
+        return None;
     }
-    let Named::Past(names) = name_line(text, third, b"name") else {
-        return Head::Fault;
-    };
-    Head::Counts(chart, names)
+    let names = name_line(text, row.next, b"name")?;
+    Some((chart, names))
 }
 
 // How many combinations so many flags have; none where a chart may not have so many flags.
@@ -135,59 +108,37 @@ fn read_rest(text: &[u8], names: usize, modes: usize, count: usize, pairs: &mut 
     requires { Fresh modes count pairs.old }
     ensures { ChartLaid text.now names modes count result pairs.new }
 {
-    match name_block(text, names, modes) {
-        Named::Other => false,
-        Named::Past(title) => match name_line(text, title, b"mode care value next") {
-            Named::Other => false,
-            Named::Past(rules) => rule_block(text, rules, modes, count, pairs),
-        },
-    }
+    let Some(title) = name_block(text, names, modes) else {
+        return false;
+    };
+    let Some(rules) = name_line(text, title, b"mode care value next") else {
+        return false;
+    };
+    rule_block(text, rules, modes, count, pairs)
 }
 
-// What a pair's entry says of it: 0, or its refusal.
-fn entry_refusal(entry: u8) -> u32
-    ensures { result ≡ entry_refusal entry }
+// Why a pair is refused, by its entry.
+fn entry_refusal(entry: u8) -> Option<Refusal>
+    ensures { result ≡ entry_refused entry }
 {
     if entry == rules::NO_RULE {
-        return Charted::GAP;
+        return Some(Refusal::NoRule);
     }
     if rules::TWO_RULES <= entry {
-        return Charted::OVERLAP;
+        return Some(Refusal::TwoRules);
     }
-    0
+    None
 }
 
-fn least_of(a: u8, b: u8) -> u8
-    ensures { (result ≤ a) × (result ≤ b) }
-{
-    if a < b {
-        return a;
-    }
-    b
-}
-
-fn most_of(a: u8, b: u8) -> u8
-    ensures { (a ≤ result) × (b ≤ result) }
-{
-    if a < b {
-        return b;
-    }
-    a
-}
-
-// Whether the pairs with numbers from `from` to below `to` all have exactly one rule. The loop looks at every entry, so that the
-// compiler can do many at once.
-fn all_one(pairs: &[u8], from: usize, to: usize) -> bool
-    requires { to ≤ length pairs.now }
-    ensures { result ≡ true → AllOne pairs.now from to }
+// Whether these pairs all have exactly one rule. The loop looks at every entry, so that the compiler can do many at once.
+fn all_one(entries: &[u8]) -> bool
+    ensures { result ≡ true → AllOne entries.now 0 (length entries.now) }
 {
     let mut least = Chart::ONE_RULE;
     let mut most = Chart::ONE_RULE;
-    let mut i = from;
-    while i < to {
-        least = least_of(least, pairs[i]);
-        most = most_of(most, pairs[i]);
-        i += 1;
+    for entry in entries {
+        least = least.min(*entry);
+        most = most.max(*entry);
     }
     if least < Chart::ONE_RULE {
         return false;
@@ -195,63 +146,55 @@ fn all_one(pairs: &[u8], from: usize, to: usize) -> bool
     most < rules::TWO_RULES
 }
 
-// How many of so many pairs need no look of their own: those of the modes before the first one with a bad pair.
-fn good_modes(pairs: &[u8], many: usize, count: usize) -> usize
-    requires { (many ≤ length pairs.now) × (1 ≤ count) }
-    ensures { GoodFront pairs.now many result }
+// How many pairs need no look of their own: those of the modes before the first one with a bad pair.
+fn good_modes(pairs: &[u8], modes: usize, count: usize) -> usize
+    requires { modes * count ≤ length pairs.now }
+    ensures { GoodFront pairs.now (modes * count) result }
 {
-    let mut i: usize = 0;
-    while count <= many - i {
-        if !all_one(pairs, i, i + count) {
-            return i;
+    for q in 0..modes {
+        let base = q * count;
+        if !all_one(&pairs[base..base + count]) {
+            return base;
         }
-        i += count;
     }
-    i
+    modes * count
 }
 
-// The first of so many pairs that has no rule or two.
-fn bad_pair(pairs: &[u8], many: usize, count: usize) -> Charted
-    requires { (many ≤ length pairs.now) × (many ≤ most_pairs) × (1 ≤ count) }
-    ensures { result ≡ table_says many 0 count pairs.now }
+// The first pair that has no rule or two.
+fn bad_pair(pairs: &[u8], modes: usize, count: usize) -> Option<Charted>
+    requires { (modes * count ≤ length pairs.now) × (modes * count ≤ most_pairs) × (1 ≤ count) }
+    ensures { result ≡ bad_in (table_says (modes * count) 0 count pairs.now) }
 {
-    let mut i = good_modes(pairs, many, count);
-    while i < many {
-        let refusal = entry_refusal(pairs[i]);
-        if refusal != 0 {
-            return Charted {
-                refusal: refusal,
+    for i in good_modes(pairs, modes, count)..modes * count {
+        if let Some(refusal) = entry_refusal(pairs[i]) {
+            return Some(Charted {
+                refusal: refusal.number(),
                 mode: (i / count) as u32,
                 combination: (i % count) as u32,
-            };
+            });
         }
-        i += 1;
     }
-    without_pair(0)
+    None
 }
 
 // Judges a whole text as a chart. The table of an accepted one takes an entry for each pair, by mode and then combination:
 // the next mode and 64. A table without room for all of them stays as it is.
-pub fn read_chart(text: &[u8], table: &mut [u8]) -> Read
+pub fn read_chart(text: &[u8], table: &mut [u8]) -> Result<Chart, NoChart>
     ensures { ChartRead text.now result table.old table.new }
 {
-    match read_head(text) {
-        Head::Fault => Read::Faulty,
-        Head::Counts(chart, names) => {
-            let count = combinations(chart.flags);
-            let many = chart.modes * count;
-            let mut pairs = [0u8; Chart::MOST_PAIRS];
-            if !read_rest(text, names, chart.modes, count, &mut pairs) {
-                return Read::Faulty;
-            }
-            let said = bad_pair(&pairs, many, count);
-            if said.refusal != 0 {
-                return Read::Bad(chart, said);
-            }
-            write_bytes(table, 0, &pairs[..many]);
-            Read::Accepted(chart)
-        }
+    let Some((chart, names)) = read_head(text) else {
+        return Err(NoChart::Fault);
+    };
+    let count = combinations(chart.flags);
+    let mut pairs = [0; Chart::MOST_PAIRS];
+    if !read_rest(text, names, chart.modes, count, &mut pairs) {
+        return Err(NoChart::Fault);
     }
+    if let Some(said) = bad_pair(&pairs, chart.modes, count) {
+        return Err(NoChart::Bad(chart, said));
+    }
+    write_bytes(table, 0, &pairs[..chart.modes * count]);
+    Ok(chart)
 }
 
 // Judges a whole text as a chart; a table without room keeps nothing of it.
@@ -259,9 +202,9 @@ pub fn check_chart(text: &[u8]) -> Charted
     ensures { result ≡ chart_says text.now }
 {
     match read_chart(text, &mut []) {
-        Read::Faulty => without_pair(Charted::FAULTY),
-        Read::Bad(_, said) => said,
-        Read::Accepted(_) => without_pair(0),
+        Ok(_) => without_pair(0),
+        Err(NoChart::Fault) => without_pair(Charted::FAULTY),
+        Err(NoChart::Bad(_, said)) => said,
     }
 }
 
@@ -271,13 +214,11 @@ pub fn mode_name(text: &[u8], mode: usize) -> &[u8]
     ensures { Part text.entry (name_place text.now mode) result }
 {
     let mut at = past_head(text);
-    let mut q: usize = 0;
-    while q < mode {
+    for _ in 0..mode {
         if text.len() <= at {
             return field(text, at);
         }
         at = next_line(text, at);
-        q += 1;
     }
     field(text, at)
 }

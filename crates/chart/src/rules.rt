@@ -1,31 +1,36 @@
 // Rule lines, and the table of pairs that they go into: an entry for each pair of a mode and a combination of flags, by
 // mode and then combination.
-ghost use Rattle.std.specs.Prelude.{◌≡◌, ◌+◌, ◌≤◌, ◌<◌, length};
+ghost use Rattle.std.specs.Prelude.{◌≡◌, ◌≤◌, ◌<◌, length};
 ghost use Rattle.model.specs.Chart.{rule_good};
 ghost use Rattle.chart.specs.Pairs.{most_combinations, two_rules, added, after_rule, RuleMarked, Fresh, RulesRead};
 
 use crate::Chart;
-use text::read::{Row1, Row3, leading_number, row_of_3};
+use text::read::numbers_row;
 
 // A pair's entry: no rule; one, as its next mode and `Chart::ONE_RULE`; or more, from TWO_RULES on.
 pub(crate) const NO_RULE: u8 = 0;
 
 pub(crate) const TWO_RULES: u8 = 128;
 
-// Whether a rule's numbers are in range, and its value within its care.
-fn rule_right(modes: usize, count: usize, mode: u32, care: u32, value: u32, next: u32) -> bool
-    ensures { result ≡ rule_good modes count (record { mode = mode; care = care; value = value; next = next }) }
-{
-    if modes <= mode as usize {
-        return false;
+// A rule line: in this mode, where the flags picked out by `care` equal `value`, go to the next mode.
+#[derive(Clone, Copy)]
+struct Rule {
+    mode: u32,
+    care: u32,
+    value: u32,
+    next: u32,
+}
+
+impl Rule {
+    // Whether its numbers are in range, and its value within its care.
+    fn good(self, modes: usize, count: usize) -> bool
+        ensures { result ≡ rule_good modes count (record { mode = self.mode; care = self.care; value = self.value; next = self.next }) }
+    {
+        (self.mode as usize) < modes
+            && (self.care as usize) < count
+            && self.value & self.care == self.value
+            && (self.next as usize) < modes
     }
-    if count <= care as usize {
-        return false;
-    }
-    if value & care != value {
-        return false;
-    }
-    (next as usize) < modes
 }
 
 // What a rule adds to the entry of its mode and these flags.
@@ -50,16 +55,13 @@ fn after_rule(entry: u8, more: u8) -> u8
     entry + more
 }
 
-// One rule more, tested for every combination of flags; the entries of its mode start at `base`.
-fn mark_rule(pairs: &mut [u8], base: usize, count: usize, care: u8, value: u8, worth: u8)
-    requires { (base + count ≤ length pairs.old) × (count ≤ most_combinations) × (worth < two_rules) }
-    ensures { RuleMarked base count care value worth pairs.old pairs.new }
+// One rule more, tested for every combination of flags, in the entries of its mode.
+fn mark_rule(entries: &mut [u8], care: u8, value: u8, worth: u8)
+    requires { (length entries.old ≤ most_combinations) × (worth < two_rules) }
+    ensures { RuleMarked 0 (length entries.old) care value worth entries.old entries.new }
 {
-    let mut f: usize = 0;
-    while f < count {
-        let i = base + f;
-        pairs[i] = after_rule(pairs[i], added(f as u8, care, value, worth));
-        f += 1;
+    for (f, entry) in entries.iter_mut().enumerate() {
+        *entry = after_rule(*entry, added(f as u8, care, value, worth));
     }
 }
 
@@ -80,24 +82,27 @@ pub(crate) fn rule_block(
         if Chart::MOST_RULES <= many {
             return false;
         }
-        let Row1::Read(mode, rest) = leading_number(text, here) else {
+        let Some(row) = numbers_row::<4>(text, here) else {
             return false;
         };
-        let Row3::Read(care, value, next, past) = row_of_3(text, rest) else {
-            return false;
+        let [mode, care, value, next] = row.numbers;
+        let rule = Rule {
+            mode,
+            care,
+            value,
+            next,
         };
-        if !rule_right(modes, count, mode, care, value, next) {
+        if !rule.good(modes, count) {
             return false;
         }
+        let base = mode as usize * count;
         mark_rule(
-            pairs,
-            mode as usize * count,
-            count,
+            &mut pairs[base..base + count],
             care as u8,
             value as u8,
             next as u8 + Chart::ONE_RULE,
         );
-        here = past;
+        here = row.next;
         many += 1;
     }
     true

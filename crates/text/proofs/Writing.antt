@@ -1,17 +1,16 @@
 -- Laws of writing: a longer text by several writers one after the other, and what each writer's loop keeps. Assumes
 -- nothing.
 use mathlib.Core.Path.{◌≡◌, refl, sym, ap, ◌∙◌}
-use mathlib.Core.Bool.{Bool, true, false, not}
+use mathlib.Core.Bool.{Bool, true, false}
 use mathlib.Core.List.{List, [], ◌∷◌, ◌++◌, append_assoc}
 use mathlib.Core.Logic.{inl, inr}
 use Prim.Native.Nat.{ℕ, suc, ◌+◌, ◌-◌, ◌≤◌, ◌<◌}
 use native.Mathlib.Nat.{add-zero, zero-add}
-use native.Mathlib.Numerals.{add-one}
 use native.Mathlib.Omega.{arith}
 use lib.Dec.{leb}
-use lib.ListN.{length, get_or, set, take, drop, length-append, length-set}
-use lib.Seq.{append_snoc, length-take-le, take-length, take-suc, set_at, get_or-set_other, sets, sets-eq, length-sets, paste, paste-zero, paste-suc}
-use borrow.Author.Tests.{leb-true, leb-false, le-leb, lt-leb, not-true, not-false}
+use lib.ListN.{length, get_or, set, take, drop, length-append}
+use lib.Seq.{drop-drop, append_snoc, length-take-le, take-suc, set_at, get_or-set_other, sets, sets-eq, length-sets}
+use borrow.Author.Tests.{leb-true, leb-false, le-leb, lt-leb}
 use Rattle.text.specs.Writing.{put, no_room, Writes, Outside}
 use Rattle.text.specs.Promise.{OnlyThere}
 
@@ -116,30 +115,10 @@ writes_both at bs cs r s o y z h p q =
 pub put_one : (at b : ℕ) (o : List ℕ) → at < length o → put at (b ∷ []) o ≡ set o at b
 put_one at b o h = put_sets at (b ∷ []) o (omega arith)
 
--- COPYING: i bytes are copied
-pub record Copied (at : ℕ) (bs : List ℕ) (i : ℕ) (o z : List ℕ) : Type 0 where
-  pub room : at + length bs ≤ length o
-  pub within : i ≤ length bs
-  pub kept : length z ≡ length o
-  pub holds : z ≡ paste o at bs i
-
-pub copied_start : (at : ℕ) (bs o : List ℕ) → at + length bs ≤ length o → Copied at bs 0 o o
-copied_start at bs o h = record { room = h; within = omega arith; kept = refl; holds = paste-zero o at bs }
-
-pub copied_step : (at : ℕ) (bs : List ℕ) (i : ℕ) (o z : List ℕ) → Copied at bs i o z → i < length bs → Copied at bs (i + 1) o (set z (at + i) (get_or bs i 0))
-copied_step at bs i o z c h =
-    record {
-      room = c.room;
-      within = omega arith;
-      kept = length-set z (at + i) (get_or bs i 0) ∙ c.kept;
-      holds = rw (add-one i, c.holds) (paste-suc o at bs i 0 (omega (arith, c.room)) h);
-    }
-
-pub copied_end : (at : ℕ) (bs : List ℕ) (i : ℕ) (o z : List ℕ) → Copied at bs i o z → length bs ≤ i → Writes at bs (at + i) o z
+-- A PART of the output replaced
+pub put_part : (at : ℕ) (bs o : List ℕ) → take at o ++ (bs ++ drop (length bs) (drop at o)) ≡ put at bs o
 unfolding put
-copied_end at bs i o z c h =
-    let e : i ≡ length bs = omega (arith, c.within) in
-    writes_fits at bs (at + i) o z c.room (rw e refl) (c.holds ∙ rw (e, take-length bs) refl)
+put_part at bs o = ap (λ (l : List ℕ). take at o ++ (bs ++ l)) (drop-drop (length bs) at o) ∙ sym (append_assoc (take at o) bs (drop (at + length bs) o))
 
 -- FROM THE LAST byte to the first
 pub put_before : (j b : ℕ) (bs o : List ℕ) → suc j + length bs ≤ length o → set (put (suc j) bs o) j b ≡ put j (b ∷ bs) o
@@ -164,8 +143,8 @@ pub room_outside : (len at size : ℕ) → len < at → leb at len ≡ leb (at +
 room_outside len at size h = lt-leb at len h ∙ sym (lt-leb (at + size) len (omega arith))
 
 -- what the answer on room tells: none, or enough
-pub none_left : (at size : ℕ) (bs o : List ℕ) (r : Bool) → r ≡ leb (at + size) (length o) → not r ≡ true → size ≡ length bs → Writes at bs no_room o o
-none_left at size bs o r e t s = writes_full at bs o (omega (arith, leb-false (at + size) (length o) (sym e ∙ not-true r t)))
+pub none_left : (at size : ℕ) (bs o : List ℕ) → false ≡ leb (at + size) (length o) → size ≡ length bs → Writes at bs no_room o o
+none_left at size bs o e s = writes_full at bs o (omega (arith, leb-false (at + size) (length o) (sym e)))
 
-pub enough : (len at size n : ℕ) (r : Bool) → r ≡ leb (at + size) len → not r ≡ false → size ≡ n → at + n ≤ len
-enough len at size n r e t s = omega (arith, leb-true (at + size) len (sym e ∙ not-false r t))
+pub enough : (at size len : ℕ) → true ≡ leb (at + size) len → at + size ≤ len
+enough at size len e = leb-true (at + size) len (sym e)

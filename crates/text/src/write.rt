@@ -1,5 +1,5 @@
 // Writers of bytes and decimals: each puts its bytes straight into their place, or nothing where they have no room.
-ghost use Rattle.std.specs.Prelude.{◌≡◌, [], ◌∷◌, ◌+◌, ◌≤◌, leb, nat_abs, length};
+ghost use Rattle.std.specs.Prelude.{◌≡◌, [], ◌∷◌, ◌+◌, ◌≤◌, leb, length};
 ghost use Rattle.text.specs.Numbers.{decimal, signed_decimal, Width};
 ghost use Rattle.text.specs.Writing.{Writes, Chain};
 
@@ -31,12 +31,9 @@ pub fn write_bytes(output: &mut [u8], at: usize, bytes: &[u8]) -> usize
     if !room(output.len(), at, bytes.len()) {
         return NO_ROOM;
     }
-    let mut i: usize = 0;
-    while i < bytes.len() {
-        output[at + i] = bytes[i];
-        i += 1;
-    }
-    at + i
+    let end = at + bytes.len();
+    output[at..end].copy_from_slice(bytes);
+    end
 }
 
 // The least number of digits that holds the value; a number so far below zero takes one more, for its minus sign.
@@ -46,7 +43,7 @@ fn width(v: u32) -> usize
     let mut w = v;
     let mut n: usize = 1;
     while 9 < w {
-        w = w / 10;
+        w /= 10;
         n += 1;
     }
     n
@@ -60,11 +57,9 @@ fn write_digits(output: &mut [u8], at: usize, size: usize, v: u32) -> usize
 {
     let end = at + size;
     let mut w = v;
-    let mut i = end;
-    while at < i {
-        i -= 1;
+    for i in (at..end).rev() {
         output[i] = b'0' + (w % 10) as u8;
-        w = w / 10;
+        w /= 10;
     }
     end
 }
@@ -88,21 +83,11 @@ pub fn write_field(output: &mut [u8], at: usize, v: u32, end: u8) -> usize
     write_byte(output, next, end)
 }
 
-// How far a number is from zero; the lowest of all is farther than the highest.
-fn magnitude(v: i32) -> u32
-    ensures { result ≡ nat_abs v }
-{
-    if 0 <= v {
-        return v as u32;
-    }
-    (-1 - v) as u32 + 1
-}
-
 // A number in decimal, after a minus sign where it is below zero.
 pub fn write_signed(output: &mut [u8], at: usize, v: i32) -> usize
     ensures { Writes at (signed_decimal v) result output.old output.new }
 {
-    let far = magnitude(v);
+    let far = v.unsigned_abs();
     if 0 <= v {
         return write_number(output, at, far);
     }

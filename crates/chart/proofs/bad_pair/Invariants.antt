@@ -1,10 +1,7 @@
 -- `chart::bad_pair`: the pairs before i are good, so that what is left decides as the whole does.
-use Prim.Native.Nat.{◌-◌}
+use Prim.Native.Nat.{◌*◌}
 use Rattle.chart.proofs.BadPairs.{GoodSoFar}
 use Rattle.chart.proofs.bad_pair.Given as goal
 
 abbrev pub invariant-loop-i : goal.invariant-loop-i
-invariant-loop-i l = GoodSoFar l.pairs l.many l.count l.i
-
-abbrev pub decreases-loop-i : goal.decreases-loop-i
-decreases-loop-i l = l.many - l.i
+invariant-loop-i l = GoodSoFar l.pairs (l.modes * l.count) l.count l.i

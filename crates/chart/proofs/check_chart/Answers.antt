@@ -1,17 +1,18 @@
 -- `chart::check_chart`: what reading returns.
-use mathlib.Core.Path.{◌∙◌}
+use mathlib.Core.Path.{ap, ◌∙◌}
+use Rattle.std.specs.Prelude.{Err}
 use Rattle.chart.specs.Reading.{returned}
 use Rattle.chart.proofs.Whole.{read_returns}
 use Rattle.chart.proofs.check_chart.Goals as goal
 
-pub returns-in-Faulty : goal.returns-in-Faulty
+pub returns-in-Ok : goal.returns-in-Ok
 unfolding returned
-returns-in-Faulty c = c.without_pair.ensures ∙ read_returns c.read_chart.ensures c.in-Faulty.is
+returns-in-Ok c = c.without_pair.ensures ∙ read_returns c.read_chart.ensures c.in-Ok.is
 
-pub returns-in-Bad : goal.returns-in-Bad
+pub returns-in-Err-Fault : goal.returns-in-Err-Fault
 unfolding returned
-returns-in-Bad c = read_returns c.read_chart.ensures c.in-Bad.is
+returns-in-Err-Fault c = c.without_pair-in-Err-Fault.ensures ∙ read_returns c.read_chart.ensures (c.in-Err-Fault.is ∙ ap Err c.in-Err-Fault.field-0-is)
 
-pub returns-in-Accepted : goal.returns-in-Accepted
+pub returns-in-Err-Bad : goal.returns-in-Err-Bad
 unfolding returned
-returns-in-Accepted c = c.without_pair-in-Accepted.ensures ∙ read_returns c.read_chart.ensures c.in-Accepted.is
+returns-in-Err-Bad c = read_returns c.read_chart.ensures (c.in-Err-Bad.is ∙ ap Err c.in-Err-Bad.field-0-is)

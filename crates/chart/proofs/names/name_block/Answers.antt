@@ -1,16 +1,16 @@
 -- `names::name_block`: what is left of the block decides as the whole does.
-use native.Mathlib.Omega.{arith}
+use mathlib.Core.Path.{◌∙◌}
 use Rattle.chart.proofs.NameLines.{names_start, names_end, names_wrong, names_more}
 use Rattle.chart.proofs.names.name_block.Goals as goal
 
-pub loop-q-init : goal.loop-q-init
-loop-q-init c = names_start _ _ _
+pub loop-init : goal.loop-init
+loop-init c = names_start _ _ _
 
-pub returns-in_default : goal.returns-in_default
-returns-in_default c = names_wrong c.loop-q.invariant (omega arith) c.name_row.ensures c.in_default.is
+pub returns-in_err-here : goal.returns-in_err-here
+returns-in_err-here c = c.from_residual.ensures ∙ names_wrong c.loop.invariant c.loop-test.true c.name_row.ensures c.in_err-here.was
 
-pub loop-q-preserved : goal.loop-q-preserved
-loop-q-preserved c = names_more c.loop-q.invariant (omega arith) c.name_row.ensures c.in-Past.is
+pub loop-preserved : goal.loop-preserved
+loop-preserved c = names_more c.loop.invariant c.loop-test.true c.name_row.ensures c.in_ok-here.was
 
 pub returns : goal.returns
-returns c = names_end c.loop-q.invariant c.loop-q-test.false
+returns c = names_end c.loop.invariant c.loop-test.false

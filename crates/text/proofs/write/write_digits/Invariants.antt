@@ -4,6 +4,3 @@ use Rattle.text.proofs.write.write_digits.Given as goal
 
 abbrev pub invariant-loop-i : goal.invariant-loop-i
 invariant-loop-i l = Written l.at l.v l.w l.i l.initial.output l.output
-
-abbrev pub decreases-loop-i : goal.decreases-loop-i
-decreases-loop-i l = l.i
