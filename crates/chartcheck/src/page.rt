@@ -8,7 +8,7 @@ use desk::write_refused;
 use model::Charted;
 use text::write::{write_byte, write_bytes};
 
-// `pass`; or the refusal, and the pair where there is one.
+// `pass`; or the refusal, a number as in the C interface's `Charted`, and the pair where there is one.
 pub(crate) fn write_charted(page: &mut [u8], said: Charted) -> usize
     ensures { Puts 0 (charted_lines said) result page.old page.new }
 {
