@@ -3,6 +3,7 @@ use mathlib.Core.Path.{◌≡◌, refl, sym, ap, ◌∙◌}
 use mathlib.Core.Bool.{Bool, true, false, cond}
 use mathlib.Core.List.{List, [], ◌∷◌}
 use mathlib.Core.Option.{Option, none, some}
+use Rattle.std.specs.Prelude as code
 use Prim.Native.Nat.{ℕ, suc, ◌+◌, ◌-◌, ◌≤◌, ◌<◌, ◌^◌}
 use native.Mathlib.Omega.{arith}
 use native.Mathlib.Numerals.{add-one}
@@ -73,12 +74,15 @@ none_full c x k w rep e = sym (none_waits_is k x.cells rep.counted.full) ∙ e
 
 -- THE END: the floor is broken where the counter has a vertex; else a run has ended where nothing waits
 module _ {c : Case} {x : State} {k : Run} {w : List ℤ} (rep : Rep c x k w) where
-  pub broken_none : k.broken ≡ 0 → x.broken ≡ none
-  broken_none z = not_broken x.broken (sym rep.counted.broke ∙ z)
+  pub broken_none : {b : Bool} → b ≡ code.is_some k.broken → b ≡ false → x.broken ≡ none
+  broken_none p e = not_broken x.broken (rw rep.counted.broke at (sym p ∙ e))
 
-  pub broken_ended : (k.broken ≡ 0 → ⊥) → has_ended x ≡ true
+  pub broken_some : {b : Bool} → b ≡ code.is_some k.broken → b ≡ true → is_some x.broken ≡ true
+  broken_some p e = is_broken x.broken (rw rep.counted.broke at (sym p ∙ e))
+
+  pub broken_ended : {b : Bool} → b ≡ code.is_some k.broken → b ≡ true → has_ended x ≡ true
   unfolding has_ended ended_lasso
-  broken_ended n = or_left (is_some x.broken) x.ended_empty (is_broken x.broken (λ z. n (rep.counted.broke ∙ z)))
+  broken_ended p e = or_left (is_some x.broken) x.ended_empty (broken_some p e)
 
 empty_ended : (x : State) → x.broken ≡ none → has_ended x ≡ x.ended_empty
 unfolding has_ended ended_lasso is_some

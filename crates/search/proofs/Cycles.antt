@@ -6,6 +6,7 @@ use mathlib.Core.Logic.{◌⊎◌, inl, inr}
 use mathlib.Core.Option.{Option, none, some}
 use Prim.Native.Nat.{ℕ, suc, ◌+◌, ◌-◌, ◌≤◌, ◌<◌}
 use native.Mathlib.Omega.{arith}
+use Rattle.std.proofs.Math.Nat.{sub-zero}
 use borrow.Author.Tests.{eqb-true, eqb-false}
 use lib.Dec.{eqb}
 use lib.ListN.{length, get_or, set, get_or-eq_default}
@@ -72,10 +73,10 @@ unfolding back
 back_none g ps v = refl
 
 -- AROUND
-pub circling_start : (c : Case) (ps : List (Option ℕ)) (s n : ℕ) (w : List ℤ) → Lies c ps w → Chained c.graph ps s → Circling c ps s n s n cells_end w
+pub circling_start : (c : Case) (ps : List (Option ℕ)) (s n : ℕ) (w : List ℤ) → Lies c ps w → Chained c.graph ps s → Circling c ps s n s (n - 0) cells_end w
 circling_start c ps s n w l f = record {
   so_far = [];
-  rest = refl;
+  rest = rw sub-zero refl;
   chained = f;
   written = written_none c cells_end w;
   lies = l;

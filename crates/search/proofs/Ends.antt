@@ -7,31 +7,24 @@ use Prim.Native.Nat.{ℕ, ◌+◌, ◌-◌, ◌≤◌, ◌<◌, ◌^◌}
 use native.Mathlib.Omega.{arith}
 use lib.ListN.{length, get_or, replicate}
 use lib.IntN.{ℤ, pos}
-use borrow.Author.Tests.{eq-eqb, ne_eqb}
+use Rattle.std.specs.Prelude as code
 use Rattle.model.specs.Case.{Case, least_output}
 use Rattle.model.specs.Run.{State, is_some, ended_lasso, has_ended}
 use Rattle.model.specs.Answer.{lasso_verdict, empty_verdict, stem, cycle, cycle_start, lasso_text, empty_text, answer_of, answer}
 use Rattle.model.specs.Entry.{verdict, zeros, RunSays}
+use Rattle.model.specs.Refusals.{verdict_number}
 use Rattle.model.proofs.Fits.{cycle_few, answer_fits}
-use Rattle.search.specs.Cells.{more, cycle_at, cells_end}
-use Rattle.search.specs.Rep.{Rep}
+use Rattle.search.specs.Cells.{found_at, cycle_at, cells_end}
+use Rattle.search.specs.Rep.{held_as}
 use Rattle.search.specs.Asks.{OverSays}
-use Rattle.search.specs.Show.{Lies, Broke, Showable, Shows, LassoThere, Written}
+use Rattle.search.specs.Show.{Kept, Lies, Broke, Showable, Shows, LassoThere, Written}
 use Rattle.search.specs.Writing.{EdgesAt, DistancesAt, LassoAsks, LassoSays, EmptySays, Answers}
-use Rattle.search.specs.Finish.{Gone, LassoDone, AnswerDone, FinishSays, verdict_of}
+use Rattle.search.specs.Finish.{Gone, AnswerAsks, BrokenAsks, LassoDone, AnswerDone, FinishSays, verdict_of}
 use Rattle.search.specs.declared.run.Run.{Run}
 use Rattle.model.proofs.Findings.{Known, moment_known, stem_few}
-use Rattle.search.proofs.Acts.{broken_none, count_small}
+use Rattle.search.proofs.Acts.{count_small}
+use Rattle.search.proofs.Steps.{broken_at, not_broken}
 use Rattle.search.proofs.Cycles.{run_broke, run_real}
-
--- whether the floor is broken, by the counter
-more_some : (o : Option ℕ) (k : ℕ) → k ≡ more o → (k ≡ 0 → ⊥) → (b : ℕ) × (o ≡ some b) × (k - 1 ≡ b)
-more_some none k e n = absurd (n e)
-more_some (some b) k e n = (b, refl, omega arith)
-
-module _ {c : Case} {x : State} {k : Run} {w : List ℤ} (r : Rep c x k w) where
-  pub broken_some : (k.broken ≡ 0 → ⊥) → (b : ℕ) × (x.broken ≡ some b) × (k.broken - 1 ≡ b)
-  broken_some n = more_some x.broken k.broken r.counted.broke n
 
 module _ {c : Case} {x : State} {k : Run} {n s : ℕ} {w : List ℤ} {o : List ℕ} (g : Gone c x k n s w o) where
   known : Known c x
@@ -94,13 +87,13 @@ module _ {c : Case} {x : State} {k : Run} {n s : ℕ} {w : List ℤ} {o : List �
       whole = unfold answer_of in refl
 
   -- THE OUTCOME
-  verdict_is : verdict_of k ≡ verdict x
-  unfolding verdict ended_lasso
-  verdict_is = go x.broken refl
+  verdict_is : verdict_number (verdict_of k.broken) ≡ verdict x
+  unfolding verdict ended_lasso is_some
+  verdict_is = rw g.rep.counted.broke (go x.broken)
     where
-      go : (q : Option ℕ) → x.broken ≡ q → verdict_of k ≡ cond (is_some x.broken) lasso_verdict empty_verdict
-      go none h = rw (h, eq-eqb k.broken 0 (g.rep.counted.broke ∙ ap more h)) (unfold is_some in refl)
-      go (some b) h = rw (h, ne_eqb k.broken 0 (λ z. omega (arith, g.rep.counted.broke ∙ ap more h))) (unfold is_some in refl)
+      go : (q : Option ℕ) → verdict_number (verdict_of (held_as q)) ≡ cond (is_some q) lasso_verdict empty_verdict
+      go none = refl
+      go (some b) = refl
 
   zeros_kept : (u v : List ℤ) → v ≡ zeros u → length u ≡ length w → v ≡ zeros w
   unfolding zeros
@@ -112,43 +105,40 @@ module _ {c : Case} {x : State} {k : Run} {n s : ℕ} {w : List ℤ} {o : List �
   cut_short e z = rw e (record { refusal = refl; verdict = refl; acts = g.rep.counted.acts; written = refl; tallies = g.rep.counted.tallied; output = refl; work = z })
 
   pub finished : {r : ℕ} (u : List ℤ) {v : List ℤ} {z : List ℕ} → has_ended x ≡ true → Answers (answer c.graph x) r o z → v ≡ zeros u → length u ≡ length w →
-      RunSays 0 (has_ended x) c x (record { refusal = 0; verdict = verdict_of k; acts = k.turns + k.delivered; written = r; sent = k.sent; delivered = k.delivered; joined = k.joined }) o z w v
+      RunSays 0 (has_ended x) c x (record { refusal = 0; verdict = verdict_number (verdict_of k.broken); acts = k.turns + k.delivered; written = r; sent = k.sent; delivered = k.delivered; joined = k.joined }) o z w v
   unfolding RunSays
   finished u e a z l = rw e (record { refusal = refl; verdict = verdict_is; acts = g.rep.counted.acts; written = a.written; tallies = g.rep.counted.tallied; output = a.output; work = zeros_kept u _ z l })
 
 -- THE FUNCTIONS of src/finish.rt: the lasso is shown, then written
-pub above_none : (k : ℕ) → (k ≡ 0 → ⊥) → 1 ≤ k
-above_none k n = omega (arith, n)
+long_after : {c : Case} {x : State} {k : Run} {n s : ℕ} {w v : List ℤ} {o : List ℕ} → Gone c x k n s w o → Kept found_at w v → cells_end ≤ length v
+long_after g y = omega (arith, y.long, g.rep.held.laid.long)
 
-module _ {c : Case} {x : State} {k : Run} {n s : ℕ} {w : List ℤ} {o : List ℕ} (g : Gone c x k n s w o) (broken : k.broken ≡ 0 → ⊥) where
-  pub asked_shown : Showable (k.broken - 1) s n w
-  asked_shown = let b = broken_some g.rep broken in rw b.2 (showable g b.0 b.1)
+module _ {c : Case} {x : State} {k : Run} {b n s : ℕ} {w : List ℤ} {o : List ℕ} (g : Gone c x k n s w o) (h : x.broken ≡ some b) {at to : ℕ} {v : List ℤ} (y : Shows b s n at to w v) where
+  pub there : LassoThere c x.parents b at to v
+  unfolding Shows
+  there = y.1 c x.parents (lies g) (broke g b h) g.start g.vertices
 
-  module _ (at to : ℕ) (v : List ℤ) (y : Shows (k.broken - 1) s n at to w v) where
-    pub there : LassoThere c x.parents (k.broken - 1) at to v
-    unfolding Shows
-    there = let b = broken_some g.rep broken in y.1 c x.parents (lies g) (rw b.2 (broke g b.0 b.1)) g.start g.vertices
+  pub asked_written : LassoAsks at (cycle_at - at) to (cells_end - to) v
+  unfolding Shows
+  asked_written = lasso_asks g b h (long_after g y.0) there
 
-    long_after : cells_end ≤ length v
-    unfolding Shows
-    long_after = omega (arith, y.0.long, g.rep.held.laid.long)
+  shown_answers : {r : ℕ} {z : List ℕ} → LassoSays at (cycle_at - at) to (cells_end - to) r v o z → Answers (answer c.graph x) r o z
+  unfolding Shows
+  shown_answers l = lasso_answers g b h (long_after g y.0) there l
 
-    pub asked_written : LassoAsks at (cycle_at - at) to (cells_end - to) v
-    asked_written = let b = broken_some g.rep broken in lasso_asks g (k.broken - 1) (rw b.2 b.1) long_after there
-
-    shown_answers : {r : ℕ} {z : List ℕ} → LassoSays at (cycle_at - at) to (cells_end - to) r v o z → Answers (answer c.graph x) r o z
-    shown_answers l = let b = broken_some g.rep broken in lasso_answers g (k.broken - 1) (rw b.2 b.1) long_after there l
-
-pub lasso_shown : (k : Run) (n s at to : ℕ) (w v : List ℤ) {r : ℕ} {o z : List ℕ} → (k.broken ≡ 0 → ⊥) → Shows (k.broken - 1) s n at to w v → LassoSays at (cycle_at - at) to (cells_end - to) r v o z →
-    LassoDone k n s r w o z
-lasso_shown k n s at to w v e y l = record { answers = λ c x b g h. shown_answers g e at to v y l }
+pub lasso_shown : {b n s at to r : ℕ} {w v : List ℤ} {o z : List ℕ} → Shows b s n at to w v → LassoSays at (cycle_at - at) to (cells_end - to) r v o z → LassoDone b n s r w o z
+lasso_shown y l = record { answers = λ c x k g h. shown_answers g h y l }
 
 -- then either answer
-pub answered_lasso : {k : Run} {n s r : ℕ} {w : List ℤ} {o z : List ℕ} → (k.broken ≡ 0 → ⊥) → LassoDone k n s r w o z → AnswerDone k n s r w o z
-answered_lasso n l = record { answers = λ c x g e. let b = broken_some g.rep n in l.answers c x b.0 g b.1 }
+module _ {k : Run} {n s : ℕ} {w : List ℤ} {o : List ℕ} where
+  pub broken_asks : {b : ℕ} → AnswerAsks k n s w o → k.broken ≡ code.Some b → BrokenAsks b n s w o
+  broken_asks {b} a e = record { case = a.case; state = a.state; run = k; gone = a.gone; broke = broken_at a.state.broken b (sym e ∙ a.gone.rep.counted.broke) }
 
-pub answered_empty : (k : Run) {n s r : ℕ} {w : List ℤ} {o z : List ℕ} → k.broken ≡ 0 → EmptySays n r w o z → AnswerDone k n s r w o z
-answered_empty k e y = record { answers = λ c x g _. empty_answers g (broken_none g.rep e) y }
+  pub answered_lasso : {b r : ℕ} {z : List ℕ} → k.broken ≡ code.Some b → LassoDone b n s r w o z → AnswerDone k n s r w o z
+  answered_lasso {b} e l = record { answers = λ c x g _. l.answers c x k g (broken_at x.broken b (sym e ∙ g.rep.counted.broke)) }
+
+  pub answered_empty : {r : ℕ} {z : List ℕ} → k.broken ≡ code.None → EmptySays n r w o z → AnswerDone k n s r w o z
+  answered_empty e y = record { answers = λ c x g _. empty_answers g (not_broken x.broken (ap code.is_some (sym g.rep.counted.broke ∙ e))) y }
 
 pub distances_at : {c : Case} {x : State} {k : Run} {n s : ℕ} {w : List ℤ} {o : List ℕ} → Gone c x k n s w o → DistancesAt n w
 distances_at g = let l = g.rep.held.laid in record { few = omega (arith, g.vertices, l.within.vertices); inside = omega (arith, l.long, g.vertices, l.within.vertices) }
@@ -166,7 +156,7 @@ module _ {k : Run} {p n s : ℕ} {w : List ℤ} {o : List ℕ} {over : Bool} (sa
       FinishSays k p n s (record { refusal = 10; verdict = 0; acts = acts; written = 0; sent = k.sent; delivered = k.delivered; joined = k.joined }) w v o o
   finish_cut e z a = record { says = λ c x g q. rw a (cut_short g (ended_is g q false e) z) }
 
-  pub finish_done : {r : ℕ} (u : List ℤ) {v : List ℤ} {z : List ℕ} {t acts : ℕ} → over ≡ true → AnswerDone k n s r w o z → v ≡ zeros u → length u ≡ length w → t ≡ verdict_of k → acts ≡ k.turns + k.delivered →
+  pub finish_done : {r : ℕ} (u : List ℤ) {v : List ℤ} {z : List ℕ} {t acts : ℕ} → over ≡ true → AnswerDone k n s r w o z → v ≡ zeros u → length u ≡ length w → t ≡ verdict_number (verdict_of k.broken) → acts ≡ k.turns + k.delivered →
       FinishSays k p n s (record { refusal = 0; verdict = t; acts = acts; written = r; sent = k.sent; delivered = k.delivered; joined = k.joined }) w v o z
   finish_done u e a z l t i = record { says = λ c x g q. let h = ended_is g q true e in rw (t, i) (finished g u h (a.answers c x g h) z l) }
 

@@ -4,12 +4,11 @@ use mathlib.Core.Bool.{Bool, true, false, ◌||◌}
 use mathlib.Core.List.{List, [], ◌∷◌}
 use Prim.Native.Nat.{ℕ, zero, suc, ◌+◌, ◌≤◌, ◌<◌}
 use native.Mathlib.Omega.{arith}
-use native.Mathlib.Numerals.{add-one}
 use lib.Dec.{ltb, leb}
-use lib.ListN.{length, get_or, take, drop, replicate, drop_of_length-le}
-use lib.Seq.{drop-cons}
+use lib.ListN.{length, get_or, take, replicate}
 use lib.IntN.{ℤ, pos}
-use borrow.Author.Tests.{eqb-true, lt-ltb, le-ltb, le-leb, lt-leb, leb-false}
+use borrow.Author.Tests.{eqb-true, leb-false}
+use Rattle.std.specs.List.{list_any}
 use Rattle.text.proofs.Tests.{or_false}
 use Rattle.model.specs.Case as model
 use Rattle.model.specs.Graph.{rested, accepting_count}
@@ -23,8 +22,10 @@ use Rattle.model.proofs.ActRules.{moment_fresh}
 use Rattle.model.proofs.Kept.{runs_kept, file_sound}
 use Rattle.casefile.specs.Judging.{header, judged}
 use Rattle.casefile.specs.declared.Case.{Case}
-use Rattle.casefile.specs.declared.Judged.{Judged}
-use Rattle.casefile.specs.declared.Judged.TheVariants.{Refused as Turned, Accepted}
+use Rattle.casefile.specs.declared.CaseTables.{CaseTables}
+use Rattle.model.specs.Refusals.{number}
+use Rattle.model.specs.declared.refusal.Refusal.{Refusal}
+use Rattle.std.specs.Prelude.{Result, Ok, Err}
 use Rattle.casefile.specs.Tables.{CaseRead, Holds}
 use Rattle.casefile.proofs.Refusals.{first_decides, first_one}
 use Rattle.casefile.proofs.Whole.{turned, taken}
@@ -33,28 +34,15 @@ use Rattle.search.specs.Rep.{Rep}
 use Rattle.search.specs.Asks.{FreshAsks, FreshSays, ListAsks, ListDone, ByRoundsAsks, ByRoundsSays}
 use Rattle.search.specs.Loading.{LoadAsks, LoadSays, Filed, LoopsAsk, LoopsSay}
 use Rattle.search.specs.Finish.{Gone, FinishAsks, FinishSays}
-use Rattle.search.specs.Entries.{refused_by, load_refusal, CaseLaid, Loads}
-use Rattle.search.specs.declared.Loaded.{Loaded}
-use Rattle.search.specs.declared.Loaded.TheVariants.{Refused as NotLoaded, Laid as LoadedCase}
+use Rattle.search.specs.Entries.{refused_by, load_refusal, CaseLaid}
 use Rattle.search.proofs.Loads.{sound_in, within_in, whole_in, from_rises, load_asks, load_filed, load_counts}
 use Rattle.search.specs.declared.run.Run.{Run}
 
--- ACTS IN RANGE: none so far is at or above the limit
-pub any_start : (l : ℕ) (xs : List ℕ) → any_at_or_above l (drop 0 xs) ≡ any_at_or_above l xs
-any_start l xs = refl
-
-any_step : (l : ℕ) (xs : List ℕ) (i : ℕ) → i < length xs → any_at_or_above l (drop i xs) ≡ (leb l (get_or xs i 0) || any_at_or_above l (drop (i + 1) xs))
-any_step l xs i h = rw (add-one i, drop-cons xs i 0 h) (unfold any_at_or_above in refl)
-
-module _ (l : ℕ) (xs : List ℕ) (i : ℕ) (so_far : any_at_or_above l (drop i xs) ≡ any_at_or_above l xs) where
-  pub any_found : i < length xs → l ≤ get_or xs i 0 → true ≡ any_at_or_above l xs
-  any_found h g = sym (sym so_far ∙ any_step l xs i h ∙ (rw (le-leb l (get_or xs i 0) g) refl))
-
-  pub any_more : i < length xs → get_or xs i 0 < l → any_at_or_above l (drop (i + 1) xs) ≡ any_at_or_above l xs
-  any_more h g = sym (sym so_far ∙ any_step l xs i h ∙ (rw (lt-leb l (get_or xs i 0) g) refl))
-
-  pub any_end : length xs ≤ i → false ≡ any_at_or_above l xs
-  any_end h = sym (sym so_far ∙ (rw (drop_of_length-le xs h) (unfold any_at_or_above in refl)))
+-- ACTS IN RANGE
+pub any_listed : (l : ℕ) (xs : List ℕ) → any_at_or_above l xs ≡ list_any (leb l) xs
+unfolding any_at_or_above
+any_listed l [] = refl
+any_listed l (x ∷ xs) = ap (λ (b : Bool). leb l x || b) (any_listed l xs)
 
 all_below : (l : ℕ) (xs : List ℕ) → any_at_or_above l xs ≡ false → (i : ℕ) → i < length xs → get_or xs i 0 < l
 unfolding any_at_or_above
@@ -70,12 +58,6 @@ buffers_enough o w e =
   where
     ltb_at_least : (a b : ℕ) → ltb a b ≡ false → b ≤ a
     ltb_at_least a b h = borrow.Author.Tests.ltb-false a b h
-
-pub short_output : (o w : ℕ) → o < least_output → true ≡ (ltb o least_output || ltb w least_work)
-short_output o w h = sym (rw (lt-ltb o least_output h) refl)
-
-pub long_output : (o w : ℕ) → least_output ≤ o → ltb w least_work ≡ (ltb o least_output || ltb w least_work)
-long_output o w h = sym (rw (le-ltb o least_output h) refl)
 
 buffers_short : (o w : ℕ) → (ltb o least_output || ltb w least_work) ≡ true → buffer_refusal o w ≡ 11
 unfolding buffer_refusal refuse
@@ -127,24 +109,13 @@ module _ (s xs : List ℕ) (o : List ℕ) (w : List ℤ) where
     pub rounds_turned : (k : ℕ) (v : List ℤ) → (load_refusal s [] ≡ k) × (0 < k) × (v ≡ w) → RoundsSay s (refused_by k) o o w v
     rounds_turned k v t = rw t.2 (unfold RoundsSay in (refused_so _ k _ _ _ o w (rounds_as_loaded ∙ t.0) t.1))
 
--- LOADING: what came of it, by its variant
-pub loads_refused : (s xs : List ℕ) {r : Loaded} {k : ℕ} {w v : List ℤ} → Loads s xs r w v → r ≡ NotLoaded k → (load_refusal s xs ≡ k) × (0 < k) × (v ≡ w)
-loads_refused s xs l e = rw e at l
+-- LOADING: what the reader says
+module _ (s : List ℕ) {r : Result Case Refusal} (p : r ≡ judged s) where
+  pub text_refused : (xs : List ℕ) {e : Refusal} (w : List ℤ) → r ≡ Err e → (load_refusal s xs ≡ number e) × (0 < number e) × (w ≡ w)
+  unfolding load_refusal
+  text_refused xs w q = let t = turned s p q in (rw t.0 (first_decides (case_refusal s) _ t.1), omega (arith, t.0, t.1), refl)
 
-pub loads_laid : {s xs : List ℕ} {r : Loaded} {c : Case} {n m : ℕ} {w v : List ℤ} → Loads s xs r w v → r ≡ LoadedCase c n m → CaseLaid s xs c n m w v
-loads_laid l e = rw e at l
-
-module _ (s : List ℕ) {r : Judged} (p : r ≡ judged s) where
-  pub text_refused : (xs : List ℕ) {k : ℕ} (w : List ℤ) → r ≡ Turned k → (load_refusal s xs ≡ k) × (0 < k) × (w ≡ w)
-  text_refused xs {k} w q = let t = turned s p q in (decided t.0 t.1, positive k t.1, refl)
-    where
-      decided : case_refusal s ≡ k → (k ≡ 0 → ⊥) → load_refusal s xs ≡ k
-      decided e n = unfold load_refusal in (rw e (first_decides k _ n))
-
-      positive : (k : ℕ) → (k ≡ 0 → ⊥) → 0 < k
-      positive k n = omega arith
-
-  module _ {c : Case} (q : r ≡ Accepted c) where
+  module _ {c : Case} (q : r ≡ Ok c) where
     is_taken : (accepted s ≡ true) × (c ≡ header s)
     is_taken = taken s p q
 
@@ -166,26 +137,43 @@ module _ (s : List ℕ) {r : Judged} (p : r ≡ judged s) where
         nine : any_at_or_above ((case_in s).workers + length (case_in s).graph.edges) xs ≡ true → load_refusal s xs ≡ 9
         nine f = let e = rw (← whole_in s) at f in unfold load_refusal acts_refusal in (rw (eqb-true (case_refusal s) 0 (unfold accepted in is_taken.0), e) (unfold refuse first_of in refl))
 
-module _ (s : List ℕ) {r : Judged} {marks marks' owners owners' froms froms' tos tos' : List ℕ} (g : CaseRead s r marks marks' owners owners' froms froms' tos tos') {c : Case} (q : r ≡ Accepted c)
-    (rows : (model.most_vertices ≤ length marks) × (model.most_vertices ≤ length owners)) (pairs : (model.most_edges ≤ length froms) × (model.most_edges ≤ length tos))
-    (long : (length marks' ≡ length marks) × (length owners' ≡ length owners) × (length froms' ≡ length froms) × (length tos' ≡ length tos)) where
-  room : (c.vertices ≤ length marks') × (c.vertices ≤ length owners') × (c.edges ≤ length froms') × (c.edges ≤ length tos')
-  room = let f = counts_few s g.answer q in (omega (arith, rows.0, long.0, f.2), omega (arith, rows.1, long.1, f.2), omega (arith, pairs.0, long.2, f.1), omega (arith, pairs.1, long.3, f.1))
+-- tables with room for every case
+pub record Roomy (t : CaseTables) : Type 0 where
+  pub marks : model.most_vertices ≤ length t.marks.now
+  pub owners : model.most_vertices ≤ length t.owners.now
+  pub froms : model.most_edges ≤ length t.froms.now
+  pub tos : model.most_edges ≤ length t.tos.now
 
-  in_tables : Holds (case_in s) marks' owners' froms' tos'
+-- four arrays that have such room, and were lent as these tables
+pub record Lent (t : CaseTables) (marks owners froms tos : List ℕ) : Type 0 where
+  pub marks_are : t.marks.now ≡ marks
+  pub owners_are : t.owners.now ≡ owners
+  pub froms_are : t.froms.now ≡ froms
+  pub tos_are : t.tos.now ≡ tos
+  pub marks_room : model.most_vertices ≤ length marks
+  pub owners_room : model.most_vertices ≤ length owners
+  pub froms_room : model.most_edges ≤ length froms
+  pub tos_room : model.most_edges ≤ length tos
+
+module _ (s : List ℕ) {r : Result Case Refusal} {old new : CaseTables} (g : CaseRead s r old new) {c : Case} (q : r ≡ Ok c) {ms ws fs ts : List ℕ} (before : Roomy old) (after : Lent new ms ws fs ts) where
+  room : (c.vertices ≤ length ms) × (c.vertices ≤ length ws) × (c.edges ≤ length fs) × (c.edges ≤ length ts)
+  room = let f = counts_few s g.answer q in (omega (arith, after.marks_room, f.2), omega (arith, after.owners_room, f.2), omega (arith, after.froms_room, f.1), omega (arith, after.tos_room, f.1))
+
+  in_tables : Holds (case_in s) ms ws fs ts
   in_tables =
       let k = within_in s (is_taken s g.answer q).0 in
-      held g q (omega (arith, rows.0, k.vertices)) (omega (arith, rows.1, k.vertices)) (omega (arith, pairs.0, whole_in s, k.file)) (omega (arith, pairs.1, whole_in s, k.file))
+      rw (← after.marks_are, ← after.owners_are, ← after.froms_are, ← after.tos_are)
+      (held g q (omega (arith, before.marks, k.vertices)) (omega (arith, before.owners, k.vertices)) (omega (arith, before.froms, whole_in s, k.file)) (omega (arith, before.tos, whole_in s, k.file)))
 
   accepts : accepted s ≡ true
   accepts = (is_taken s g.answer q).0
 
-  pub tables_ask : {w : List ℤ} → least_work ≤ length w → LoadAsks (take c.vertices marks') (take c.vertices owners') (take c.edges froms') (take c.edges tos') w
+  pub tables_ask : {w : List ℤ} → least_work ≤ length w → LoadAsks (take c.vertices ms) (take c.vertices ws) (take c.edges fs) (take c.edges ts) w
   tables_ask enough = load_asks (sound_in s accepts) (within_in s accepts) (from_rises s accepts) (whole_in s) in_tables (vertices_of s g.answer q) (edges_of s g.answer q) room enough
 
   -- the file's case, and then the case of its runs
   module _ {count : ℕ} {w v : List ℤ} (enough : least_work ≤ length w)
-      (l : LoadSays (take c.vertices marks') (take c.vertices owners') (take c.edges froms') (take c.edges tos') count w v) where
+      (l : LoadSays (take c.vertices ms) (take c.vertices ws) (take c.edges fs) (take c.edges ts) count w v) where
     filed : Filed (case_in s) v
     filed = load_filed (sound_in s accepts) (within_in s accepts) (from_rises s accepts) (whole_in s) in_tables (vertices_of s g.answer q) (edges_of s g.answer q) room enough l
 

@@ -16,7 +16,7 @@ use lib.IntN.{ℤ, pos}
 use Rattle.text.specs.Lines.{lines, line_at}
 use Rattle.text.specs.Numbers.{number_at}
 use Rattle.text.proofs.Tests.{or_cases, and_both}
-use Rattle.model.specs.Graph.{Edge, edge, mark, total, accepting_count}
+use Rattle.model.specs.Graph.{Edge, edge, total, accepting_count}
 use Rattle.model.specs.Case.{Case, owner, least_work, Sound, Within}
 use Rattle.model.specs.CaseFile.{rises, case_refusal, accepted, case_in}
 use Rattle.model.specs.Promise.{FilesSound}

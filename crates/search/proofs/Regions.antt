@@ -48,19 +48,6 @@ module _ {A : Type 0} (enc : A → ℤ) (d : A) (base : ℕ) (l : List A) (w : L
 pub fill_start : (b : ℕ) (z : ℤ) (w : List ℤ) → Filled b 0 z w w
 fill_start b z w = record { long = refl; inside = λ j h g. absurd (omega arith); before = λ j h. refl; after = λ j h. refl }
 
-pub fill_step : (b i : ℕ) (z : ℤ) (w v : List ℤ) → Filled b i z w v → b + i < length v → Filled b (i + 1) z w (set v (b + i) z)
-fill_step b i z w v f h =
-    record {
-      long = length-set v (b + i) z ∙ f.long;
-      inside = λ j p q. go j p q (same_or j (b + i));
-      before = λ j p. let n : j ≡ b + i → ⊥ = λ e. omega arith in get_or-set_other v (b + i) j z (pos 0) n ∙ f.before j p;
-      after = λ j p. let n : j ≡ b + i → ⊥ = λ e. omega arith in get_or-set_other v (b + i) j z (pos 0) n ∙ f.after j (omega arith);
-    }
-  where
-    go : (j : ℕ) → b ≤ j → j < b + (i + 1) → (j ≡ b + i) ⊎ (j ≡ b + i → ⊥) → get_or (set v (b + i) z) j (pos 0) ≡ z
-    go j p q (inl e) = rw e (get_or-set_same v (b + i) z (pos 0) h)
-    go j p q (inr n) = get_or-set_other v (b + i) j z (pos 0) n ∙ f.inside j p (omega arith)
-
 -- a region is written from its front: what a loop that lays a list into the cells has done so far
 module _ {A : Type 0} (enc : A → ℤ) (d : A) (base : ℕ) (l : List A) where
   pub region_none : (w : List ℤ) → Region enc d base (take 0 l) w

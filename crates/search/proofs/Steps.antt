@@ -4,6 +4,7 @@ use mathlib.Core.Bool.{Bool, true, false, cond}
 use mathlib.Core.List.{List, [], ◌∷◌, ◌++◌}
 use mathlib.Core.Logic.{◌⊎◌, inl, inr}
 use mathlib.Core.Option.{Option, none, some}
+use Rattle.std.specs.Prelude as code
 use Prim.Native.Nat.{ℕ, zero, suc, ◌+◌, ◌≤◌, ◌<◌}
 use native.Mathlib.Omega.{arith}
 use native.Mathlib.Numerals.{add-one}
@@ -18,8 +19,8 @@ use Rattle.model.specs.Run.{State, is_some, ended_lasso, with_queues, takes, mem
 use Rattle.model.proofs.Tools.{member_first}
 use Rattle.model.proofs.Tallied.{put_balanced}
 use Rattle.search.specs.declared.run.Run.{Run}
-use Rattle.search.specs.Cells.{Below, far, more, accepting_at, owner_at, to_at, distance_at, parent_at, link_at, message_at, head_at, tail_at}
-use Rattle.search.specs.Rep.{Table, Laid, Rep, tallies_in, link}
+use Rattle.search.specs.Cells.{Below, far, accepting_at, owner_at, to_at, distance_at, parent_at, link_at, message_at, head_at, tail_at}
+use Rattle.search.specs.Rep.{Table, Laid, Rep, tallies_in, held_as, link}
 use Rattle.search.specs.Asks.{LengthIs}
 use Rattle.search.proofs.Stores.{there, held_depth, held_parent, held_link, held_cell, held_head, held_tail}
 use Rattle.search.proofs.Queues.{join_first, join_next, leave, chain_marked, true_or, link_low, links_low, last_below}
@@ -29,7 +30,7 @@ pub cell_is : {base size : ℕ} {l : List ℕ} {w : List ℤ} → Table pos 0 ba
 cell_is {base} {size} {l} t i r h e = let z : pos (get_or l i 0) ≡ pos r = sym (there t i h) ∙ e in cc
 
 -- one counter changed
-abbrev pub with_broken : (broken : ℕ) → Run → Run
+abbrev pub with_broken : (broken : code.Option ℕ) → Run → Run
 with_broken n k = record { turns = k.turns; sent = k.sent; delivered = k.delivered; joined = k.joined; marks = k.marks; broken = n }
 
 -- THE CASE
@@ -247,7 +248,7 @@ unfolding relax
 relax_kept c x k w e v o rep t h = rw (← t, h) rep
 
 pub relax_taken : (c : Case) (x : State) (k : Run) (w : List ℤ) (e v o : ℕ) (b : Bool) → v ≡ (edge c.graph e).to → takes (get_or x.depths v none) o ≡ true
-    → Rep c (with_queues (enqueue (owner c v) v x.queues) (offered x v o e)) k w → ltb (accepting_count c.graph) o ≡ b → (n : ℕ) → n ≡ more (cond b (some v) none)
+    → Rep c (with_queues (enqueue (owner c v) v x.queues) (offered x v o e)) k w → ltb (accepting_count c.graph) o ≡ b → (n : code.Option ℕ) → n ≡ held_as (cond b (some v) none)
     → Rep c (relax c e o x) (with_broken n k) w
 unfolding relax below_floor
 relax_taken c x k w e v o b t h rep bt n br =
@@ -263,14 +264,18 @@ relax_taken c x k w e v o b t h rep bt n br =
     })
 
 -- SCAN
-pub is_broken : (o : Option ℕ) → (more o ≡ 0 → ⊥) → is_some o ≡ true
+pub is_broken : (o : Option ℕ) → code.is_some (held_as o) ≡ true → is_some o ≡ true
 unfolding is_some
-is_broken none n = absurd (n refl)
-is_broken (some v) n = refl
+is_broken none h = cc
+is_broken (some v) h = refl
 
-pub not_broken : (o : Option ℕ) → more o ≡ 0 → o ≡ none
+pub not_broken : (o : Option ℕ) → code.is_some (held_as o) ≡ false → o ≡ none
 not_broken none h = refl
-not_broken (some v) h = let z : ◌≡◌ {A = ℕ} 0 1 = omega arith in cc
+not_broken (some v) h = cc
+
+pub broken_at : (o : Option ℕ) (b : ℕ) → code.Some b ≡ held_as o → o ≡ some b
+broken_at none b h = cc
+broken_at (some v) b h = let z : v ≡ b = cc in ap some z
 
 is_none : (o : Option ℕ) → o ≡ none → is_some o ≡ false
 unfolding is_some

@@ -6,6 +6,7 @@ use mathlib.Core.Logic.{◌⊎◌, inl, inr}
 use mathlib.Core.Option.{Option, none, some}
 use Prim.Native.Nat.{ℕ, zero, suc, ◌+◌, ◌-◌, ◌*◌, ◌≤◌, ◌<◌}
 use native.Mathlib.Omega.{arith}
+use Rattle.std.proofs.Math.Nat.{sub-zero}
 use native.Mathlib.Nat.{zero-add, add-zero}
 use native.Mathlib.Numerals.{add-one}
 use lib.ListN.{length, get_or, set, take}
@@ -27,7 +28,7 @@ use Rattle.search.specs.Asks.{none_waits, Inserted, Among, Listed, Only, TurnsLe
 use Rattle.search.proofs.Regions.{same_or, below_or}
 use Rattle.search.proofs.Inserts.{among_new, among_old, listed_more, each_more}
 use Rattle.search.proofs.Queues.{link_one, all_empty, one_more}
-use Rattle.search.proofs.Acts.{none_full, broken_none, nothing_left, link_split, link_two, turn_none, turn_is, delivery_none, delivery_some, act_turn, act_delivery, delivery_act}
+use Rattle.search.proofs.Acts.{none_full, nothing_left, link_split, link_two, turn_none, turn_is, delivery_none, delivery_some, act_turn, act_delivery, delivery_act}
 
 -- ACTS BY NUMBER
 step_range : (c : Case) (k i : ℕ) (x : State) → acted c (range (suc k) i) x ≡ acted c (range k (suc i)) (act c i x)
@@ -258,7 +259,7 @@ module _ (c : Case) (x : State) (p : ℕ) (e : p ≡ c.workers) where
       }
 
   pub turns_done : (H : List ℕ) (n w : ℕ) (k : Run) (cells : List ℤ) → (u : Turning c x p H n w k cells) → p ≤ w → n ≤ p
-      → TurnsLeave c (acted c (range c.workers 0) x) (record { run = k; scanned = n }) cells H
+      → TurnsLeave c (acted c (range c.workers 0) x) k n cells H
   turns_done H n w k cells u l m =
       let z : p - 0 ≡ c.workers = omega arith in
       let i : u.along.at ≡ acted c (range c.workers 0) x = along_is c x 0 p w k cells u.along l ∙ rw z in
@@ -485,26 +486,25 @@ pub record Left (c : Case) (x : State) (many left : ℕ) (k : Run) (w : List ℤ
   pub rest : rounds left c at ≡ rounds many c x
 
 module _ (c : Case) (x : State) (many : ℕ) where
-  pub left_start : (k : Run) (w : List ℤ) → Rep c x k w → Moment c x → no_message x.cells ≡ true → Left c x many many k w
-  left_start k w rep p e = record { at = x; rep = rep; moment = p; empty = λ _. e; rest = refl }
+  pub left_start : (k : Run) (w : List ℤ) → Rep c x k w → Moment c x → no_message x.cells ≡ true → Left c x many (many - 0) k w
+  left_start k w rep p e = record { at = x; rep = rep; moment = p; empty = λ _. e; rest = rw sub-zero refl }
 
-  pub left_empty : (left : ℕ) (k : Run) (w : List ℤ) → (u : Left c x many left k w) → k.broken ≡ 0 → no_message u.at.cells ≡ true
-  left_empty left k w u z = go (has_ended u.at) refl
+  pub left_empty : (left : ℕ) (k : Run) (w : List ℤ) → (u : Left c x many left k w) → u.at.broken ≡ none → no_message u.at.cells ≡ true
+  left_empty left k w u whole = go (has_ended u.at) refl
     where
       go : (b : Bool) → has_ended u.at ≡ b → no_message u.at.cells ≡ true
-      go true o = (nothing_left c u.at u.rep.held.laid.sound u.moment (broken_none u.rep z) o).cells
+      go true o = (nothing_left c u.at u.rep.held.laid.sound u.moment whole o).cells
       go false o = u.empty o
 
-  pub left_step : (left : ℕ) (k k' : Run) (w w' : List ℤ) → (u : Left c x many left k w) → 0 < left → Rep c (acted c (round_acts c) u.at) k' w' → Left c x many (left - 1) k' w'
-  left_step left k k' w w' u h rep =
+  pub left_step : (left next : ℕ) (k k' : Run) (w w' : List ℤ) → (u : Left c x many left k w) → left ≡ suc next → Rep c (acted c (round_acts c) u.at) k' w' → Left c x many next k' w'
+  left_step left next k k' w w' u i rep =
       let ok = rep.held.laid.sound in
-      let i : left ≡ suc (left - 1) = omega arith in
       record {
         at = acted c (round_acts c) u.at;
         rep = rep;
         moment = moment_acted c (round_acts c) u.at u.moment;
         empty = (round_keeps c ok u.at.tallies.joined u.at (record { shape = (moment_known c ok u.at u.moment).paid.shape; joins = refl; empty = u.empty })).empty;
-        rest = sym (rounds_step (left - 1) c u.at) ∙ ap (λ (j : ℕ). rounds j c u.at) (sym i) ∙ u.rest;
+        rest = sym (rounds_step next c u.at) ∙ ap (λ (j : ℕ). rounds j c u.at) (sym i) ∙ u.rest;
       }
 
   pub left_over : (left : ℕ) (k : Run) (w : List ℤ) → (u : Left c x many left k w) → has_ended u.at ≡ true → Rep c (rounds many c x) k w
@@ -513,7 +513,7 @@ module _ (c : Case) (x : State) (many : ℕ) where
   -- a round that ends the run is the last
   pub left_last : (left : ℕ) (k k' : Run) (w w' : List ℤ) → (u : Left c x many left k w) → 0 < left → Rep c (acted c (round_acts c) u.at) k' w' → has_ended (acted c (round_acts c) u.at) ≡ true → Rep c (rounds many c x) k' w'
   unfolding left_step
-  left_last left k k' w w' u h rep o = left_over (left - 1) k' w' (left_step left k k' w w' u h rep) o
+  left_last left k k' w w' u h rep o = left_over (left - 1) k' w' (left_step left (left - 1) k k' w w' u (omega arith) rep) o
 
   pub left_done : (left : ℕ) (k : Run) (w : List ℤ) → (u : Left c x many left k w) → left ≤ 0 → Rep c (rounds many c x) k w
   left_done left k w u h =

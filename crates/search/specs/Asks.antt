@@ -1,13 +1,12 @@
 -- What the functions over a run ask and say: each asks that the cells hold some run, and speaks of every run that they
 -- hold. Assumes nothing: these are definitions.
-use Rattle.std.specs.Prelude.{◌≡◌, Bool, true, false, List, [], ◌∷◌, ℕ, ◌+◌, ◌-◌, ◌≤◌, ◌<◌, ◌^◌, eqb, length, get_or, set, replicate, ℤ, pos, neg_ℤ}
+use Rattle.std.specs.Prelude.{◌≡◌, Bool, true, false, List, [], ◌∷◌, ℕ, ◌+◌, ◌-◌, ◌≤◌, ◌<◌, ◌^◌, eqb, length, get_or, set, replicate, ℤ, pos, neg_ℤ, None}
 use Rattle.std.proofs.Math.Option.{Option, none, some}
 use Rattle.model.specs.Graph.{Graph, edge, mark, edge_depth, edge_length, accepting_count}
 use Rattle.model.specs.Case.{Case, owner, most_vertices}
 use Rattle.model.specs.Run.{no_tallies, State, has_ended, is_some, fresh, with_queues, enqueue, lower, send, relax, scan_edge, scan, no_vertex, no_message, turn, delivery, act, acted, range, round_acts, rounds, by_rounds, Moment}
 use Rattle.search.specs.declared.run.Run.{Run}
-use Rattle.search.specs.declared.edges.Range.{Range}
-use Rattle.search.specs.declared.rounds.Turned.{Turned}
+use Rattle.std.specs.declared.ops.Range.{Range}
 use Rattle.search.specs.Cells.{far, message_at}
 use Rattle.search.specs.Rep.{Firsts, Own, Laid, coded, Rep}
 
@@ -90,8 +89,8 @@ pub record RangeAsks (v : ℕ) (w : List ℤ) : Type 0 where
   pub laid : Laid case w
   pub below : v < case.graph.vertices
 
-unfoldable pub RangeSays : (v : ℕ) → (r : Range) → (w : List ℤ) → Type 0
-RangeSays v r w = (c : Case) → Laid c w → v < c.graph.vertices → Own c v r.first r.end
+unfoldable pub RangeSays : (v : ℕ) → (r : Range ℕ) → (w : List ℤ) → Type 0
+RangeSays v r w = (c : Case) → Laid c w → v < c.graph.vertices → Own c v r.start r.end
 
 -- A SCAN of v at the distance d
 pub record ScanAsks (v : ℕ) (d : ℤ) (k : Run) (w : List ℤ) : Type 0 where
@@ -187,7 +186,7 @@ blank c =
     }
 
 abbrev pub blank_run : (marks : ℕ) → Run
-blank_run a = record { turns = 0; sent = 0; delivered = 0; joined = 0; marks = a; broken = 0 }
+blank_run a = record { turns = 0; sent = 0; delivered = 0; joined = 0; marks = a; broken = None }
 
 unfoldable pub BlankSays : (w w' : List ℤ) → Type 0
 BlankSays w w' = (c : Case) → Laid c w → Rep c (blank c) (blank_run (accepting_count c.graph)) w'
@@ -250,17 +249,17 @@ pub record TurnsAsk (p : ℕ) (k : Run) (w : List ℤ) (size : ℕ) : Type 0 whe
   pub empty : no_message state.cells ≡ true
 
 -- the run y after the turns, and the vertices that were scanned
-pub record TurnsLeave (c : Case) (y : State) (t : Turned) (w : List ℤ) (heads : List ℕ) : Type 0 where
-  pub rep : Rep c y t.run w
-  pub few : t.scanned ≤ c.workers
-  pub listed : Listed c.graph.vertices heads t.scanned
-  pub only : Only c heads t.scanned y
-  pub idle : t.scanned ≡ 0 → no_vertex y.queues ≡ true
+pub record TurnsLeave (c : Case) (y : State) (k : Run) (scanned : ℕ) (w : List ℤ) (heads : List ℕ) : Type 0 where
+  pub rep : Rep c y k w
+  pub few : scanned ≤ c.workers
+  pub listed : Listed c.graph.vertices heads scanned
+  pub only : Only c heads scanned y
+  pub idle : scanned ≡ 0 → no_vertex y.queues ≡ true
 
-unfoldable pub TurnsSay : (p : ℕ) → (k : Run) → (t : Turned) → (w w' : List ℤ) → (heads : List ℕ) → Type 0
-TurnsSay p k t w w' H =
+unfoldable pub TurnsSay : (p : ℕ) → (k k' : Run) → (scanned : ℕ) → (w w' : List ℤ) → (heads : List ℕ) → Type 0
+TurnsSay p k k' t w w' H =
     (c : Case) (x : State) → Rep c x k w → Moment c x → p ≡ c.workers → p ≤ length H → no_message x.cells ≡ true →
-    TurnsLeave c (acted c (range c.workers 0) x) t w' H
+    TurnsLeave c (acted c (range c.workers 0) x) k' t w' H
 
 pub record EdgesAsk (v p : ℕ) (k : Run) (w : List ℤ) : Type 0 where
   pub case : Case
@@ -290,13 +289,13 @@ SweepSays p H k k' w w' =
     Rep c (acted c (range c.file_edges c.workers) x) k' w'
 
 -- the run y after a round; where nothing was scanned it has ended
-pub record RoundLeaves (c : Case) (y : State) (t : Turned) (w : List ℤ) : Type 0 where
-  pub rep : Rep c y t.run w
-  pub ended : t.scanned ≡ 0 → has_ended y ≡ true
+pub record RoundLeaves (c : Case) (y : State) (k : Run) (scanned : ℕ) (w : List ℤ) : Type 0 where
+  pub rep : Rep c y k w
+  pub ended : scanned ≡ 0 → has_ended y ≡ true
 
-unfoldable pub RoundSays : (p : ℕ) → (k : Run) → (t : Turned) → (w w' : List ℤ) → (size : ℕ) → Type 0
-RoundSays p k t w w' size =
-    (c : Case) (x : State) → Rep c x k w → Moment c x → p ≡ c.workers → p ≤ size → no_message x.cells ≡ true → RoundLeaves c (acted c (round_acts c) x) t w'
+unfoldable pub RoundSays : (p : ℕ) → (k k' : Run) → (scanned : ℕ) → (w w' : List ℤ) → (size : ℕ) → Type 0
+RoundSays p k k' t w w' size =
+    (c : Case) (x : State) → Rep c x k w → Moment c x → p ≡ c.workers → p ≤ size → no_message x.cells ≡ true → RoundLeaves c (acted c (round_acts c) x) k' t w'
 
 pub record RoundsAsk (p : ℕ) (k : Run) (w : List ℤ) : Type 0 where
   pub case : Case

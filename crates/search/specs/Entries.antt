@@ -1,5 +1,5 @@
 -- What the steps of the entries ask and say. Assumes nothing: these are definitions.
-use Rattle.std.specs.Prelude.{◌≡◌, true, false, List, [], ◌∷◌, ℕ, ◌+◌, ◌<◌, length, ℤ}
+use Rattle.std.specs.Prelude.{◌≡◌, true, false, List, [], ◌∷◌, ℕ, ◌+◌, ◌<◌, length, ℤ, Result, Ok, Err}
 use Rattle.model.specs.Graph.{accepting_count}
 use Rattle.model.specs.CaseFile.{first_of, case_refusal, accepted, case_in, run_case}
 use Rattle.model.specs.Answer.{no_verdict}
@@ -8,7 +8,8 @@ use Rattle.model.specs.declared.Outcome.{Outcome}
 use Rattle.casefile.specs.Judging.{header}
 use Rattle.casefile.specs.declared.Case.{Case}
 use Rattle.search.specs.declared.Loaded.{Loaded}
-use Rattle.search.specs.declared.Loaded.TheVariants.{Refused, Laid}
+use Rattle.model.specs.Refusals.{number}
+use Rattle.model.specs.declared.refusal.Refusal.{Refusal}
 use Rattle.search.specs.Rep as rep
 
 -- "A refusal returns its number, answer length 0 and 0 acts"; "other refusals return zeros" as tallies
@@ -29,6 +30,6 @@ pub record CaseLaid (bs xs : List ℕ) (c : Case) (count edges : ℕ) (w v : Lis
   pub many : edges ≡ length (run_case bs).graph.edges
   pub long : length v ≡ length w
 
-abbrev pub Loads : (case acts : List ℕ) → Loaded → (work work_now : List ℤ) → Type 0
-Loads bs xs (Refused k) w v = (load_refusal bs xs ≡ k) × (0 < k) × (v ≡ w)
-Loads bs xs (Laid c n m) w v = CaseLaid bs xs c n m w v
+abbrev pub Loads : (case acts : List ℕ) → Result Loaded Refusal → (work work_now : List ℤ) → Type 0
+Loads bs xs (Err r) w v = (load_refusal bs xs ≡ number r) × (0 < number r) × (v ≡ w)
+Loads bs xs (Ok l) w v = CaseLaid bs xs l.case l.marks l.edges w v

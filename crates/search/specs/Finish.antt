@@ -1,11 +1,13 @@
 -- What the end of a run asks and says. Assumes nothing: these are definitions.
-use Rattle.std.specs.Prelude.{◌≡◌, true, cond, List, ℕ, ◌≤◌, eqb, length, ℤ}
+use Rattle.std.specs.Prelude.{◌≡◌, true, List, ℕ, ◌≤◌, length, ℤ, Option, None, Some}
 use Rattle.std.proofs.Math.Option.{some}
 use Rattle.model.specs.Case.{Case, least_output}
 use Rattle.model.specs.Run.{State, has_ended, Moment}
-use Rattle.model.specs.Answer.{empty_verdict, lasso_verdict, answer}
+use Rattle.model.specs.Answer.{answer}
 use Rattle.model.specs.Entry.{RunSays}
 use Rattle.model.specs.declared.Outcome.{Outcome}
+use Rattle.model.specs.declared.verdict.Verdict.{Verdict}
+use Rattle.model.specs.declared.verdict.Verdict.TheVariants.{Lasso, Empty}
 use Rattle.search.specs.Rep.{Rep}
 use Rattle.search.specs.Writing.{Answers}
 use Rattle.search.specs.declared.run.Run.{Run}
@@ -23,15 +25,24 @@ pub record AnswerAsks (k : Run) (n source : ℕ) (w : List ℤ) (o : List ℕ) :
   pub state : State
   pub gone : Gone case state k n source w o
 
--- the answer of a run that broke the floor; of any run that has ended
-pub record LassoDone (k : Run) (n source r : ℕ) (w : List ℤ) (o z : List ℕ) : Type 0 where
-  pub answers : (c : Case) (x : State) (b : ℕ) → Gone c x k n source w o → x.broken ≡ some b → Answers (answer c.graph x) r o z
+pub record BrokenAsks (b n source : ℕ) (w : List ℤ) (o : List ℕ) : Type 0 where
+  pub case : Case
+  pub state : State
+  pub run : Run
+  pub gone : Gone case state run n source w o
+  pub broke : state.broken ≡ some b
+
+-- the answer of a run that broke the floor at b; of any run that has ended
+pub record LassoDone (b n source r : ℕ) (w : List ℤ) (o z : List ℕ) : Type 0 where
+  pub answers : (c : Case) (x : State) (k : Run) → Gone c x k n source w o → x.broken ≡ some b → Answers (answer c.graph x) r o z
 
 pub record AnswerDone (k : Run) (n source r : ℕ) (w : List ℤ) (o z : List ℕ) : Type 0 where
   pub answers : (c : Case) (x : State) → Gone c x k n source w o → has_ended x ≡ true → Answers (answer c.graph x) r o z
 
-abbrev pub verdict_of : Run → ℕ
-verdict_of k = cond (eqb k.broken 0) empty_verdict lasso_verdict
+-- by the vertex that broke the floor
+abbrev pub verdict_of : Option ℕ → Verdict
+verdict_of None = Empty
+verdict_of (Some b) = Lasso
 
 -- such a run, with its number of workers
 pub record FinishAsks (k : Run) (p n source : ℕ) (w : List ℤ) (o : List ℕ) : Type 0 where

@@ -1,13 +1,14 @@
 -- How a case and a run of it lie in the lent cells: the tables of specs/Cells.antt, queues by links, and the counters
 -- of `Run`. Assumes nothing: these are definitions.
 use Rattle.std.specs.Prelude.{◌≡◌, true, false, List, [], ◌∷◌, ℕ, ◌+◌, ◌≤◌, ◌<◌, length, get_or, ℤ, pos}
-use Rattle.std.proofs.Math.Option.{Option, none}
+use Rattle.std.proofs.Math.Option.{Option, none, some}
+use Rattle.std.specs.Prelude as code
 use Rattle.model.specs.Graph.{Edge, edge, accepting_count}
 use Rattle.model.specs.Case.{Case, owner, least_work, Sound, Within}
 use Rattle.model.specs.Run.{Tallies, State, member, full_cells}
 use Rattle.model.specs.Promise.{Balanced}
 use Rattle.search.specs.declared.run.Run.{Run}
-use Rattle.search.specs.Cells.{Region, far, more, by_more, by_from, by_to, accepting_at, owner_at, from_at, to_at, first_at, rest_at, distance_at, parent_at, link_at, message_at, head_at, tail_at}
+use Rattle.search.specs.Cells.{Region, far, by_more, by_from, by_to, accepting_at, owner_at, from_at, to_at, first_at, rest_at, distance_at, parent_at, link_at, message_at, head_at, tail_at}
 
 -- THE CASE. An edge that stands past the last one
 abbrev pub no_edge : Edge
@@ -108,11 +109,16 @@ pub record Lined (c : Case) (qs : List (List ℕ)) (N H T : List ℕ) : Type 0 w
 abbrev pub tallies_in : Run → Tallies
 tallies_in k = record { sent = k.sent; delivered = k.delivered; joined = k.joined }
 
+-- the vertex that broke the floor, if one did, as the code has it
+abbrev pub held_as : Option ℕ → code.Option ℕ
+held_as none = code.None
+held_as (some v) = code.Some v
+
 pub record Counted (A : ℕ) (cells : List (Option ℕ)) (broken : Option ℕ) (count : ℕ) (tallies : Tallies) (k : Run) : Type 0 where
   pub full : Balanced (tallies_in k) (full_cells cells)
   pub acts : k.turns + k.delivered ≡ count
   pub tallied : tallies_in k ≡ tallies
-  pub broke : k.broken ≡ more broken
+  pub broke : k.broken ≡ held_as broken
   pub marks : k.marks ≡ A
 
 -- a run x of the case c stands in the cells w, with the counters k. That it ended as "empty" is nowhere: at every moment

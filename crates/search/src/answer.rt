@@ -38,11 +38,9 @@ fn write_edges(output: &mut [u8], at: usize, work: &[i32], base: usize, count: u
     ensures { EdgesSay at base count result work.now output.old output.new }
 {
     let mut here = at;
-    let mut i: usize = 0;
-    while i < count {
+    for i in 0..count {
         let e = load_below(work, base + i, Case::MOST_RUN_EDGES);
         here = write_field(output, here, e, b'\n');
-        i += 1;
     }
     here
 }
@@ -84,10 +82,8 @@ fn write_vertices(output: &mut [u8], at: usize, work: &[i32], n: usize) -> usize
     ensures { VerticesSay at n result work.now output.old output.new }
 {
     let mut here = at;
-    let mut v: usize = 0;
-    while v < n {
+    for v in 0..n {
         here = write_vertex(output, here, v, load(work, Cells::DISTANCE + v));
-        v += 1;
     }
     here
 }
@@ -98,12 +94,10 @@ fn reached(work: &[i32], n: usize) -> usize
     ensures { Reached n result work.now }
 {
     let mut k: usize = 0;
-    let mut v: usize = 0;
-    while v < n {
+    for v in 0..n {
         if load(work, Cells::DISTANCE + v) <= 0 {
             k += 1;
         }
-        v += 1;
     }
     k
 }

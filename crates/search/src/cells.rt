@@ -46,19 +46,17 @@ impl Cells {
     pub const CYCLE: usize = Cells::STEM + Case::MOST_VERTICES;
 }
 
-// How the cells code what may be missing (specs/Cells.antt, specs/Rep.antt). A distance or a message that is not there
-// is above
-// every one that is.
-pub(crate) const NO_DISTANCE: i32 = 1;
+// How the lent cells, which are signed numbers for every caller, code what may be missing (specs/Cells.antt,
+// specs/Rep.antt). A distance or a message that is not there is above every one that is.
+pub(crate) const NO_DISTANCE: usize = 1;
 
-// A parent edge, and the vertex that broke the floor: NONE, or its number and SOME.
+// A parent edge: NONE, or its number and SOME.
 pub(crate) const NONE: usize = 0;
 
 pub(crate) const SOME: usize = 1;
 
 // A vertex's link: NOT_QUEUED, or QUEUE_END, or the next vertex and QUEUED. A worker's head: QUEUE_END, or the first
-// vertex and
-// QUEUED.
+// vertex and QUEUED.
 pub(crate) const NOT_QUEUED: usize = 0;
 
 pub(crate) const QUEUE_END: usize = 1;
@@ -96,7 +94,7 @@ pub(crate) fn store(work: &mut [i32], i: usize, z: i32)
     work[i] = z;
 }
 
-// Puts a number into a cell.
+// Puts a number into a cell: below a limit, which a signed number needs none of.
 pub(crate) fn store_number(work: &mut [i32], i: usize, v: usize)
     requires { (i < length work.old) × (v < 2 ^ 31) }
     ensures { work.new ≡ set work.old i (pos v) }
@@ -105,32 +103,16 @@ pub(crate) fn store_number(work: &mut [i32], i: usize, v: usize)
 }
 
 // Puts one number into each of `count` cells from `at` on.
-pub(crate) fn fill(work: &mut [i32], at: usize, count: usize, z: i32)
-    requires { at + count ≤ length work.old }
-    ensures { Filled at count z work.old work.new }
-{
-    let mut i: usize = 0;
-    while i < count {
-        work[at + i] = z;
-        i += 1;
-    }
-}
-
-// The same of a number that fits a cell.
-pub(crate) fn fill_number(work: &mut [i32], at: usize, count: usize, v: usize)
+pub(crate) fn fill(work: &mut [i32], at: usize, count: usize, v: usize)
     requires { (at + count ≤ length work.old) × (v < 2 ^ 31) }
     ensures { Filled at count (pos v) work.old work.new }
 {
-    fill(work, at, count, v as i32);
+    work[at..at + count].fill(v as i32);
 }
 
 // Makes every cell 0.
 pub(crate) fn clear(work: &mut [i32])
     ensures { work.new ≡ zeros work.old }
 {
-    let mut i: usize = 0;
-    while i < work.len() {
-        work[i] = 0;
-        i += 1;
-    }
+    work.fill(0);
 }

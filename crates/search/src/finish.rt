@@ -1,20 +1,26 @@
 // The end of a run: its answer into the output, its outcome, and the cells zeros again. Contracts cite specs/Finish.antt.
-ghost use Rattle.search.specs.Finish.{AnswerAsks, LassoDone, AnswerDone, FinishAsks, FinishSays, verdict_of};
+ghost use Rattle.search.specs.Finish.{AnswerAsks, BrokenAsks, LassoDone, AnswerDone, FinishAsks, FinishSays, verdict_of};
 ghost use Rattle.std.specs.Prelude.{◌≡◌};
 
 use crate::answer::{write_empty, write_lasso};
-use crate::cells::{Cells, NONE, SOME, clear};
-use crate::run::{Run, acts_done, is_over};
+use crate::cells::{Cells, clear};
+use crate::run::Run;
 use crate::show::show_lasso;
 use casefile::Case;
-use model::Outcome;
+use model::{Outcome, Refusal, Verdict};
 
-// The answer "lasso" of a run that broke the floor.
-fn lasso_answer(output: &mut [u8], work: &mut [i32], run: Run, n: usize, source: usize) -> usize
-    requires { AnswerAsks run n source work.old output.old × (run.broken ≡ 0 → ⊥) }
-    ensures { LassoDone run n source result work.old output.old output.new }
+// The answer "lasso" of a run that broke the floor at `broken`.
+fn lasso_answer(
+    output: &mut [u8],
+    work: &mut [i32],
+    broken: usize,
+    n: usize,
+    source: usize,
+) -> usize
+    requires { BrokenAsks broken n source work.old output.old }
+    ensures { LassoDone broken n source result work.old output.old output.new }
 {
-    let shown = show_lasso(work, run.broken - SOME, source, n);
+    let shown = show_lasso(work, broken, source, n);
     let stem = shown.stem;
     let cycle = shown.cycle;
     let end = Cells::CYCLE + Case::MOST_VERTICES;
@@ -26,39 +32,32 @@ fn write_answer(output: &mut [u8], work: &mut [i32], run: Run, n: usize, source:
     requires { AnswerAsks run n source work.old output.old }
     ensures { AnswerDone run n source result work.old output.old output.new }
 {
-    if run.broken != NONE {
-        return lasso_answer(output, work, run, n, source);
+    match run.broken {
+        Some(broken) => lasso_answer(output, work, broken, n, source),
+        None => write_empty(output, work, n),
     }
-    write_empty(output, work, n)
 }
 
 // The verdict of a run that has ended.
-fn verdict(run: Run) -> u32
-    ensures { result ≡ verdict_of run }
+fn verdict(run: Run) -> Verdict
+    ensures { result ≡ verdict_of run.broken }
 {
-    if run.broken != NONE {
-        return Outcome::LASSO;
+    match run.broken {
+        Some(_) => Verdict::Lasso,
+        None => Verdict::Empty,
     }
-    Outcome::EMPTY
 }
 
 // Ends a run: with a result if it is over, else by refusal 10.
-pub(crate) fn finish(
-    output: &mut [u8],
-    work: &mut [i32],
-    run: Run,
-    p: usize,
-    n: usize,
-    source: usize,
-) -> Outcome
-    requires { FinishAsks run p n source work.old output.old }
-    ensures { FinishSays run p n source result work.old work.new output.old output.new }
+pub(crate) fn finish(output: &mut [u8], work: &mut [i32], run: Run, case: Case) -> Outcome
+    requires { FinishAsks run case.workers case.vertices case.source work.old output.old }
+    ensures { FinishSays run case.workers case.vertices case.source result work.old work.new output.old output.new }
 {
-    let acts = acts_done(run);
-    if !is_over(work, run, p) {
+    let acts = run.acts_done();
+    if !run.is_over(work, case.workers) {
         clear(work);
         return Outcome {
-            refusal: 10,
+            refusal: Refusal::Unended.number(),
             verdict: Outcome::NONE,
             acts: acts,
             written: 0,
@@ -67,11 +66,11 @@ pub(crate) fn finish(
             joined: run.joined,
         };
     }
-    let written = write_answer(output, work, run, n, source);
+    let written = write_answer(output, work, run, case.vertices, case.source);
     clear(work);
     Outcome {
         refusal: 0,
-        verdict: verdict(run),
+        verdict: verdict(run).number(),
         acts: acts,
         written: written as u32,
         sent: run.sent,

@@ -1,7 +1,7 @@
 // Loads a case from its tables into the cells: marks, owners, ends, each vertex's first edge, and then the rest loops.
 ghost use Rattle.search.specs.Loading.{LoadAsks, LoadSays, RowsAsk, RowsSay, PairAsks, PairSays, PairsAsk, PairsSay, LoopAsks, LoopSays, LoopsAsk, LoopsSay};
 
-use super::cells::{Cells, fill_number, load_below, store_number};
+use super::cells::{Cells, fill, load_below, store_number};
 use casefile::Case;
 
 // Stores the marks and the owners of the vertices, and counts the accepting ones.
@@ -10,13 +10,11 @@ fn load_vertices(work: &mut [i32], marks: &[u32], owners: &[u32]) -> usize
     ensures { RowsSay marks.now owners.now result work.old work.new }
 {
     let mut count: usize = 0;
-    let mut v: usize = 0;
-    while v < marks.len() {
+    for v in 0..marks.len() {
         let mark = marks[v] as usize;
         store_number(work, Cells::ACCEPTING + v, mark);
         store_number(work, Cells::OWNER + v, owners[v] as usize);
         count += mark;
-        v += 1;
     }
     count
 }
@@ -32,7 +30,7 @@ fn load_edge(work: &mut [i32], e: usize, from: usize, to: usize, next: usize) ->
     if from < next {
         return next;
     }
-    fill_number(work, Cells::FIRST + next, from + 1 - next, e);
+    fill(work, Cells::FIRST + next, from + 1 - next, e);
     from + 1
 }
 
@@ -42,12 +40,10 @@ fn load_edges(work: &mut [i32], froms: &[u32], tos: &[u32], n: usize)
     ensures { PairsSay froms.now tos.now n work.old work.new }
 {
     let mut next: usize = 0;
-    let mut e: usize = 0;
-    while e < froms.len() {
+    for e in 0..froms.len() {
         next = load_edge(work, e, froms[e] as usize, tos[e] as usize, next);
-        e += 1;
     }
-    fill_number(work, Cells::FIRST + next, n + 1 - next, froms.len());
+    fill(work, Cells::FIRST + next, n + 1 - next, froms.len());
 }
 
 // Loads a case from its tables, and counts its accepting vertices.
@@ -88,10 +84,8 @@ pub(crate) fn load_loops(work: &mut [i32], n: usize, m: usize) -> usize
     ensures { LoopsSay n m result work.old work.new }
 {
     let mut k = m;
-    let mut v: usize = 0;
-    while v < n {
+    for v in 0..n {
         k = load_loop(work, v, k);
-        v += 1;
     }
     k
 }

@@ -43,13 +43,11 @@ pub(crate) fn none_queued(work: &[i32], p: usize) -> bool
     requires { QueuesAsk p work.now }
     ensures { QueuesSay p result work.now }
 {
-    let mut w: usize = 0;
-    while w < p {
+    for w in 0..p {
         let head = load_below(work, Cells::HEAD + w, Case::MOST_VERTICES + QUEUED);
         if head != QUEUE_END {
             return false;
         }
-        w += 1;
     }
     true
 }

@@ -3,8 +3,8 @@
 ghost use Rattle.std.specs.Prelude.{◌<◌, length};
 ghost use Rattle.search.specs.Asks.{Inserted, TurnsAsk, TurnsSay, EdgesAsk, EdgesSay, SweepAsks, SweepSays, RoundSays, RoundsAsk, RoundsDone, ByRoundsAsks, ByRoundsSays};
 
-use super::cells::{Cells, NONE, QUEUE_END, QUEUED, load_below};
-use super::run::{Run, act, deliver, none_full};
+use super::cells::{Cells, QUEUE_END, QUEUED, load_below};
+use super::run::Run;
 use casefile::Case;
 
 // Puts h into its place among the first `many` numbers of a list, which rise; those behind it move up by one.
@@ -12,125 +12,98 @@ pub(crate) fn insert(list: &mut [usize], many: usize, h: usize)
     requires { many < length list.old }
     ensures { Inserted many h list.old list.new }
 {
-    let mut i = many;
-    while 0 < i {
-        if list[i - 1] < h {
-            list[i] = h;
+    for i in (0..many).rev() {
+        if list[i] < h {
+            list[i + 1] = h;
             return;
         }
-        list[i] = list[i - 1];
-        i -= 1;
+        list[i + 1] = list[i];
     }
     list[0] = h;
 }
 
-// What a round and its turns leave: the run, and how many vertices were scanned.
-#[derive(Clone, Copy)]
-pub(crate) struct Turned {
-    pub run: Run,
-    pub scanned: usize,
-}
-
-// Every turn by worker number. The vertices that are scanned, coded as a queue's head, stand in rising order at the
-// front of `heads`.
-pub(crate) fn turns(work: &mut [i32], run: Run, p: usize, heads: &mut [usize]) -> Turned
-    requires { TurnsAsk p run work.old (length heads.old) }
-    ensures { TurnsSay p run result work.old work.new heads.new }
-{
-    let mut r = run;
-    let mut scanned: usize = 0;
-    for w in 0..p {
-        let head = load_below(work, Cells::HEAD + w, Case::MOST_VERTICES + QUEUED);
-        if head == QUEUE_END {
-            continue;
+impl Run {
+    // Every turn by worker number. The vertices that are scanned, coded as a queue's head, stand in rising order at the
+    // front of `heads`. Gives how many they are.
+    fn turns(&mut self, work: &mut [i32], p: usize, heads: &mut [usize]) -> usize
+        requires { TurnsAsk p self.old work.old (length heads.old) }
+        ensures { TurnsSay p self.old self.new result work.old work.new heads.new }
+    {
+        let mut scanned: usize = 0;
+        for w in 0..p {
+            let head = load_below(work, Cells::HEAD + w, Case::MOST_VERTICES + QUEUED);
+            if head == QUEUE_END {
+                continue;
+            }
+            self.act(work, w, p);
+            insert(heads, scanned, head);
+            scanned += 1;
         }
-        r = act(work, r, w, p);
-        insert(heads, scanned, head);
-        scanned += 1;
+        scanned
     }
-    Turned {
-        run: r,
-        scanned: scanned,
-    }
-}
 
-// Every delivery on the edges of a vertex, by edge number.
-pub(crate) fn deliver_edges(work: &mut [i32], run: Run, v: usize, p: usize) -> Run
-    requires { EdgesAsk v p run work.old }
-    ensures { EdgesSay v p run result work.old work.new }
-{
-    let end = load_below(work, Cells::FIRST + (v + 1), Case::MOST_EDGES + 1);
-    let mut e = load_below(work, Cells::FIRST + v, Case::MOST_EDGES + 1);
-    let mut r = run;
-    while e < end {
-        if r.broken != NONE {
-            return r;
+    // Every delivery on the edges of a vertex, by edge number.
+    fn deliver_edges(&mut self, work: &mut [i32], v: usize, p: usize)
+        requires { EdgesAsk v p self.old work.old }
+        ensures { EdgesSay v p self.old self.new work.old work.new }
+    {
+        let end = load_below(work, Cells::FIRST + (v + 1), Case::MOST_EDGES + 1);
+        let first = load_below(work, Cells::FIRST + v, Case::MOST_EDGES + 1);
+        for e in first..end {
+            if self.broken.is_some() {
+                return;
+            }
+            self.deliver(work, e);
         }
-        r = deliver(work, r, e);
-        e += 1;
     }
-    r
-}
 
-// Every delivery by edge number, where only edges of the vertices in `heads` have messages: those vertices in rising
-// order, until no cell has a message.
-pub(crate) fn sweep(work: &mut [i32], run: Run, p: usize, heads: &[usize]) -> Run
-    requires { SweepAsks p heads.now run work.old }
-    ensures { SweepSays p heads.now run result work.old work.new }
-{
-    let mut r = run;
-    let mut i: usize = 0;
-    while i < heads.len() {
-        if none_full(r) {
-            return r;
+    // Every delivery by edge number, where only edges of the vertices in `heads` have messages: those vertices in rising
+    // order, until no cell has a message.
+    fn sweep(&mut self, work: &mut [i32], p: usize, heads: &[usize])
+        requires { SweepAsks p heads.now self.old work.old }
+        ensures { SweepSays p heads.now self.old self.new work.old work.new }
+    {
+        for head in heads {
+            if self.none_full() {
+                return;
+            }
+            self.deliver_edges(work, *head - QUEUED, p);
         }
-        r = deliver_edges(work, r, heads[i] - QUEUED, p);
-        i += 1;
     }
-    r
-}
 
-// A round. The list for the vertices that it scans is lent.
-pub(crate) fn round(work: &mut [i32], run: Run, p: usize, heads: &mut [usize]) -> Turned
-    requires { TurnsAsk p run work.old (length heads.old) }
-    ensures { RoundSays p run result work.old work.new (length heads.old) }
-{
-    let turned = turns(work, run, p, heads);
-    let scanned = turned.scanned;
-    let swept = sweep(work, turned.run, p, &heads[..scanned]);
-    Turned {
-        run: swept,
-        scanned: scanned,
+    // A round. The list for the vertices that it scans is lent. Gives how many they are.
+    fn round(&mut self, work: &mut [i32], p: usize, heads: &mut [usize]) -> usize
+        requires { TurnsAsk p self.old work.old (length heads.old) }
+        ensures { RoundSays p self.old self.new result work.old work.new (length heads.old) }
+    {
+        let scanned = self.turns(work, p, heads);
+        self.sweep(work, p, &heads[..scanned]);
+        scanned
     }
-}
 
-// Rounds, at most so many, to the end of the run: the floor is broken, or a round had nothing to scan.
-pub(crate) fn rounds(work: &mut [i32], run: Run, many: usize, p: usize) -> Run
-    requires { RoundsAsk p run work.old }
-    ensures { RoundsDone many p run result work.old work.new }
-{
-    let mut heads = [0usize; Case::MOST_WORKERS];
-    let mut r = run;
-    let mut left = many;
-    while 0 < left {
-        if r.broken != NONE {
-            return r;
+    // Rounds, at most so many, to the end of the run: the floor is broken, or a round had nothing to scan.
+    fn rounds(&mut self, work: &mut [i32], many: usize, p: usize)
+        requires { RoundsAsk p self.old work.old }
+        ensures { RoundsDone many p self.old self.new work.old work.new }
+    {
+        let mut heads = [0usize; Case::MOST_WORKERS];
+        for _ in 0..many {
+            if self.broken.is_some() {
+                return;
+            }
+            let scanned = self.round(work, p, &mut heads);
+            if scanned == 0 {
+                return;
+            }
         }
-        let done = round(work, r, p, &mut heads);
-        r = done.run;
-        if done.scanned == 0 {
-            return r;
-        }
-        left -= 1;
     }
-    r
-}
 
-// The run by rounds, from a fresh run: most acts are (n + m) × (A + 1), so that many rounds reach the end.
-pub(crate) fn run_by_rounds(work: &mut [i32], run: Run, p: usize, n: usize, m: usize) -> Run
-    requires { ByRoundsAsks p n m run work.old }
-    ensures { ByRoundsSays p n m run result work.old work.new }
-{
-    let many = (n + m) * (run.marks as usize + 1);
-    rounds(work, run, many, p)
+    // The run by rounds, from a fresh run: most acts are (n + m) × (A + 1), so that many rounds reach the end.
+    pub(crate) fn run_by_rounds(&mut self, work: &mut [i32], p: usize, n: usize, m: usize)
+        requires { ByRoundsAsks p n m self.old work.old }
+        ensures { ByRoundsSays p n m self.old self.new work.old work.new }
+    {
+        let many = (n + m) * (self.marks as usize + 1);
+        self.rounds(work, many, p);
+    }
 }

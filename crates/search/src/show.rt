@@ -5,9 +5,7 @@ ghost use Rattle.model.specs.Case.{most_vertices};
 ghost use Rattle.search.specs.Show.{Backable, ParentIs, OneBackIs, Backed, Cycled};
 ghost use Rattle.search.specs.Show.{Triable, Tried, Scannable, Scans, Startable, Started, Searchable, Searched, Stemmable, StemTaken, Showable, Shows};
 
-use crate::cells::{
-    AT_SOURCE, BY_EDGE, Cells, NOT_FOUND, SOME, fill_number, load_below, store_number,
-};
+use crate::cells::{AT_SOURCE, BY_EDGE, Cells, NOT_FOUND, SOME, fill, load_below, store_number};
 use crate::edges::edges_of;
 use casefile::Case;
 
@@ -35,10 +33,8 @@ pub(crate) fn go_back(work: &[i32], v: usize, n: usize) -> usize
     ensures { Backed v n result work.now }
 {
     let mut u = v;
-    let mut left = n;
-    while left > 0 {
+    for _ in 0..n {
         u = one_back(work, u);
-        left -= 1;
     }
     u
 }
@@ -51,15 +47,13 @@ pub(crate) fn take_cycle(work: &mut [i32], start: usize, n: usize) -> usize
 {
     let mut at: usize = Cells::CYCLE + Case::MOST_VERTICES;
     let mut v = start;
-    let mut left = n;
-    while left > 0 {
+    for _ in 0..n {
         let e = parent_edge(work, v);
         at -= 1;
         store_number(work, at, e);
         v = one_back(work, v);
-        left -= 1;
         if v == start {
-            left = 0;
+            return at;
         }
     }
     at
@@ -87,12 +81,9 @@ pub(crate) fn scan_head(work: &mut [i32], head: usize, tail: usize) -> usize
 {
     let v = load_below(work, Cells::QUEUE + head, Case::MOST_VERTICES);
     let edges = edges_of(work, v);
-    let end = edges.end;
-    let mut e = edges.first;
     let mut last = tail;
-    while e < end {
+    for e in edges.start..edges.end {
         last = try_edge(work, e, last);
-        e += 1;
     }
     last
 }
@@ -102,7 +93,7 @@ pub(crate) fn start_search(work: &mut [i32], source: usize, n: usize)
     requires { Startable source n work.old }
     ensures { Started source n work.old work.new }
 {
-    fill_number(work, Cells::FOUND, n, NOT_FOUND);
+    fill(work, Cells::FOUND, n, NOT_FOUND);
     store_number(work, Cells::FOUND + source, AT_SOURCE);
     store_number(work, Cells::QUEUE, source);
 }

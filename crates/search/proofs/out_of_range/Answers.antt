@@ -1,19 +1,13 @@
--- `search::out_of_range`: what is left of the list decides as the whole does.
-use native.Mathlib.Omega.{arith}
-use Rattle.search.proofs.Entries.{any_start, any_found, any_more, any_end}
+-- `out_of_range` meets its contract. Assumes nothing.
+use Rattle.std.proofs.Common.{rules, sym, ◌∙◌}
+use lib.Dec.{leb}
+use borrow.Author.Tests.{tests}
+use Rattle.std.proofs.lemmas.Iterator.{YieldsList-from_slice}
+use Rattle.std.proofs.lemmas.Iterator.Search.{any_from_yields_List}
+use Rattle.search.proofs.Entries.{any_listed}
 use Rattle.search.proofs.out_of_range.Goals as goal
 
-pub loop-i-init : goal.loop-i-init
-loop-i-init c = (omega arith, any_start _ _)
-
-pub overflow_cast-a : goal.overflow_cast-a
-overflow_cast-a c = omega (arith, c.type_inv.acts c.loop-i.i)
-
-pub returns-then-limit-a : goal.returns-then-limit-a
-returns-then-limit-a c = any_found _ _ _ c.loop-i.invariant.1 (omega arith) c.if-limit-a.true
-
-pub loop-i-preserved : goal.loop-i-preserved
-loop-i-preserved c = (omega arith, any_more _ _ _ c.loop-i.invariant.1 (omega arith) c.if-limit-a.false)
-
 pub returns : goal.returns
-returns c = any_end _ _ _ c.loop-i.invariant.1 c.loop-i-test.false
+returns c =
+    any_from_yields_List (leb c.args.limit) _ _ _ c.any.ensures.ran (YieldsList-from_slice c.args.acts.now cc) (λ x b q k. search (rules, tests))
+    ∙ sym (any_listed c.args.limit c.args.acts.now)

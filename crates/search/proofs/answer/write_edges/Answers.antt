@@ -6,20 +6,11 @@ use Rattle.search.proofs.answer.write_edges.Goals as goal
 pub loop-i-init : goal.loop-i-init
 loop-i-init c = edges_start _ _ _ _ _
 
-pub overflow_add-base : goal.overflow_add-base
-overflow_add-base c = omega (arith, c.requires.inside)
-
-pub load_below-e-requires : goal.load_below-e-requires
-load_below-e-requires c = (omega (arith, c.requires.inside), c.requires.each _ c.loop-i-test.true)
-
 pub write_field-here-requires : goal.write_field-here-requires
 write_field-here-requires c = omega (arith, c.load_below-e.ensures.1)
 
 pub loop-i-preserved : goal.loop-i-preserved
 loop-i-preserved c = edges_step c.loop-i.invariant c.loop-i-test.true c.load_below-e.ensures.0 c.write_field-here.ensures c.write_field-here.auto.output
-
-pub shape_of-output : goal.shape_of-output
-shape_of-output c = c.loop-i.invariant.kept
 
 pub returns : goal.returns
 returns c = edges_end c.loop-i.invariant (omega arith)

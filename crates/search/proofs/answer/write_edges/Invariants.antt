@@ -1,10 +1,6 @@
 -- `write_edges` meets its contract: at each turn i lines are written.
-use Prim.Native.Nat.{◌-◌}
 use Rattle.search.proofs.Answers.{EdgesDone}
 use Rattle.search.proofs.answer.write_edges.Given as goal
 
 abbrev pub invariant-loop-i : goal.invariant-loop-i
 invariant-loop-i l = EdgesDone l.at l.base l.count l.i l.here l.work l.initial.output l.output
-
-abbrev pub decreases-loop-i : goal.decreases-loop-i
-decreases-loop-i l = l.count - l.i

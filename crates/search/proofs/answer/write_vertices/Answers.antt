@@ -15,8 +15,5 @@ loop-v-preserved c =
     let loaded : SFits w32 c.load.result = record { sfits = c.load.type_inv } in
     vertices_step c.loop-v.invariant c.loop-v-test.true (to_z-of_z loaded ∙ c.load.ensures) c.write_vertex-here.ensures c.write_vertex-here.auto.output
 
-pub shape_of-output : goal.shape_of-output
-shape_of-output c = c.loop-v.invariant.kept
-
 pub returns : goal.returns
 returns c = vertices_end c.loop-v.invariant (omega arith)

@@ -1,5 +1,6 @@
 -- `finish::finish`: cut short, or with a result; the cells are cleared either way.
-use mathlib.Core.Path.{refl}
+use mathlib.Core.Path.{refl, ap, ◌∙◌}
+use Rattle.model.specs.Refusals.{verdict_number}
 use native.Mathlib.Omega.{arith}
 use Rattle.text.proofs.Tests.{refuted, upheld}
 use Rattle.search.proofs.Ends.{acts_small, done_written, finish_cut, finish_done}
@@ -15,7 +16,7 @@ is_over-requires c =
     record { case = s.answer.case; state = s.answer.state; rep = s.answer.gone.rep; workers = s.workers }
 
 pub returns-then-not-is_over : goal.returns-then-not-is_over
-returns-then-not-is_over c = finish_cut c.is_over.ensures (refuted _ _ (not_from_false _ c.if-not-is_over.true) refl) c.clear.ensures c.acts_done-acts.ensures
+returns-then-not-is_over c = rw c.number.ensures (finish_cut c.is_over.ensures (refuted _ _ (not_from_false _ c.if-not-is_over.true) refl) c.clear.ensures c.acts_done-acts.ensures)
 
 pub write_answer-written-requires : goal.write_answer-written-requires
 write_answer-written-requires c = c.requires.answer
@@ -26,4 +27,4 @@ overflow_cast-result c =
     record { fits = omega (arith, done_written c.is_over.ensures s.answer.gone s.workers (upheld _ _ (not_from_true _ c.if-not-is_over.false) refl) c.write_answer-written.ensures) }
 
 pub returns : goal.returns
-returns c = finish_done c.is_over.ensures _ (upheld _ _ (not_from_true _ c.if-not-is_over.false) refl) c.write_answer-written.ensures c.clear-2.ensures c.write_answer-written.auto.work c.verdict.ensures c.acts_done-acts.ensures
+returns c = finish_done c.is_over.ensures _ (upheld _ _ (not_from_true _ c.if-not-is_over.false) refl) c.write_answer-written.ensures c.clear-2.ensures c.write_answer-written.auto.work (c.number-2.ensures ∙ ap verdict_number c.verdict.ensures) c.acts_done-acts.ensures

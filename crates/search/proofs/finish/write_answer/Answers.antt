@@ -1,15 +1,15 @@
 -- `finish::write_answer`: either answer.
-use Rattle.search.proofs.Ends.{answered_lasso, answered_empty, distances_at}
+use Rattle.search.proofs.Ends.{broken_asks, answered_lasso, answered_empty, distances_at}
 use Rattle.search.proofs.finish.write_answer.Goals as goal
 
 pub lasso_answer-requires : goal.lasso_answer-requires
-lasso_answer-requires c = (c.requires, c.if-run-ne-NONE.true)
+lasso_answer-requires c = broken_asks c.requires c.in-Some.is
 
-pub returns-then-run-ne-NONE : goal.returns-then-run-ne-NONE
-returns-then-run-ne-NONE c = answered_lasso c.if-run-ne-NONE.true c.lasso_answer.ensures
+pub returns-in-Some : goal.returns-in-Some
+returns-in-Some c = answered_lasso c.in-Some.is c.lasso_answer.ensures
 
 pub write_empty-requires : goal.write_empty-requires
 write_empty-requires c = distances_at c.requires.gone
 
-pub returns : goal.returns
-returns c = answered_empty _ c.if-run-ne-NONE.false c.write_empty.ensures
+pub returns-in-None : goal.returns-in-None
+returns-in-None c = answered_empty c.in-None.is c.write_empty.ensures

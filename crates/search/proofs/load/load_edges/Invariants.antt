@@ -1,11 +1,6 @@
 -- `search::load::load_edges`: each entry of the tables puts its edge into the cells, and the vertices that are left get the number of edges as their first edge.
-use Prim.Native.Nat.{◌-◌}
-use lib.ListN.{length}
 use Rattle.search.proofs.Loads.{PairsLaid}
 use Rattle.search.proofs.load.load_edges.Given as goal
 
 abbrev pub invariant-loop-e : goal.invariant-loop-e
 invariant-loop-e l = PairsLaid l.froms l.tos l.n l.e l.next l.initial.work l.work
-
-abbrev pub decreases-loop-e : goal.decreases-loop-e
-decreases-loop-e l = length l.froms - l.e

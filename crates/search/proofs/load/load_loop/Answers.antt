@@ -1,14 +1,8 @@
 -- `search::load::load_loop`: one vertex's cell of REST, and the ends of its loop if the file has no edge from it.
 use native.Mathlib.Omega.{arith}
 use Rattle.search.specs.Loading.{LoopSays}
-use Rattle.search.proofs.RestLoops.{first_there, first_is, room, loop_none, loop_one}
+use Rattle.search.proofs.RestLoops.{first_is, room, loop_none, loop_one}
 use Rattle.search.proofs.load.load_loop.Goals as goal
-
-pub load_below-first-requires : goal.load_below-first-requires
-load_below-first-requires c = let s = c.requires in (omega (arith, s.below, s.looping.filed.within.vertices, s.looping.filed.long), first_there s.looping s.below _ (omega (arith, s.below)))
-
-pub load_below-end-requires : goal.load_below-end-requires
-load_below-end-requires c = let s = c.requires in (omega (arith, s.below, s.looping.filed.within.vertices, s.looping.filed.long), first_there s.looping s.below _ (omega (arith, s.below)))
 
 pub store_number-requires : goal.store_number-requires
 store_number-requires c = let s = c.requires in (omega (arith, s.below, s.looping.filed.within.vertices, s.looping.filed.long), omega (arith, room s.looping s.below))

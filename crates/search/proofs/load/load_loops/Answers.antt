@@ -15,20 +15,11 @@ load_loop-k-requires c =
     let s = c.requires in
     record { case = s.case; looping = c.loop-v.invariant.2 s.case s.filed s.vertices s.edges; below = omega (arith, c.loop-v-test.true, s.vertices) }
 
-pub overflow_add-v : goal.overflow_add-v
-overflow_add-v c = omega (arith, c.loop-v-test.true)
-
-pub loop-v-smaller : goal.loop-v-smaller
-loop-v-smaller c = omega (arith, c.loop-v-test.true)
-
 pub loop-v-preserved : goal.loop-v-preserved
 unfolding LoopSays
 loop-v-preserved c =
     let i = c.loop-v.invariant in
     (omega (arith, c.loop-v-test.true), omega (arith, c.load_loop-k.auto.work, i.1), λ q f a b. c.load_loop-k.ensures q (i.2 q f a b) (omega (arith, c.loop-v-test.true, a)))
-
-pub shape_of-work : goal.shape_of-work
-shape_of-work c = c.loop-v.invariant.1
 
 pub returns : goal.returns
 unfolding LoopsSay resting rested

@@ -8,14 +8,6 @@ use Rattle.search.proofs.Steps.{head_there, head_is}
 use Rattle.search.proofs.Queues.{link_one, some_vertex, all_empty, one_more}
 use Rattle.search.proofs.queue.none_queued.Goals as goal
 
-pub loop-w-init : goal.loop-w-init
-loop-w-init c = (omega arith, λ q x k rep e j h. absurd (omega arith))
-
-pub overflow_add-w : goal.overflow_add-w
-overflow_add-w c =
-    let s = c.requires in
-    omega (arith, s.workers, s.rep.held.laid.within.workers, c.loop-w-test.true)
-
 pub load_below-head-requires : goal.load_below-head-requires
 load_below-head-requires c =
     let s = c.requires in
@@ -29,12 +21,6 @@ unfolding QueuesSay
 returns-then-head-ne-QUEUE_END c =
     λ q x k rep e.
     some_vertex x.queues _ _ (head_is q x _ _ _ rep (omega (arith, c.loop-w-test.true)) _ c.load_below-head.ensures.0) c.if-head-ne-QUEUE_END.true
-
-pub overflow_add-w-in-loop-w : goal.overflow_add-w-in-loop-w
-overflow_add-w-in-loop-w c = omega (arith, c.loop-w-test.true)
-
-pub loop-w-smaller : goal.loop-w-smaller
-loop-w-smaller c = omega (arith, c.loop-w-test.true)
 
 pub loop-w-preserved : goal.loop-w-preserved
 loop-w-preserved c = (

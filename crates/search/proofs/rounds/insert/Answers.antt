@@ -1,59 +1,21 @@
 -- `rounds::insert` meets its contract: the numbers from i on have moved up by one. Assumes nothing.
 use mathlib.Core.Path.{◌≡◌, subst}
-use Prim.Native.Nat.{ℕ}
+use Prim.Native.Nat.{ℕ, ◌+◌, ◌-◌}
 use native.Mathlib.Omega.{arith}
-use lib.ListN.{set, length-set}
+use lib.ListN.{set}
 use Rattle.search.specs.Asks.{Inserted}
-use Rattle.search.proofs.Inserts.{shift_start, shift_step, shift_done}
+use Rattle.search.proofs.Inserts.{shift_step, shift_done}
 use Rattle.search.proofs.rounds.insert.Goals as goal
 
-pub loop-i-init : goal.loop-i-init
-loop-i-init c = shift_start _ _ _
-
-pub overflow_sub-i : goal.overflow_sub-i
-overflow_sub-i c = omega (arith, c.loop-i-test.true)
-
-pub bounds-list-i : goal.bounds-list-i
-bounds-list-i c = let s = c.loop-i.invariant in omega (arith, s.within, s.long, c.requires, c.loop-i-test.true)
-
-pub bounds-list-i-then-list-i : goal.bounds-list-i-then-list-i
-bounds-list-i-then-list-i c =
-    let s = c.loop-i.invariant in
-    omega (arith, s.within, s.long, c.requires)
-
-pub shape_of-list-then-list-i : goal.shape_of-list-then-list-i
-shape_of-list-then-list-i c = simp length-set c.loop-i.invariant.long
-
 pub returns-then-list-i : goal.returns-then-list-i
-returns-then-list-i c = shift_done c.loop-i.invariant c.requires (λ b. c.if-list-i.true)
-
-pub overflow_sub-list : goal.overflow_sub-list
-overflow_sub-list c = omega (arith, c.loop-i-test.true)
-
-pub bounds-list-i-in-loop-i : goal.bounds-list-i-in-loop-i
-bounds-list-i-in-loop-i c =
-    let s = c.loop-i.invariant in
-    omega (arith, s.within, s.long, c.requires, c.loop-i-test.true)
-
-pub bounds-list-i-in-loop-i-2 : goal.bounds-list-i-in-loop-i-2
-bounds-list-i-in-loop-i-2 c =
-    let s = c.loop-i.invariant in
-    omega (arith, s.within, s.long, c.requires)
-
-pub overflow_sub-i-in-loop-i : goal.overflow_sub-i-in-loop-i
-overflow_sub-i-in-loop-i c = omega (arith, c.loop-i-test.true)
-
-pub loop-i-smaller : goal.loop-i-smaller
-loop-i-smaller c = omega (arith, c.loop-i-test.true)
+returns-then-list-i c =
+    let up : c.loop-i.i - 1 + 1 ≡ c.loop-i.i = omega (arith, c.loop-i-test.true) in
+    rw up (shift_done c.loop-i.invariant c.requires (λ b. c.if-list-i.true))
 
 pub loop-i-preserved : goal.loop-i-preserved
-loop-i-preserved c = shift_step c.loop-i.invariant c.requires c.loop-i-test.true c.if-list-i.false
-
-pub bounds-list-0 : goal.bounds-list-0
-bounds-list-0 c = let s = c.loop-i.invariant in omega (arith, s.within, s.long, c.requires)
-
-pub shape_of-list : goal.shape_of-list
-shape_of-list c = simp length-set c.loop-i.invariant.long
+loop-i-preserved c =
+    let up : c.loop-i.i - 1 + 1 ≡ c.loop-i.i = omega (arith, c.loop-i-test.true) in
+    rw up (shift_step c.loop-i.invariant c.requires c.loop-i-test.true c.if-list-i.false)
 
 pub returns : goal.returns
 returns c =

@@ -6,4 +6,4 @@ pub returns : goal.returns
 unfolding BlankSays
 returns c =
     λ q l.
-    rep_blank q _ _ _ _ _ _ _ l c.fill.ensures c.fill_number.ensures c.fill_number-2.ensures c.fill-2.ensures c.fill_number-3.ensures c.fill_number-4.ensures
+    rep_blank q _ _ _ _ _ _ _ l c.fill.ensures c.fill-2.ensures c.fill-3.ensures c.fill-4.ensures c.fill-5.ensures c.fill-6.ensures

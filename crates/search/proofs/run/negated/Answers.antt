@@ -13,11 +13,6 @@ fit : (a : ℕ) → a ≤ 500 → SFits w32 (neg_ℤ (pos a))
 fit zero h = record { sfits = lit< tt }
 fit (suc n) h = record { sfits = omega arith }
 
-pub overflow_sub-result : goal.overflow_sub-result
-overflow_sub-result c =
-    let h : c.args.n < 2 ^ 31 = omega arith in
-    rw (to_z_pos w32 h, +ℤ_idl) (fit c.args.n (omega arith))
-
 pub returns : goal.returns
 returns c =
     let h : c.args.n < 2 ^ 31 = omega arith in

@@ -9,11 +9,8 @@ use Rattle.model.specs.Graph.{mark}
 use Rattle.model.specs.Case.{Case}
 use Rattle.search.specs.Rep.{Laid}
 use Rattle.search.specs.Asks.{OfferedIs}
-use Rattle.search.proofs.Steps.{mark_is, mark_there, length_of, lowered_is, mag_neg}
+use Rattle.search.proofs.Steps.{mark_is, length_of, lowered_is, mag_neg}
 use Rattle.search.proofs.run.offered.Goals as goal
-
-pub load_below-requires : goal.load_below-requires
-load_below-requires c = let s = c.requires in (omega (arith, s.below, s.laid.within.vertices, s.laid.long), mark_there s.case _ _ s.laid s.below)
 
 pub edge_length-length-requires : goal.edge_length-length-requires
 edge_length-length-requires c = c.load_below.ensures.1

@@ -17,10 +17,10 @@ pub returns : goal.returns
 unfolding PutSays
 returns c =
     let stored : (o : Option ℕ) (n : ℕ) → let a = c.args in
-    get_or a.work.now (message_at + a.e) (pos 0) ≡ far o → a.d ≡ neg_ℤ (pos n) → c.least.result ≡ far (some (lower o n)) = λ o n w d. let f : SFits w32 c.load-waiting.result = record { sfits = c.load-waiting.type_inv } in
-    c.least.ensures ∙ (rw (to_z-of_z c.ranges.d, to_z-of_z f, c.load-waiting.ensures ∙ w, d) (least_is o n)) in
+    get_or a.work.now (message_at + a.e) (pos 0) ≡ far o → a.d ≡ neg_ℤ (pos n) → c.min.result ≡ far (some (lower o n)) = λ o n w d. let f : SFits w32 c.load-waiting.result = record { sfits = c.load-waiting.type_inv } in
+    c.min.ensures.value ∙ (rw (to_z-of_z c.ranges.d, to_z-of_z f, c.load-waiting.ensures ∙ w, d) (least_is o n)) in
     λ o n w d.
-    let f : SFits w32 c.least.result = record { sfits = c.least.type_inv } in (
+    let f : SFits w32 c.min.result = record { sfits = c.min.type_inv } in (
       ap not (none_test _ c.load-waiting.result o (record { sfits = c.load-waiting.type_inv }) c.missing.ensures (c.load-waiting.ensures ∙ w)) ∙ some_is o,
       c.store.ensures ∙ (rw (to_z-of_z f, stored o n w d)),
     )

@@ -17,20 +17,6 @@ pub loop-head-init : goal.loop-head-init
 unfolding Started
 loop-head-init c = (kept_same _ _, λ q l s n. c.start_search.ensures.1 q (laid_kept q found_at _ _ (omega arith) (kept_back _ _ _ c.start_search.ensures.0) l) s n)
 
-pub overflow_add-goal : goal.overflow_add-goal
-unfolding Started
-overflow_add-goal c =
-    let kept : Kept found_at c.args.work.now c.loop-head.work = kept_more _ _ _ _ c.start_search.ensures.0 c.loop-head.invariant.0 in
-    let laid : (q : Case) → Laid q c.args.work.now → Laid q c.loop-head.work = λ q l. laid_kept q found_at _ _ (omega arith) kept l in
-    let searching : let s = c.args in
-    (q : Case) → Laid q s.work.now → s.source ≡ q.graph.source → s.n ≡ q.graph.vertices → Searching q c.loop-head.head 0 c.loop-head.tail c.loop-head.work = λ q l s n. c.loop-head.invariant.1 q (laid_kept q found_at _ _ (omega arith) c.start_search.ensures.0 l) s n in
-    let few : let a = c.args in
-    (a.n ≤ most_vertices) × (c.loop-head.tail ≤ a.n) = let s = c.requires.start in
-    let l = laid s.case s.laid in
-    let t = search_few _ _ _ 0 _ l (searching s.case s.laid s.source_is s.vertices) in
-    (omega (arith, s.vertices, l.within.vertices), omega (arith, s.vertices, t)) in
-    omega (arith, few.0, c.requires.goal_below)
-
 pub load_below-requires : goal.load_below-requires
 unfolding Started
 load_below-requires c =
@@ -47,12 +33,6 @@ load_below-requires c =
     let s = p.start in
     let l = laid s.case s.laid in
     (omega (arith, few.0, p.goal_below, l.long), goal_mark _ _ _ _ _ l (searching s.case s.laid s.source_is s.vertices) (omega (arith, p.goal_below, s.vertices)))
-
-pub shape_of-work-then-load_below-ne-NOT_FOUND : goal.shape_of-work-then-load_below-ne-NOT_FOUND
-unfolding Started
-shape_of-work-then-load_below-ne-NOT_FOUND c =
-    let kept : Kept found_at c.args.work.now c.loop-head.work = kept_more _ _ _ _ c.start_search.ensures.0 c.loop-head.invariant.0 in
-    kept.long
 
 pub returns-then-load_below-ne-NOT_FOUND : goal.returns-then-load_below-ne-NOT_FOUND
 unfolding Searched Started
@@ -108,12 +88,6 @@ unfolding Scans
 loop-head-preserved c =
     let i = c.loop-head.invariant in
     (kept_more _ _ _ _ i.0 c.scan_head-tail.ensures.0, λ q l s n. c.scan_head-tail.ensures.1 q (laid_kept q found_at _ _ (omega arith) i.0 l) (i.1 q l s n) c.loop-head-test.true)
-
-pub shape_of-work : goal.shape_of-work
-unfolding Started
-shape_of-work c =
-    let kept : Kept found_at c.args.work.now c.loop-head.work = kept_more _ _ _ _ c.start_search.ensures.0 c.loop-head.invariant.0 in
-    kept.long
 
 pub returns : goal.returns
 unfolding Searched Started

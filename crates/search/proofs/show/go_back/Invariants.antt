@@ -2,14 +2,11 @@
 use mathlib.Core.Path.{◌≡◌}
 use mathlib.Core.List.{List}
 use mathlib.Core.Option.{Option}
-use Prim.Native.Nat.{ℕ}
+use Prim.Native.Nat.{ℕ, ◌-◌}
 use Rattle.model.specs.Case.{Case}
 use Rattle.model.specs.Answer.{back}
 use Rattle.search.specs.Show.{Lies, Chained}
 use Rattle.search.proofs.show.go_back.Given as goal
 
-abbrev pub invariant-loop-left : goal.invariant-loop-left
-invariant-loop-left l = (c : Case) (ps : List (Option ℕ)) → Lies c ps l.work → Chained c.graph ps l.v → (back l.left c.graph ps l.u ≡ back l.n c.graph ps l.v) × Chained c.graph ps l.u
-
-abbrev pub decreases-loop-left : goal.decreases-loop-left
-decreases-loop-left l = l.left
+abbrev pub invariant-loop : goal.invariant-loop
+invariant-loop l = (c : Case) (ps : List (Option ℕ)) → Lies c ps l.work → Chained c.graph ps l.v → (back (l.n - l.counter) c.graph ps l.u ≡ back l.n c.graph ps l.v) × Chained c.graph ps l.u

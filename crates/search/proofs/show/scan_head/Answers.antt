@@ -34,7 +34,7 @@ loop-e-init c =
     let vertex : let a = c.args in
     (q : Case) → Laid q a.work.now → Searching q a.head 0 a.tail a.work.now → a.head < a.tail → c.load_below-v.result < q.graph.vertices = λ q l s i. vertex_low q _ _ _ l s i _ c.load_below-v.ensures.0 in
     let own : let a = c.args in
-    (q : Case) → Laid q a.work.now → Searching q a.head 0 a.tail a.work.now → a.head < a.tail → Own q c.load_below-v.result c.edges_of-edges.result.first c.edges_of-edges.result.end = λ q l s i. c.edges_of-edges.ensures q l (vertex q l s i) in
+    (q : Case) → Laid q a.work.now → Searching q a.head 0 a.tail a.work.now → a.head < a.tail → Own q c.load_below-v.result c.edges_of-edges.result.start c.edges_of-edges.result.end = λ q l s i. c.edges_of-edges.ensures q l (vertex q l s i) in
     (omega arith, kept_same _ _, λ q l s i. scan_start q _ _ _ l s i _ c.load_below-v.ensures.0 _ _ (own q l s i))
 
 pub try_edge-last-requires : goal.try_edge-last-requires
@@ -43,7 +43,7 @@ try_edge-last-requires c =
     let vertex : let a = c.args in
     (q : Case) → Laid q a.work.now → Searching q a.head 0 a.tail a.work.now → a.head < a.tail → c.load_below-v.result < q.graph.vertices = λ q l s i. vertex_low q _ _ _ l s i _ c.load_below-v.ensures.0 in
     let own : let a = c.args in
-    (q : Case) → Laid q a.work.now → Searching q a.head 0 a.tail a.work.now → a.head < a.tail → Own q c.load_below-v.result c.edges_of-edges.result.first c.edges_of-edges.result.end = λ q l s i. c.edges_of-edges.ensures q l (vertex q l s i) in
+    (q : Case) → Laid q a.work.now → Searching q a.head 0 a.tail a.work.now → a.head < a.tail → Own q c.load_below-v.result c.edges_of-edges.result.start c.edges_of-edges.result.end = λ q l s i. c.edges_of-edges.ensures q l (vertex q l s i) in
     let edge : let a = c.args in
     (q : Case) → Laid q a.work.now → Searching q a.head 0 a.tail a.work.now → a.head < a.tail →
     (c.loop-e.e < length q.graph.edges) × ((edge_of q.graph c.loop-e.e).from ≡ c.load_below-v.result) = λ q l s i. scan_edge q _ _ _ l s i _ c.load_below-v.ensures.0 _ _ (own q l s i) _ c.loop-e.invariant.0 c.loop-e-test.true in
@@ -66,15 +66,12 @@ loop-e-preserved c =
     let vertex : let a = c.args in
     (q : Case) → Laid q a.work.now → Searching q a.head 0 a.tail a.work.now → a.head < a.tail → c.load_below-v.result < q.graph.vertices = λ q l s i. vertex_low q _ _ _ l s i _ c.load_below-v.ensures.0 in
     let own : let a = c.args in
-    (q : Case) → Laid q a.work.now → Searching q a.head 0 a.tail a.work.now → a.head < a.tail → Own q c.load_below-v.result c.edges_of-edges.result.first c.edges_of-edges.result.end = λ q l s i. c.edges_of-edges.ensures q l (vertex q l s i) in
+    (q : Case) → Laid q a.work.now → Searching q a.head 0 a.tail a.work.now → a.head < a.tail → Own q c.load_below-v.result c.edges_of-edges.result.start c.edges_of-edges.result.end = λ q l s i. c.edges_of-edges.ensures q l (vertex q l s i) in
     let edge : let a = c.args in
     (q : Case) → Laid q a.work.now → Searching q a.head 0 a.tail a.work.now → a.head < a.tail →
     (c.loop-e.e < length q.graph.edges) × ((edge_of q.graph c.loop-e.e).from ≡ c.load_below-v.result) = λ q l s i. scan_edge q _ _ _ l s i _ c.load_below-v.ensures.0 _ _ (own q l s i) _ c.loop-e.invariant.0 c.loop-e-test.true in
     let i = c.loop-e.invariant in
     (omega (arith, i.0), kept_more _ _ _ _ i.1 c.try_edge-last.ensures.0, λ q l s h. let b = edge q l s h in c.try_edge-last.ensures.1 q _ _ (laid_kept q found_at _ _ (omega arith) i.1 l) (i.2 q l s h) b.0 b.1)
-
-pub shape_of-work : goal.shape_of-work
-shape_of-work c = c.loop-e.invariant.1.long
 
 pub returns : goal.returns
 unfolding Scans RangeSays
@@ -82,6 +79,6 @@ returns c =
     let vertex : let a = c.args in
     (q : Case) → Laid q a.work.now → Searching q a.head 0 a.tail a.work.now → a.head < a.tail → c.load_below-v.result < q.graph.vertices = λ q l s i. vertex_low q _ _ _ l s i _ c.load_below-v.ensures.0 in
     let own : let a = c.args in
-    (q : Case) → Laid q a.work.now → Searching q a.head 0 a.tail a.work.now → a.head < a.tail → Own q c.load_below-v.result c.edges_of-edges.result.first c.edges_of-edges.result.end = λ q l s i. c.edges_of-edges.ensures q l (vertex q l s i) in
+    (q : Case) → Laid q a.work.now → Searching q a.head 0 a.tail a.work.now → a.head < a.tail → Own q c.load_below-v.result c.edges_of-edges.result.start c.edges_of-edges.result.end = λ q l s i. c.edges_of-edges.ensures q l (vertex q l s i) in
     let i = c.loop-e.invariant in
     (i.1, λ q l s h. scan_done q _ _ _ l s h _ c.load_below-v.ensures.0 _ _ (own q l s h) _ _ _ (i.2 q l s h) (omega arith))

@@ -31,9 +31,6 @@ load_below-v-requires c =
     let b = stem_edge _ _ _ _ _ s c.loop-found-test.true in
     (omega (arith, b, s.laid.within.edges, s.laid.long), from_there _ _ _ s.laid b)
 
-pub overflow_add-v : goal.overflow_add-v
-overflow_add-v c = omega (arith, c.load_below-v.ensures.1)
-
 pub load_below-found-requires-in-loop-found : goal.load_below-found-requires-in-loop-found
 load_below-found-requires-in-loop-found c =
     let here : let s = c.requires in Stemming s.case c.args.goal c.loop-found.found c.loop-found.at c.loop-found.work = let s = c.requires in c.loop-found.invariant.1 s.case s.laid s.grown in
@@ -65,9 +62,6 @@ loop-found-preserved c =
     let room : stem_at < c.loop-found.at = stem_room _ _ _ _ _ here c.loop-found-test.true in
     rw c.store_number.ensures
     (kept_more _ _ _ _ c.loop-found.invariant.0 (kept_set _ _ _ _ (omega (arith, room))), λ q d r. stem_step q _ _ _ _ (c.loop-found.invariant.1 q d r) c.loop-found-test.true _ c.load_below-v.ensures.0 _ c.load_below-found-in-loop-found.ensures.0)
-
-pub shape_of-work : goal.shape_of-work
-shape_of-work c = c.loop-found.invariant.0.long
 
 pub returns : goal.returns
 unfolding StemTaken
