@@ -27,10 +27,6 @@ use Rattle.claim.specs.BodySays.{from_step, TitleSays, MarksSay, MarkSays}
 use Rattle.claim.specs.declared.tokens.Token.{Token}
 use Rattle.claim.specs.declared.tokens.Token.TheVariants.{Name, Header, Number, Text, Symbol, Body, End, Alias, Comment, Stray, Done}
 use Rattle.claim.specs.declared.tokens.Seen.{Seen}
-use Rattle.claim.specs.declared.header.Past.{Past}
-use Rattle.claim.specs.declared.header.Past.TheVariants.{To, Fault}
-use Rattle.claim.specs.declared.body.Marks.{Marks}
-use Rattle.claim.specs.declared.body.Marks.TheVariants.{Read, Fault as Bad}
 use Rattle.claim.proofs.Places.{over_blanks, stays, onto, onward}
 use Rattle.claim.specs.contracts.tokens.Token.{the_type}
 use Rattle.claim.proofs.Lexing.{part_cons, part_cut}
@@ -38,6 +34,10 @@ use Rattle.claim.proofs.Seeing.{reads_as, goes_past, bounds_as, symbol_next, sym
 use Rattle.claim.proofs.Signs.{mark_sign, sign_is, sign_past, sign_not}
 use Rattle.claim.proofs.Held.{adds, adds_nothing, row_then, off_row, mark_off, name_off, length_off}
 use Rattle.claim.proofs.HeaderCode.{told_end, told_fault, stepped, but_number, SignOrNumber, sign_then, number_then, neither}
+use Rattle.std.specs.Prelude.{Result, Ok, Err}
+use Rattle.model.specs.Refusals.{number}
+use Rattle.model.specs.declared.refusal.Refusal.{Refusal}
+use Rattle.model.specs.declared.refusal.Refusal.TheVariants.{ClaimGrammar}
 
 -- WHERE a reader stands
 -- a place does what a step does
@@ -140,21 +140,21 @@ module _ {s : List ℕ} {at : ℕ} {r : Seen} (n : Sees s T.longest_claim at (cl
       ap (λ (ts : List T.Token). told (go (in_line is ls (numbered c))) ts) (reads_as n (Text a e) q refl)
       ∙ stepped (in_line is ls (numbered c)) _ _ _ (string_step is ls c (part s a e) ∙ ap (λ (x : Bool). cond x (go (in_line is ls (titled c (part s a e)))) (fault 15)) f)
 
-  pub title_is : (a e : ℕ) → r.token ≡ Text a e → title_fits (some (part s a e)) ≡ true → c < most_states → (w : List ℕ) → claim_cells ≤ length w → TitleSays s c at (To r.next) w (titled_cells c a e w)
+  pub title_is : (a e : ℕ) → r.token ≡ Text a e → title_fits (some (part s a e)) ≡ true → c < most_states → (w : List ℕ) → claim_cells ≤ length w → TitleSays s c at (Ok r.next) w (titled_cells c a e w)
   title_is a e q f hc w room = (some (part s a e), λ is ls. string_told a e q true f is ls ∙ titled_on is ls c (part s a e) _, titled_adds s c a e w hc room (quoted_at n a e q), onto (goes_past n (Text a e) q refl))
 
   -- a refusal says nothing of the cells, so any will do
-  pub title_broken : (a e : ℕ) → r.token ≡ Text a e → title_fits (some (part s a e)) ≡ false → TitleSays s c at (Fault 15) [] []
+  pub title_broken : (a e : ℕ) → r.token ≡ Text a e → title_fits (some (part s a e)) ≡ false → TitleSays s c at (Err ClaimGrammar) [] []
   title_broken a e q f is ls = string_told a e q false f is ls ∙ told_fault 15 _
 
-  pub title_none : OneOf but_text (tag_of the_type r.token) → (w : List ℕ) → TitleSays s c at (To at) w w
+  pub title_none : OneOf but_text (tag_of the_type r.token) → (w : List ℕ) → TitleSays s c at (Ok at) w w
   title_none h w =
       (none, λ is ls. subst (λ (ts : List T.Token). told (go (in_line is ls (numbered c))) ts ≡ from_step (marks_step is ls c none) ts) (sym n.reads) (no_string is ls c s n.rest r.token h), adds_nothing s c (bare c none none) w, stays)
 
 -- from before the blanks in front of it
-pub title_past : {s : List ℕ} {at here : ℕ} → BlanksEnd s T.longest_claim at here → (c : ℕ) (r : Past) (w v : List ℕ) → TitleSays s c here r w v → TitleSays s c at r w v
-title_past b c (To n) w v (o, t, a, p) = (o, λ is ls. ap (told (go (in_line is ls (numbered c)))) b.same ∙ t is ls, a, onward (over_blanks b) p)
-title_past b c (Fault j) w v t = λ is ls. ap (told (go (in_line is ls (numbered c)))) b.same ∙ t is ls
+pub title_past : {s : List ℕ} {at here : ℕ} → BlanksEnd s T.longest_claim at here → (c : ℕ) (r : Result ℕ Refusal) (w v : List ℕ) → TitleSays s c here r w v → TitleSays s c at r w v
+title_past b c (Ok n) w v (o, t, a, p) = (o, λ is ls. ap (told (go (in_line is ls (numbered c)))) b.same ∙ t is ls, a, onward (over_blanks b) p)
+title_past b c (Err j) w v t = λ is ls. ap (told (go (in_line is ls (numbered c)))) b.same ∙ t is ls
 
 -- MARKS: the numbers so far
 pub record MarksSoFar (s : List ℕ) (at : ℕ) (any : Bool) (here : ℕ) : Type 0 where
@@ -186,10 +186,10 @@ module _ {s : List ℕ} {at : ℕ} {any : Bool} {here : ℕ} (a : MarksSoFar s a
   pub marks_more : (v : ℕ) → r.token ≡ Number v → v ≡ 0 → MarksSoFar s at true r.next
   marks_more v q e = record { marks = snoc a.marks v; some_yet = some_marks a.marks v; same = number_told v q true (eq-eqb v 0 e); goes_on = onward a.goes_on (onto (goes_past n (Number v) q refl)) }
 
-  pub marks_other : (v : ℕ) → r.token ≡ Number v → (v ≡ 0 → ⊥) → MarksSay s at (Bad 15)
+  pub marks_other : (v : ℕ) → r.token ≡ Number v → (v ≡ 0 → ⊥) → MarksSay s at (Err ClaimGrammar)
   marks_other v q e is ls c o = number_told v q false (ne_eqb v 0 e) is ls c o ∙ told_fault 15 _
 
-  pub marks_closed : is_symbol_of r.token 125 ≡ true → MarksSay s at (Read any r.next)
+  pub marks_closed : is_symbol_of r.token 125 ≡ true → MarksSay s at (Ok (any, r.next))
   marks_closed e = (
     a.marks,
     a.some_yet,
@@ -197,8 +197,8 @@ module _ {s : List ℕ} {at : ℕ} {any : Bool} {here : ℕ} (a : MarksSoFar s a
     onward a.goes_on (onto (symbol_past n 125 e)),
   )
 
-  pub marks_none : OneOf but_number (tag_of the_type r.token) → is_symbol_of r.token 125 ≡ false → (j : ℕ) → j ≡ fault_of r.token → MarksSay s at (Bad j)
-  marks_none h e j f is ls c o = from_here is ls c o _ n.reads ∙ (neither (marks_want is ls c o a.marks) s n.rest r.token h e ∙ ap refused (sym f))
+  pub marks_none : OneOf but_number (tag_of the_type r.token) → is_symbol_of r.token 125 ≡ false → (j : Refusal) → j ≡ fault_of r.token → MarksSay s at (Err j)
+  marks_none h e j f is ls c o = from_here is ls c o _ n.reads ∙ (neither (marks_want is ls c o a.marks) s n.rest r.token h e ∙ ap (λ (i : Refusal). refused (number i)) (sym f))
 
 -- the cell of a mark, as the code writes it
 byte_mark : (b : Bool) → bool_byte b ≡ mark_of b
@@ -230,7 +230,7 @@ module _ (is : List Item) (ls : List State) (c : ℕ) (o : Option (List ℕ)) wh
   no_mark_on (t ∷ ts) e = rw e refl
 
 module _ {s : List ℕ} {at here : ℕ} (n : BlanksEnd s T.longest_claim at here) (c : ℕ) where
-  pub mark_none : (byte_of s here ≡ mark_byte → ⊥) → (w : List ℕ) → MarkSays s c at (To here) w w
+  pub mark_none : (byte_of s here ≡ mark_byte → ⊥) → (w : List ℕ) → MarkSays s c at (Ok here) w w
   mark_none e w = (none, λ is ls o. ap (λ (ts : List T.Token). from_step (marks_step is ls c o) ts) n.same ∙ no_mark_on is ls c o _ (sign_not s here mark_byte n.stops e), λ o. adds_nothing s c (bare c o none) w, over_blanks n)
 
   -- past its {
@@ -240,14 +240,8 @@ module _ {s : List ℕ} {at here : ℕ} (n : BlanksEnd s T.longest_claim at here
   mark_opens : byte_of s here ≡ mark_byte → (is : List Item) (ls : List State) (o : Option (List ℕ)) → from_step (marks_step is ls c o) (claim_tokens s at) ≡ told (go (in_marks is ls c o [])) (claim_tokens s inner)
   mark_opens e is ls o = ap (λ (ts : List T.Token). from_step (marks_step is ls c o) ts) (n.same ∙ sign_is s here mark_byte mark_sign e) ∙ open_mark_on is ls c o _
 
-  pub mark_broken : byte_of s here ≡ mark_byte → (l : Marks) (j : ℕ) → l ≡ Bad j → MarksSay s inner l → MarkSays s c at (Fault j) [] []
-  mark_broken e l j q a is ls o = mark_opens e is ls o ∙ go' (rw q at a)
-    where
-      go' : MarksSay s inner (Bad j) → told (go (in_marks is ls c o [])) (claim_tokens s inner) ≡ refused j
-      go' b = b is ls c o
+  pub mark_broken : byte_of s here ≡ mark_byte → (j : Refusal) → MarksSay s inner (Err j) → MarkSays s c at (Err j) [] []
+  mark_broken e j a is ls o = mark_opens e is ls o ∙ a is ls c o
 
-  pub mark_read : byte_of s here ≡ mark_byte → (l : Marks) (any : Bool) (z : ℕ) → l ≡ Read any z → MarksSay s inner l → c < most_states → (w : List ℕ) → claim_cells ≤ length w → MarkSays s c at (To z) w (set w c (bool_byte any))
-  mark_read e l any z q a hc w room = go' (rw q at a)
-    where
-      go' : MarksSay s inner (Read any z) → MarkSays s c at (To z) w (set w c (bool_byte any))
-      go' (ms, p, b, past) = (some ms, λ is ls o. mark_opens e is ls o ∙ (b is ls c o ∙ marked_on is ls c o ms _), λ o. marked_adds s c w hc room any ms p o, onward (over_blanks n) (onward (onto (sign_past s here mark_byte mark_sign e)) past))
+  pub mark_read : byte_of s here ≡ mark_byte → (any : Bool) (z : ℕ) → MarksSay s inner (Ok (any, z)) → c < most_states → (w : List ℕ) → claim_cells ≤ length w → MarkSays s c at (Ok z) w (set w c (bool_byte any))
+  mark_read e any z (ms, p, b, past) hc w room = (some ms, λ is ls o. mark_opens e is ls o ∙ (b is ls c o ∙ marked_on is ls c o ms _), λ o. marked_adds s c w hc room any ms p o, onward (over_blanks n) (onward (onto (sign_past s here mark_byte mark_sign e)) past))

@@ -1,6 +1,6 @@
 -- How the readers of edges in src/body.rt meet their contracts: a law for each return, and for each turn of the loop.
 -- Assumes nothing.
-use mathlib.Core.Path.{◌≡◌, refl, sym, ap, subst, ◌∙◌}
+use mathlib.Core.Path.{◌≡◌, refl, sym, ap, ◌∙◌}
 use mathlib.Core.Bool.{Bool, false, cond, ◌&&◌, ◌||◌}
 use mathlib.Core.List.{List, [], ◌∷◌, append-nil, append_assoc}
 use Prim.Native.Nat.{ℕ, ◌+◌, ◌*◌, ◌%◌, ◌^◌, ◌<◌, ◌≤◌}
@@ -20,17 +20,15 @@ use Rattle.claim.specs.HeaderSays.{WantsNumber, NumberSays}
 use Rattle.claim.specs.Cells.{set_words, set_of, Gathered, Led}
 use Rattle.claim.specs.BodySays.{from_step, EdgeSays, with_edges, EdgesSay}
 use Rattle.claim.specs.declared.labels.Values.{Values}
-use Rattle.claim.specs.declared.labels.Truth.{Truth}
-use Rattle.claim.specs.declared.labels.Truth.TheVariants.{Is, Fault as Broken}
-use Rattle.claim.specs.declared.header.Found.{Found}
-use Rattle.claim.specs.declared.header.Found.TheVariants.{Is as FoundIs, Fault as Not}
-use Rattle.claim.specs.declared.header.Past.TheVariants.{To, Fault}
 use Rattle.claim.proofs.HeaderCode.{told_fault, number_taken}
 use Rattle.claim.proofs.Places.{over_blanks}
 use Rattle.claim.proofs.Signs.{label_sign, mark_sign, sign_is, sign_past, sign_not}
 use Rattle.model.proofs.Bits.{bit_zero}
 use Rattle.claim.proofs.Bits.{bit_set}
 use Rattle.claim.proofs.MoveCode.{Gathers, gathers_none, gathers_one, edges_add}
+use Rattle.std.specs.Prelude.{Ok, Err}
+use Rattle.model.specs.declared.refusal.Refusal.{Refusal}
+use Rattle.model.specs.declared.refusal.Refusal.TheVariants.{ClaimGrammar, NotTaken}
 
 -- THE LABEL, from its [ on
 in_label_told : (l : Line) (ts : List T.Token) → told (go (in_label l label_start)) ts ≡ finish l (label_told (propositions_in l.items) (on label_start) ts)
@@ -67,55 +65,48 @@ unfolding is_sign
 edged_marked is ls l ts = edged_told is ls l (T.symbol mark_byte) ts ∙ told_fault 16 ts
 
 -- AN EDGE
-module _ (s : List ℕ) (n k at : ℕ) (w v : List ℕ) (x : Truth) (said : LabelSays s k at x) where
-  pub edge_unlabelled : (j : ℕ) → x ≡ Broken j → EdgeSays s n k at (Not j) w v
-  edge_unlabelled j q is ls l en ek = labelled (line_at is ls l) k _ _ ek (subst (λ (y : Truth). LabelSays s k at y) q said)
+module _ (s : List ℕ) (n k at : ℕ) (w v : List ℕ) where
+  pub edge_unlabelled : (j : Refusal) → LabelSays s k at (Err j) → EdgeSays s n k at (Err j) w v
+  edge_unlabelled j said is ls l en ek = labelled (line_at is ls l) k _ _ ek said
 
-  module _ (set : Values) (e : ℕ) (q : x ≡ Is set e) where
-    label_there : LabelSays s k at (Is set e)
-    label_there = subst (λ (y : Truth). LabelSays s k at y) q said
-
+  module _ (set : Values) (e : ℕ) (label_there : LabelSays s k at (Ok (set, e))) where
     to_target : (l : Line) → propositions_in l.items ≡ k → told (go (in_label l label_start)) (claim_tokens s at) ≡ told (go (wants_target l label_there.0)) (claim_tokens s e)
     to_target l ek = labelled l k _ _ ek label_there.2
 
-    module _ (y : Found) (read : NumberSays s e y) where
-      pub edge_untargeted : (j : ℕ) → y ≡ Not j → EdgeSays s n k at (Not j) w v
-      edge_untargeted j r is ls l en ek = to_target (line_at is ls l) ek ∙ subst (λ (z : Found). NumberSays s e z) r read _ _ (target_wants (line_at is ls l) _)
+    pub edge_untargeted : (j : Refusal) → NumberSays s e (Err j) → EdgeSays s n k at (Err j) w v
+    edge_untargeted j read is ls l en ek = to_target (line_at is ls l) ek ∙ read _ _ (target_wants (line_at is ls l) _)
 
-      module _ (d p : ℕ) (r : y ≡ FoundIs d p) where
-        number_there : NumberSays s e (FoundIs d p)
-        number_there = subst (λ (f : Found). NumberSays s e f) r read
+    module _ (d p : ℕ) (number_there : NumberSays s e (Ok (d, p))) where
+      targeted : (is : List Item) (ls : List State) (l : State) → count_in is ≡ n → propositions_in is ≡ k → told (go (in_label (line_at is ls l) label_start)) (claim_tokens s at) ≡ told (cond (ltb d n) (go (in_line is ls (edged (with_edge l (record { label = label_there.0; to = d }))))) (fault 15)) (claim_tokens s p)
+      targeted is ls l en ek =
+          to_target (line_at is ls l) ek
+          ∙ (ap (λ (ts : List T.Token). told (go (wants_target (line_at is ls l) label_there.0)) ts) number_there.0
+          ∙ (number_taken (target_wants (line_at is ls l) label_there.0) d _
+          ∙ ap (λ (m : ℕ). told (cond (ltb d m) (go (in_line is ls (edged (with_edge l (record { label = label_there.0; to = d }))))) (fault 15)) (claim_tokens s p)) en))
 
-        targeted : (is : List Item) (ls : List State) (l : State) → count_in is ≡ n → propositions_in is ≡ k → told (go (in_label (line_at is ls l) label_start)) (claim_tokens s at) ≡ told (cond (ltb d n) (go (in_line is ls (edged (with_edge l (record { label = label_there.0; to = d }))))) (fault 15)) (claim_tokens s p)
-        targeted is ls l en ek =
-            to_target (line_at is ls l) ek
-            ∙ (ap (λ (ts : List T.Token). told (go (wants_target (line_at is ls l) label_there.0)) ts) number_there.0
-            ∙ (number_taken (target_wants (line_at is ls l) label_there.0) d _
-            ∙ ap (λ (m : ℕ). told (cond (ltb d m) (go (in_line is ls (edged (with_edge l (record { label = label_there.0; to = d }))))) (fault 15)) (claim_tokens s p)) en))
+      pub edge_far : n ≤ d → EdgeSays s n k at (Err ClaimGrammar) w v
+      edge_far h is ls l en ek = targeted is ls l en ek ∙ (ap (λ (b : Bool). told (cond b (go (in_line is ls (edged (with_edge l (record { label = label_there.0; to = d }))))) (fault 15)) (claim_tokens s p)) (le-ltb d n h) ∙ told_fault 15 _)
 
-        pub edge_far : n ≤ d → EdgeSays s n k at (Not 15) w v
-        edge_far h is ls l en ek = targeted is ls l en ek ∙ (ap (λ (b : Bool). told (cond b (go (in_line is ls (edged (with_edge l (record { label = label_there.0; to = d }))))) (fault 15)) (claim_tokens s p)) (le-ltb d n h) ∙ told_fault 15 _)
+      near : (is : List Item) (ls : List State) (l : State) → d < n → count_in is ≡ n → propositions_in is ≡ k → told (go (in_label (line_at is ls l) label_start)) (claim_tokens s at) ≡ told (go (in_line is ls (edged (with_edge l (record { label = label_there.0; to = d }))))) (claim_tokens s p)
+      near is ls l h en ek = targeted is ls l en ek ∙ ap (λ (b : Bool). told (cond b (go (in_line is ls (edged (with_edge l (record { label = label_there.0; to = d }))))) (fault 15)) (claim_tokens s p)) (lt-ltb d n h)
 
-        near : (is : List Item) (ls : List State) (l : State) → d < n → count_in is ≡ n → propositions_in is ≡ k → told (go (in_label (line_at is ls l) label_start)) (claim_tokens s at) ≡ told (go (in_line is ls (edged (with_edge l (record { label = label_there.0; to = d }))))) (claim_tokens s p)
-        near is ls l h en ek = targeted is ls l en ek ∙ ap (λ (b : Bool). told (cond b (go (in_line is ls (edged (with_edge l (record { label = label_there.0; to = d }))))) (fault 15)) (claim_tokens s p)) (lt-ltb d n h)
+      module _ (z : ℕ) (b : BlanksEnd s T.longest_claim p z) where
+        past_target : (is : List Item) (ls : List State) (l : State) → d < n → count_in is ≡ n → propositions_in is ≡ k → told (go (in_label (line_at is ls l) label_start)) (claim_tokens s at) ≡ told (go (in_line is ls (edged (with_edge l (record { label = label_there.0; to = d }))))) (claim_tokens s z)
+        past_target is ls l h en ek = near is ls l h en ek ∙ ap (λ (ts : List T.Token). told (go (in_line is ls (edged (with_edge l (record { label = label_there.0; to = d }))))) ts) b.same
 
-        module _ (z : ℕ) (b : BlanksEnd s T.longest_claim p z) where
-          past_target : (is : List Item) (ls : List State) (l : State) → d < n → count_in is ≡ n → propositions_in is ≡ k → told (go (in_label (line_at is ls l) label_start)) (claim_tokens s at) ≡ told (go (in_line is ls (edged (with_edge l (record { label = label_there.0; to = d }))))) (claim_tokens s z)
-          past_target is ls l h en ek = near is ls l h en ek ∙ ap (λ (ts : List T.Token). told (go (in_line is ls (edged (with_edge l (record { label = label_there.0; to = d }))))) ts) b.same
+        pub edge_marked : d < n → byte_of s z ≡ mark_byte → EdgeSays s n k at (Err NotTaken) w v
+        edge_marked h m is ls l en ek = past_target is ls l h en ek ∙ (ap (λ (ts : List T.Token). told (go (in_line is ls (edged (with_edge l (record { label = label_there.0; to = d }))))) ts) (sign_is s z mark_byte mark_sign m) ∙ edged_marked is ls _ _)
 
-          pub edge_marked : d < n → byte_of s z ≡ mark_byte → EdgeSays s n k at (Not 16) w v
-          edge_marked h m is ls l en ek = past_target is ls l h en ek ∙ (ap (λ (ts : List T.Token). told (go (in_line is ls (edged (with_edge l (record { label = label_there.0; to = d }))))) ts) (sign_is s z mark_byte mark_sign m) ∙ edged_marked is ls _ _)
-
-          pub edge_taken : d < n → (byte_of s z ≡ mark_byte → ⊥) → Gathered d set w v → EdgeSays s n k at (FoundIs d z) w v
-          edge_taken h m g = (
-            record { label = label_there.0; to = d },
-            refl,
-            h,
-            λ is ls l en ek. past_target is ls l h en ek ∙ edged_on is ls _ _ (sign_not s z mark_byte b.stops m),
-            λ t f i. g.gathered t f ∙ ap (λ (b : Bool). holds (set_of w t) f || (b && eqb t d)) (sym (label_there.1.agrees f i)),
-            record { more = omega (arith, label_there.3.more, number_there.1.more, b.ahead); inside = λ i. b.inside number_there.1.inside },
-            b.stops,
-          )
+        pub edge_taken : d < n → (byte_of s z ≡ mark_byte → ⊥) → Gathered d set w v → EdgeSays s n k at (Ok (d, z)) w v
+        edge_taken h m g = (
+          record { label = label_there.0; to = d },
+          refl,
+          h,
+          λ is ls l en ek. past_target is ls l h en ek ∙ edged_on is ls _ _ (sign_not s z mark_byte b.stops m),
+          λ t f i. g.gathered t f ∙ ap (λ (b : Bool). holds (set_of w t) f || (b && eqb t d)) (sym (label_there.1.agrees f i)),
+          record { more = omega (arith, label_there.3.more, number_there.1.more, b.ahead); inside = λ i. b.inside number_there.1.inside },
+          b.stops,
+        )
 
 -- EDGES: from where one may stand
 not_labelled : (is : List Item) (ls : List State) (l : State) (ts : List T.Token) → starts label_byte ts ≡ false → from_step (edge_step (line_at is ls l)) ts ≡ told (go (in_lines is (snoc ls l))) ts
@@ -155,23 +146,17 @@ edges_begun s n k at here b =
     }
 
 module _ {s : List ℕ} {n k at : ℕ} {sets : List ℕ} {leads here : ℕ} (f : EdgesSoFar s n k at sets leads here) where
-  pub edges_done : (c : ℕ) (w v : List ℕ) → (byte_of s here ≡ label_byte → ⊥) → c < most_states → Led c leads sets w v → EdgesSay s n k c at (To here) w v
+  pub edges_done : (c : ℕ) (w v : List ℕ) → (byte_of s here ≡ label_byte → ⊥) → c < most_states → Led c leads sets w v → EdgesSay s n k c at (Ok here) w v
   edges_done c w v e hc m = (f.so_far, λ is ls l en ek. f.goes is ls l en ek ∙ not_labelled is ls _ _ (sign_not s here label_byte f.stops e), λ l q. edges_add m hc s f.so_far l f.in_sets q, f.onward)
 
-  module _ (e : byte_of s here ≡ label_byte) (u : List ℕ) (x : Found) (said : EdgeSays s n k (here + 1) x sets u) where
+  module _ (e : byte_of s here ≡ label_byte) (u : List ℕ) where
     through : (is : List Item) (ls : List State) (l : State) → count_in is ≡ n → propositions_in is ≡ k → from_step (edge_step (line_at is ls l)) (claim_tokens s at) ≡ told (go (in_label (line_at is ls (with_edges l f.so_far)) label_start)) (claim_tokens s (here + 1))
     through is ls l en ek = f.goes is ls l en ek ∙ (ap (λ (ts : List T.Token). from_step (edge_step (line_at is ls (with_edges l f.so_far))) ts) (sign_is s here label_byte label_sign e) ∙ is_labelled is ls _ _)
 
-    pub edges_broken : (c : ℕ) (w v : List ℕ) (j : ℕ) → x ≡ Not j → EdgesSay s n k c at (Fault j) w v
-    edges_broken c w v j q is ls l en ek = through is ls l en ek ∙ subst (λ (y : Found). EdgeSays s n k (here + 1) y sets u) q said is ls (with_edges l f.so_far) en ek
+    pub edges_broken : (c : ℕ) (w v : List ℕ) (j : Refusal) → EdgeSays s n k (here + 1) (Err j) sets u → EdgesSay s n k c at (Err j) w v
+    edges_broken c w v j edge is ls l en ek = through is ls l en ek ∙ edge is ls (with_edges l f.so_far) en ek
 
-    module _ (d z : ℕ) (q : x ≡ FoundIs d z) where
-      edge_there : EdgeSays s n k (here + 1) (FoundIs d z) sets u
-      edge_there = subst (λ (y : Found). EdgeSays s n k (here + 1) y sets u) q said
-
-      pub edge_near : d < n
-      edge_near = edge_there.2
-
+    module _ (d z : ℕ) (edge_there : EdgeSays s n k (here + 1) (Ok (d, z)) sets u) where
       pub edges_ahead : Ahead s here z
       edges_ahead =
           let a = sign_past s here label_byte label_sign e in
@@ -183,8 +168,8 @@ module _ {s : List ℕ} {n k at : ℕ} {sets : List ℕ} {leads here : ℕ} (f :
           record {
             so_far = snoc f.so_far edge_there.0;
             goes = λ is ls l en ek. through is ls l en ek ∙ (edge_there.3 is ls (with_edges l f.so_far) en ek ∙ ap (λ (y : State). from_step (edge_step (line_at is ls y)) (claim_tokens s z)) (one_more l f.so_far edge_there.0));
-            in_sets = gathers_one f.in_sets edge_there.0 d edge_there.1 (omega (arith, hn, edge_near)) u edge_there.4;
-            near_all = λ i h. bit_set leads d i (omega (arith, hn, edge_near)) ∙ rw (f.near_all i h, ne_eqb i d (λ p. omega (arith, hn, h, edge_near, p))) refl;
+            in_sets = gathers_one f.in_sets edge_there.0 d edge_there.1 (omega (arith, hn, edge_there.2)) u edge_there.4;
+            near_all = λ i h. bit_set leads d i (omega (arith, hn, edge_there.2)) ∙ rw (f.near_all i h, ne_eqb i d (λ p. omega (arith, hn, h, edge_there.2, p))) refl;
             onward = record { more = omega (arith, f.onward.more, edges_ahead.more); inside = λ h. edges_ahead.inside };
             stops = edge_there.6;
             long = m ∙ f.long;

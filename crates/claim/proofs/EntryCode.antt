@@ -13,7 +13,7 @@ use lib.Seq.{get_or-set_same, get_or-set_other}
 use borrow.Author.Tests.{lt-ltb, le-ltb, eqb-true, eqb-false}
 use Rattle.text.proofs.Tests.{Same, same, other, same?}
 use Rattle.model.specs.ClaimGrammar.{state_count, start_state, proposition_names, count_in, propositions_in, most_states, most_propositions}
-use Rattle.model.specs.ClaimTable.{Told, taken_as, refused, refusal_of, claim_told, claim_refusal}
+use Rattle.model.specs.ClaimTable.{Told, taken_as, refused, refusal_of as told_number, claim_told, claim_refusal}
 use Rattle.model.specs.Claim.{Claim, ClaimState, state, some_edge, claim_moves, state_of_line, edges_of, line_of, states_from, claim_of, tree_of, claim_in, ClaimSound}
 use Rattle.model.specs.ClaimEntry.{mark_of, NameAt, ClaimSays, MovesSay}
 use Rattle.model.specs.ClaimPromise.{ClaimsRight}
@@ -22,10 +22,14 @@ use Rattle.claim.specs.LabelSays.{most_values}
 use Rattle.claim.specs.Cells.{move_cell, ClaimHeld}
 use Rattle.claim.specs.Judging.{counts_of, judged_claim, Copied}
 use Rattle.claim.specs.declared.Counts.{Counts}
-use Rattle.claim.specs.declared.Judged.{Judged}
-use Rattle.claim.specs.declared.Judged.TheVariants.{Refused, Accepted}
 use Rattle.model.proofs.Bits.{bit_zero}
 use Rattle.claim.proofs.JudgeCode.{no_claim}
+use Rattle.std.specs.Prelude.{Result, Ok, Err}
+use Rattle.model.specs.Refusals.{number, refusal_of}
+use Rattle.model.specs.ClaimPromise.{ClaimsDefinite}
+use Rattle.model.proofs.ClaimDefinite.{claims_definite}
+use Rattle.std.proofs.Common.{inl, inr}
+use Rattle.model.specs.declared.refusal.Refusal.{Refusal}
 
 -- A PART copied, so many cells
 pub record Copying (cells : List ℕ) (at : ℕ) (before now : List ℕ) (i : ℕ) : Type 0 where
@@ -46,43 +50,54 @@ pub copying_all : {cells : List ℕ} {at : ℕ} {w v : List ℕ} {i : ℕ} → C
 copying_all c h = record { same = λ j g. c.done j (omega (arith, g, h)) }
 
 -- WHAT THE JUDGE SAYS, by variant
-told_by : (bs : List ℕ) (x : Told) → claim_told bs ≡ x → (refusal_of x ≡ 0 → ⊥) → claim_told bs ≡ refused (refusal_of x)
-unfolding refusal_of
+told_by : (bs : List ℕ) (x : Told) → claim_told bs ≡ x → (told_number x ≡ 0 → ⊥) → claim_told bs ≡ refused (told_number x)
+unfolding told_number
 told_by bs (taken_as a) q n = absurd (n refl)
 told_by bs (refused k) q n = q
 
-pub record NoClaim (bs : List ℕ) (k : ℕ) : Type 0 where
-  pub number : k ≡ claim_refusal bs
-  pub told : claim_told bs ≡ refused k
+pub record Unread (bs : List ℕ) (r : Refusal) : Type 0 where
+  pub by_number : number r ≡ claim_refusal bs
+  pub told : claim_told bs ≡ refused (number r)
 
 pub record SomeClaim (bs : List ℕ) (c : Counts) : Type 0 where
-  pub number : claim_refusal bs ≡ 0
+  pub by_number : claim_refusal bs ≡ 0
   pub counts : c ≡ counts_of (claim_in bs)
 
-abbrev by_variant : List ℕ → Judged → Type 0
-by_variant bs (Refused k) = NoClaim bs k
-by_variant bs (Accepted c) = SomeClaim bs c
+abbrev by_variant : List ℕ → Result Counts Refusal → Type 0
+by_variant bs (Err r) = Unread bs r
+by_variant bs (Ok c) = SomeClaim bs c
+
+refused_told : (bs : List ℕ) → (claim_refusal bs ≡ 0 → ⊥) → claim_told bs ≡ refused (claim_refusal bs)
+unfolding claim_refusal
+refused_told bs n = told_by bs (claim_told bs) refl n
+
+-- the number of a refused text is one of three
+own_number : (bs : List ℕ) → (claim_refusal bs ≡ 0 → ⊥) → number (refusal_of (claim_refusal bs)) ≡ claim_refusal bs
+unfolding ClaimsDefinite refusal_of
+own_number bs n = elim (claims_definite bs) [ inl e ↦ absurd (n e) | inr m ↦ elim m [ inl e ↦ rw e | inr k ↦ elim k [ inl e ↦ rw e | inr e ↦ rw e ] ] ]
 
 judged_so : (bs : List ℕ) → by_variant bs (judged_claim bs)
 unfolding judged_claim
 judged_so bs = go (eqb (claim_refusal bs) 0) refl
   where
-    go : (b : Bool) → eqb (claim_refusal bs) 0 ≡ b → by_variant bs (cond b (Accepted (counts_of (claim_in bs))) (Refused (claim_refusal bs)))
-    go true e = record { number = eqb-true (claim_refusal bs) 0 e; counts = refl }
-    go false e = record { number = refl; told = unfold claim_refusal in told_by bs (claim_told bs) refl (λ q. eqb-false (refusal_of (claim_told bs)) 0 (unfold claim_refusal in e) q) }
+    go : (b : Bool) → eqb (claim_refusal bs) 0 ≡ b → by_variant bs (cond b (Ok (counts_of (claim_in bs))) (Err (refusal_of (claim_refusal bs))))
+    go true e = record { by_number = eqb-true (claim_refusal bs) 0 e; counts = refl }
+    go false e =
+        let there : number (refusal_of (claim_refusal bs)) ≡ claim_refusal bs = own_number bs (eqb-false _ 0 e) in
+        record { by_number = there; told = refused_told bs (eqb-false _ 0 e) ∙ ap refused (sym there) }
 
-pub judged_by : (bs : List ℕ) (r x : Judged) → r ≡ judged_claim bs → r ≡ x → by_variant bs x
-judged_by bs r x e q = subst (λ (y : Judged). by_variant bs y) (sym e ∙ q) (judged_so bs)
+pub judged_by : (bs : List ℕ) (r x : Result Counts Refusal) → r ≡ judged_claim bs → r ≡ x → by_variant bs x
+judged_by bs r x e q = subst (λ (y : Result Counts Refusal). by_variant bs y) (sym e ∙ q) (judged_so bs)
 
 -- MOVES: nowhere where there is no edge
 nowhere : (bs : List ℕ) (c f : ℕ) → ((d : ℕ) → claim_moves (claim_in bs) f c d ≡ false) → MovesSay bs c f 0
 nowhere bs c f n = record { bits = λ d. bit_zero d ∙ sym (ap (λ (b : Bool). ltb f (2 ^ (claim_in bs).propositions) && b) (n d) ∙ and-false (ltb f (2 ^ (claim_in bs).propositions))) }
 
-pub moves_refused : (bs : List ℕ) (k c f : ℕ) → NoClaim bs k → MovesSay bs c f 0
-moves_refused bs k c f n = nowhere bs c f (λ d. no_edge d)
+pub moves_refused : (bs : List ℕ) (r : Refusal) (c f : ℕ) → Unread bs r → MovesSay bs c f 0
+moves_refused bs r c f n = nowhere bs c f (λ d. no_edge d)
   where
     no_edge : (d : ℕ) → claim_moves (claim_in bs) f c d ≡ false
-    no_edge d = unfold claim_moves in (ap (λ (x : ClaimState). some_edge x.edges f d) (no_claim bs k n.told c) ∙ unfold state_of_line line_of edges_of some_edge in refl)
+    no_edge d = unfold claim_moves in (ap (λ (x : ClaimState). some_edge x.edges f d) (no_claim bs (number r) n.told c) ∙ unfold state_of_line line_of edges_of some_edge in refl)
 
 state_beyond : (k : Claim) (c f d : ℕ) → length k.states ≤ c → claim_moves k f c d ≡ false
 unfolding claim_moves state some_edge
@@ -90,7 +105,7 @@ state_beyond k c f d h = rw (get_or-eq_default k.states (record { name = none; a
 
 module _ (bs : List ℕ) (k : Counts) (s : SomeClaim bs k) (c f : ℕ) where
   sound : ClaimSound (claim_in bs)
-  sound = unfold ClaimsRight in (claims_right bs s.number).sound
+  sound = unfold ClaimsRight in (claims_right bs s.by_number).sound
 
   many : k.states ≡ length (claim_in bs).states
   many = ap (λ (x : Counts). x.states) s.counts ∙ unfold counts_of in refl
@@ -153,12 +168,12 @@ module _ (bs : List ℕ) (a b c : List ℕ) (p : Parts bs a b c) where
   named : (i : ℕ) → i < most_states → NameAt bs (state (claim_in bs) i).name (get_or b i 0) (get_or c i 0)
   named i h = rw (p.names_of.same i (omega (arith, h, p.all_names)), p.lengths_of.same i (omega (arith, h, p.all_lengths))) (p.held.names i h)
 
-  pub describes_refused : (k : ℕ) → NoClaim bs k → ClaimSays bs (record { refusal = k; states = 0; start = 0; propositions = 0; accepting = a; name_at = b; name_length = c })
-  describes_refused k n =
-      let z = no_counts bs k n.told in
-      record { refusal = n.number; states = sym z.0; start = sym z.1; propositions = sym z.2; accepting = marked; names = named }
+  pub describes_refused : (r : Refusal) (k : ℕ) → k ≡ number r → Unread bs r → ClaimSays bs (record { refusal = k; states = 0; start = 0; propositions = 0; accepting = a; name_at = b; name_length = c })
+  describes_refused r k q n =
+      let z = no_counts bs (number r) n.told in
+      record { refusal = q ∙ n.by_number; states = sym z.0; start = sym z.1; propositions = sym z.2; accepting = marked; names = named }
 
   pub describes : (k : Counts) → SomeClaim bs k → ClaimSays bs (record { refusal = 0; states = k.states; start = k.start; propositions = k.propositions; accepting = a; name_at = b; name_length = c })
   describes k s =
       let e : k ≡ record { states = length (claim_in bs).states; start = (claim_in bs).start; propositions = (claim_in bs).propositions } = s.counts ∙ unfold counts_of in refl in
-      record { refusal = sym s.number; states = ap (λ (x : Counts). x.states) e; start = ap (λ (x : Counts). x.start) e; propositions = ap (λ (x : Counts). x.propositions) e; accepting = marked; names = named }
+      record { refusal = sym s.by_number; states = ap (λ (x : Counts). x.states) e; start = ap (λ (x : Counts). x.start) e; propositions = ap (λ (x : Counts). x.propositions) e; accepting = marked; names = named }

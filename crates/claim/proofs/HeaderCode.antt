@@ -24,15 +24,14 @@ use Rattle.claim.specs.HeaderSays.{WantsNumber, NumberSays, shown, Gives, ItemSa
 use Rattle.claim.specs.declared.tokens.Token.{Token}
 use Rattle.claim.specs.declared.tokens.Token.TheVariants.{Name, Header, Number, Text, Symbol, Body, End, Alias, Comment, Stray, Done}
 use Rattle.claim.specs.declared.tokens.Seen.{Seen}
-use Rattle.claim.specs.declared.header.Found.{Found}
-use Rattle.claim.specs.declared.header.Found.TheVariants.{Is, Fault as Not}
 use Rattle.claim.specs.declared.header.Given.{Given}
-use Rattle.claim.specs.declared.header.Past.{Past}
-use Rattle.claim.specs.declared.header.Past.TheVariants.{To, Fault as Torn}
-use Rattle.claim.specs.declared.header.Header.TheVariants.{Read, Fault}
 use Rattle.claim.proofs.Places.{ahead}
 use Rattle.claim.specs.contracts.tokens.Token.{the_type}
 use Rattle.claim.proofs.Seeing.{symbol_is, reads_as, goes_past}
+use Rattle.std.specs.Prelude.{Result, Ok, Err}
+use Rattle.model.specs.Refusals.{number}
+use Rattle.model.specs.declared.refusal.Refusal.{Refusal}
+use Rattle.model.specs.declared.refusal.Refusal.TheVariants.{ClaimGrammar, NotTaken}
 
 -- A STEP of the table
 told_step : (p : Place) (t : T.Token) (r : List T.Token) → told (go p) (t ∷ r) ≡ told (step p t) r
@@ -59,7 +58,7 @@ abbrev pub but_number : List ℕ
 but_number = 0 ∷ 1 ∷ 3 ∷ 4 ∷ 5 ∷ 6 ∷ 7 ∷ 8 ∷ 9 ∷ 10 ∷ []
 
 module _ {p : Place} {f : ℕ → Next} (w : WantsNumber p f) where
-  no_number : (s : List ℕ) (r : List T.Token) (t : Token) → OneOf but_number (tag_of the_type t) → told (go p) (spelt s t r) ≡ refused (fault_of t)
+  no_number : (s : List ℕ) (r : List T.Token) (t : Token) → OneOf but_number (tag_of the_type t) → told (go p) (spelt s t r) ≡ refused (number (fault_of t))
   unfolding on_number
   no_number s r (Number v) h = absurd (miss but_number 2 tt h)
   no_number s r (Name a e) h = refuses p _ r 15 (w.steps _)
@@ -81,8 +80,8 @@ module _ {s : List ℕ} {at : ℕ} {r : Seen} (n : Sees s T.longest_claim at (cl
   pub number_is : (v : ℕ) → r.token ≡ Number v → Stands s at (T.number v) r.next
   number_is v q = (reads_as n (Number v) q refl, goes_past n (Number v) q refl)
 
-  pub number_not : OneOf but_number (tag_of the_type r.token) → (j : ℕ) → j ≡ fault_of r.token → (p : Place) (f : ℕ → Next) → WantsNumber p f → told (go p) (claim_tokens s at) ≡ refused j
-  number_not h j e p f w = ap (λ (ts : List T.Token). told (go p) ts) n.reads ∙ (no_number w s n.rest r.token h ∙ ap refused (sym e))
+  pub number_not : OneOf but_number (tag_of the_type r.token) → (j : Refusal) → j ≡ fault_of r.token → (p : Place) (f : ℕ → Next) → WantsNumber p f → told (go p) (claim_tokens s at) ≡ refused (number j)
+  number_not h j e p f w = ap (λ (ts : List T.Token). told (go p) ts) n.reads ∙ (no_number w s n.rest r.token h ∙ ap (λ (i : Refusal). refused (number i)) (sym e))
 
 count_wants : (is : List Item) → WantsNumber (wants_count is) (λ n. with_item whole is (states n))
 unfolding step ended
@@ -165,29 +164,23 @@ module _ {is : List Item} {g : Given} (h : Gives is g) (fresh : g.states ≡ 0) 
   unfolding item_fits is_some
   states_fit = rw (none_yet, h.start) (ap (λ (b : Bool). (leb 1 n && leb n 15) && b) (below_shown g.start n))
 
-pub states_taken : (s : List ℕ) (at : ℕ) (g : Given) → g.states ≡ 0 → (l : Found) (n z : ℕ) → l ≡ Is n z → NumberSays s at l → ((leb 1 n && leb n 15) && (leb 15 g.start || ltb g.start n)) ≡ true → ItemSays s wants_count whole at g (Read (with_states g n) z)
-states_taken s at g fresh l n z q a t = go' (rw q at a)
+pub states_taken : (s : List ℕ) (at : ℕ) (g : Given) → g.states ≡ 0 → (n z : ℕ) → NumberSays s at (Ok (n, z)) → ((leb 1 n && leb n 15) && (leb 15 g.start || ltb g.start n)) ≡ true → ItemSays s wants_count whole at g (Ok (with_states g n, z))
+states_taken s at g fresh n z a t = go' a
   where
     ranged : (leb 1 n ≡ true) × (leb n 15 ≡ true)
     ranged = and_both (leb 1 n) (leb n 15) (and_both (leb 1 n && leb n 15) _ t).0
 
-    go' : NumberSays s at (Is n z) → ItemSays s wants_count whole at g (Read (with_states g n) z)
+    go' : NumberSays s at (Ok (n, z)) → ItemSays s wants_count whole at g (Ok (with_states g n, z))
     go' (e, past) = (λ is h. (snoc is (states n), gives_states h fresh n (leb-true 1 n ranged.0) (leb-true n 15 ranged.1), ap (λ (ts : List T.Token). told (go (wants_count is)) ts) e ∙ (number_taken (count_wants is) n _ ∙ taken is h)), past)
       where
         taken : (is : List Item) → Gives is g → told (with_item whole is (states n)) (claim_tokens s z) ≡ told (go (in_items whole (snoc is (states n)))) (claim_tokens s z)
         taken is h = with_taken whole is (states n) _ (states_fit h fresh n ∙ t)
 
-pub states_broken : (s : List ℕ) (at : ℕ) (g : Given) → g.states ≡ 0 → (l : Found) (n z : ℕ) → l ≡ Is n z → NumberSays s at l → ((leb 1 n && leb n 15) && (leb 15 g.start || ltb g.start n)) ≡ false → ItemSays s wants_count whole at g (Fault 15)
-states_broken s at g fresh l n z q a t is h = go' (rw q at a)
-  where
-    go' : NumberSays s at (Is n z) → told (go (wants_count is)) (claim_tokens s at) ≡ refused 15
-    go' (e, past) = ap (λ (ts : List T.Token). told (go (wants_count is)) ts) e ∙ (number_taken (count_wants is) n _ ∙ with_broken whole is (states n) _ (states_fit h fresh n ∙ t))
+pub states_broken : (s : List ℕ) (at : ℕ) (g : Given) → g.states ≡ 0 → (n z : ℕ) → NumberSays s at (Ok (n, z)) → ((leb 1 n && leb n 15) && (leb 15 g.start || ltb g.start n)) ≡ false → ItemSays s wants_count whole at g (Err ClaimGrammar)
+states_broken s at g fresh n z (e, past) t is h = ap (λ (ts : List T.Token). told (go (wants_count is)) ts) e ∙ (number_taken (count_wants is) n _ ∙ with_broken whole is (states n) _ (states_fit h fresh n ∙ t))
 
-pub states_none : (s : List ℕ) (at : ℕ) (g : Given) (l : Found) (j : ℕ) → l ≡ Not j → NumberSays s at l → ItemSays s wants_count whole at g (Fault j)
-states_none s at g l j q a is h = go' (rw q at a)
-  where
-    go' : NumberSays s at (Not j) → told (go (wants_count is)) (claim_tokens s at) ≡ refused j
-    go' b = b (wants_count is) _ (count_wants is)
+pub states_none : (s : List ℕ) (at : ℕ) (g : Given) (j : Refusal) → NumberSays s at (Err j) → ItemSays s wants_count whole at g (Err j)
+states_none s at g j a is h = a (wants_count is) _ (count_wants is)
 
 -- THE START
 start_plain : (n : ℕ) → PlainItem (start n)
@@ -236,40 +229,34 @@ module _ {is : List Item} {g : Given} (h : Gives is g) (fresh : most_states ≤ 
   unfolding item_fits is_some
   start_fit = rw (no_start_yet, h.states) (ap (λ (m : ℕ). ltb n m) (most_shown (ltb 0 g.states) g.states))
 
-pub start_taken : (s : List ℕ) (at : ℕ) (g : Given) → most_states ≤ g.start → (l : Found) (n z : ℕ) → l ≡ Is n z → NumberSays s at l → (m : ℕ) → m ≡ most_states_of g → n < m → ItemSays s wants_start after_start at g (Read (with_start g n) z)
-start_taken s at g fresh l n z q a m e t = go' (rw q at a)
+pub start_taken : (s : List ℕ) (at : ℕ) (g : Given) → most_states ≤ g.start → (n z : ℕ) → NumberSays s at (Ok (n, z)) → (m : ℕ) → m ≡ most_states_of g → n < m → ItemSays s wants_start after_start at g (Ok (with_start g n, z))
+start_taken s at g fresh n z a m e t = go' a
   where
     taken : (is : List Item) → Gives is g → told (with_item after_start is (start n)) (claim_tokens s z) ≡ told (go (in_items after_start (snoc is (start n)))) (claim_tokens s z)
     taken is h = with_taken after_start is (start n) _ (start_fit h fresh n ∙ lt-ltb n (most_states_of g) (subst (λ (k : ℕ). n < k) e t))
 
-    go' : NumberSays s at (Is n z) → ItemSays s wants_start after_start at g (Read (with_start g n) z)
+    go' : NumberSays s at (Ok (n, z)) → ItemSays s wants_start after_start at g (Ok (with_start g n, z))
     go' (b, past) = (λ is h. (snoc is (start n), gives_start h fresh n (below_most g n m h.few_states e t), ap (λ (ts : List T.Token). told (go (wants_start is)) ts) b ∙ (number_taken (start_wants is) n _ ∙ taken is h)), past)
 
-pub start_broken : (s : List ℕ) (at : ℕ) (g : Given) → most_states ≤ g.start → (l : Found) (n z : ℕ) → l ≡ Is n z → NumberSays s at l → (m : ℕ) → m ≡ most_states_of g → m ≤ n → ItemSays s wants_start after_start at g (Fault 15)
-start_broken s at g fresh l n z q a m e t is h = go' (rw q at a)
-  where
-    go' : NumberSays s at (Is n z) → told (go (wants_start is)) (claim_tokens s at) ≡ refused 15
-    go' (b, past) = ap (λ (ts : List T.Token). told (go (wants_start is)) ts) b ∙ (number_taken (start_wants is) n _ ∙ with_broken after_start is (start n) _ (start_fit h fresh n ∙ le-ltb n (most_states_of g) (subst (λ (k : ℕ). k ≤ n) e t)))
+pub start_broken : (s : List ℕ) (at : ℕ) (g : Given) → most_states ≤ g.start → (n z : ℕ) → NumberSays s at (Ok (n, z)) → (m : ℕ) → m ≡ most_states_of g → m ≤ n → ItemSays s wants_start after_start at g (Err ClaimGrammar)
+start_broken s at g fresh n z (b, past) m e t is h = ap (λ (ts : List T.Token). told (go (wants_start is)) ts) b ∙ (number_taken (start_wants is) n _ ∙ with_broken after_start is (start n) _ (start_fit h fresh n ∙ le-ltb n (most_states_of g) (subst (λ (k : ℕ). k ≤ n) e t)))
 
-pub start_none : (s : List ℕ) (at : ℕ) (g : Given) (l : Found) (j : ℕ) → l ≡ Not j → NumberSays s at l → ItemSays s wants_start after_start at g (Fault j)
-start_none s at g l j q a is h = go' (rw q at a)
-  where
-    go' : NumberSays s at (Not j) → told (go (wants_start is)) (claim_tokens s at) ≡ refused j
-    go' b = b (wants_start is) _ (start_wants is)
+pub start_none : (s : List ℕ) (at : ℕ) (g : Given) (j : Refusal) → NumberSays s at (Err j) → ItemSays s wants_start after_start at g (Err j)
+start_none s at g j a is h = a (wants_start is) _ (start_wants is)
 
 -- ACCEPTANCE: one token, and on
 module _ {s : List ℕ} {at : ℕ} {r : Seen} (n : Sees s T.longest_claim at (claim_tokens s at) r) (p : List Item → Place) where
   -- a token is taken, and what follows is read from the next place on
-  pub passes : (t : Token) → r.token ≡ t → reads_on t ≡ true → (u : T.Token) → spelt s t (claim_tokens s r.next) ≡ u ∷ claim_tokens s r.next → (m : List Item → Place) → ((is : List Item) → step (p is) u ≡ go (m is)) → (q : List Item → Place) (l : Past) → StepSays s m q r.next l → StepSays s p q at l
-  passes t e d u c m f q (To z) (a, past) = (λ is. ap (λ (ts : List T.Token). told (go (p is)) ts) (reads_as n t e d ∙ c) ∙ (stepped (p is) u _ (go (m is)) (f is) ∙ a is), ahead (goes_past n t e d) past)
-  passes t e d u c m f q (Torn j) a = λ is. ap (λ (ts : List T.Token). told (go (p is)) ts) (reads_as n t e d ∙ c) ∙ (stepped (p is) u _ (go (m is)) (f is) ∙ a is)
+  pub passes : (t : Token) → r.token ≡ t → reads_on t ≡ true → (u : T.Token) → spelt s t (claim_tokens s r.next) ≡ u ∷ claim_tokens s r.next → (m : List Item → Place) → ((is : List Item) → step (p is) u ≡ go (m is)) → (q : List Item → Place) (l : Result ℕ Refusal) → StepSays s m q r.next l → StepSays s p q at l
+  passes t e d u c m f q (Ok z) (a, past) = (λ is. ap (λ (ts : List T.Token). told (go (p is)) ts) (reads_as n t e d ∙ c) ∙ (stepped (p is) u _ (go (m is)) (f is) ∙ a is), ahead (goes_past n t e d) past)
+  passes t e d u c m f q (Err j) a = λ is. ap (λ (ts : List T.Token). told (go (p is)) ts) (reads_as n t e d ∙ c) ∙ (stepped (p is) u _ (go (m is)) (f is) ∙ a is)
 
   -- the last one
-  pub passes_last : (t : Token) → r.token ≡ t → reads_on t ≡ true → (u : T.Token) → spelt s t (claim_tokens s r.next) ≡ u ∷ claim_tokens s r.next → (m : List Item → Place) → ((is : List Item) → step (p is) u ≡ go (m is)) → StepSays s p m at (To r.next)
+  pub passes_last : (t : Token) → r.token ≡ t → reads_on t ≡ true → (u : T.Token) → spelt s t (claim_tokens s r.next) ≡ u ∷ claim_tokens s r.next → (m : List Item → Place) → ((is : List Item) → step (p is) u ≡ go (m is)) → StepSays s p m at (Ok r.next)
   passes_last t e d u c m f = (λ is. ap (λ (ts : List T.Token). told (go (p is)) ts) (reads_as n t e d ∙ c) ∙ stepped (p is) u _ (go (m is)) (f is), goes_past n t e d)
 
   -- a token is refused
-  pub tears : (j : ℕ) → ((is : List Item) → told (go (p is)) (spelt s r.token n.rest) ≡ refused j) → (q : List Item → Place) → StepSays s p q at (Torn j)
+  pub tears : (j : Refusal) → ((is : List Item) → told (go (p is)) (spelt s r.token n.rest) ≡ refused (number j)) → (q : List Item → Place) → StepSays s p q at (Err j)
   tears j f q is = ap (λ (ts : List T.Token). told (go (p is)) ts) n.reads ∙ f is
 
 -- a place that takes a sign and nothing else
@@ -282,7 +269,7 @@ module _ {p : Place} {b : ℕ} {m : Place} (w : WantsSign p b m) where
   unfolding is_sign
   sign_steps = w.steps _ ∙ rw (eq-eqb b b refl) refl
 
-  no_sign : (s : List ℕ) (r : List T.Token) (t : Token) → is_symbol_of t b ≡ false → told (go p) (spelt s t r) ≡ refused (fault_of t)
+  no_sign : (s : List ℕ) (r : List T.Token) (t : Token) → is_symbol_of t b ≡ false → told (go p) (spelt s t r) ≡ refused (number (fault_of t))
   unfolding is_sign otherwise
   no_sign s r (Symbol c) h = refuses p _ r 15 (w.steps _ ∙ rw h refl)
   no_sign s r (Number v) h = refuses p _ r 15 (w.steps _)
@@ -322,7 +309,7 @@ module _ {p : Place} {b : ℕ} {m : Next} {f : ℕ → Next} (w : SignOrNumber p
   unfolding is_sign on_number
   number_then v = w.steps _
 
-  pub neither : (s : List ℕ) (r : List T.Token) (t : Token) → OneOf but_number (tag_of the_type t) → is_symbol_of t b ≡ false → told (go p) (spelt s t r) ≡ refused (fault_of t)
+  pub neither : (s : List ℕ) (r : List T.Token) (t : Token) → OneOf but_number (tag_of the_type t) → is_symbol_of t b ≡ false → told (go p) (spelt s t r) ≡ refused (number (fault_of t))
   unfolding is_sign on_number
   neither s r (Number v) h e = absurd (miss but_number 2 tt h)
   neither s r (Symbol c) h e = refuses p _ r 15 (w.steps _ ∙ rw e refl)
@@ -351,7 +338,7 @@ bracket_step is = refl
 abbrev but_name : List ℕ
 but_name = 1 ∷ 2 ∷ 3 ∷ 4 ∷ 5 ∷ 6 ∷ 7 ∷ 8 ∷ 9 ∷ 10 ∷ []
 
-no_inf : (is : List Item) (s : List ℕ) (r : List T.Token) (t : Token) → OneOf but_name (tag_of the_type t) → is_symbol_of t 40 ≡ false → told (go (wants_inf is)) (spelt s t r) ≡ refused (fault_of t)
+no_inf : (is : List Item) (s : List ℕ) (r : List T.Token) (t : Token) → OneOf but_name (tag_of the_type t) → is_symbol_of t 40 ≡ false → told (go (wants_inf is)) (spelt s t r) ≡ refused (number (fault_of t))
 unfolding step is_name is_any_name is_sign otherwise ended
 no_inf is s r (Name a z) h e = absurd (miss but_name 0 tt h)
 no_inf is s r (Symbol c) h e = refuses (wants_inf is) _ r 15 (rw e refl)
@@ -366,66 +353,60 @@ no_inf is s r Stray h e = refuses (wants_inf is) _ r 15 refl
 no_inf is s r Done h e = told_end (wants_inf is)
 
 module _ {s : List ℕ} {at : ℕ} {r : Seen} (n : Sees s T.longest_claim at (claim_tokens s at) r) where
-  pub close_is : is_symbol_of r.token 41 ≡ true → StepSays s wants_close accepted at (To r.next)
+  pub close_is : is_symbol_of r.token 41 ≡ true → StepSays s wants_close accepted at (Ok r.next)
   close_is e = passes_last n wants_close (Symbol 41) (symbol_is r.token 41 e) refl _ refl accepted (λ is. sign_steps (close_wants is))
 
-  pub close_not : is_symbol_of r.token 41 ≡ false → (j : ℕ) → j ≡ fault_of r.token → StepSays s wants_close accepted at (Torn j)
-  close_not e j f = tears n wants_close j (λ is. no_sign (close_wants is) s n.rest r.token e ∙ ap refused (sym f)) accepted
+  pub close_not : is_symbol_of r.token 41 ≡ false → (j : Refusal) → j ≡ fault_of r.token → StepSays s wants_close accepted at (Err j)
+  close_not e j f = tears n wants_close j (λ is. no_sign (close_wants is) s n.rest r.token e ∙ ap (λ (i : Refusal). refused (number i)) (sym f)) accepted
 
-  pub open_is : is_symbol_of r.token 40 ≡ true → (l : Past) → StepSays s wants_set accepted r.next l → StepSays s wants_open accepted at l
+  pub open_is : is_symbol_of r.token 40 ≡ true → (l : Result ℕ Refusal) → StepSays s wants_set accepted r.next l → StepSays s wants_open accepted at l
   open_is e l a = passes n wants_open (Symbol 40) (symbol_is r.token 40 e) refl _ refl wants_set (λ is. sign_steps (open_wants is)) accepted l a
 
-  pub open_not : is_symbol_of r.token 40 ≡ false → (j : ℕ) → j ≡ fault_of r.token → StepSays s wants_open accepted at (Torn j)
-  open_not e j f = tears n wants_open j (λ is. no_sign (open_wants is) s n.rest r.token e ∙ ap refused (sym f)) accepted
+  pub open_not : is_symbol_of r.token 40 ≡ false → (j : Refusal) → j ≡ fault_of r.token → StepSays s wants_open accepted at (Err j)
+  open_not e j f = tears n wants_open j (λ is. no_sign (open_wants is) s n.rest r.token e ∙ ap (λ (i : Refusal). refused (number i)) (sym f)) accepted
 
   -- the set: a number; or another acceptance; or none at all
-  pub set_is : (v : ℕ) → r.token ≡ Number v → v ≡ 0 → (l : Past) → StepSays s wants_close accepted r.next l → StepSays s wants_set accepted at l
+  pub set_is : (v : ℕ) → r.token ≡ Number v → v ≡ 0 → (l : Result ℕ Refusal) → StepSays s wants_close accepted r.next l → StepSays s wants_set accepted at l
   set_is v q e l a = passes n wants_set (Number v) q refl _ refl wants_close (λ is. number_then (set_wants is) v ∙ rw (eq-eqb v 0 e) refl) accepted l a
 
-  pub set_other : (v : ℕ) → r.token ≡ Number v → (v ≡ 0 → ⊥) → StepSays s wants_set accepted at (Torn 16)
-  set_other v q e = tears n wants_set 16 (λ is. ap (λ (t : Token). told (go (wants_set is)) (spelt s t n.rest)) q ∙ refuses (wants_set is) _ n.rest 16 (number_then (set_wants is) v ∙ rw (ne_eqb v 0 e) refl)) accepted
+  pub set_other : (v : ℕ) → r.token ≡ Number v → (v ≡ 0 → ⊥) → StepSays s wants_set accepted at (Err NotTaken)
+  set_other v q e = tears n wants_set NotTaken (λ is. ap (λ (t : Token). told (go (wants_set is)) (spelt s t n.rest)) q ∙ refuses (wants_set is) _ n.rest 16 (number_then (set_wants is) v ∙ rw (ne_eqb v 0 e) refl)) accepted
 
-  pub set_negated : is_symbol_of r.token 33 ≡ true → StepSays s wants_set accepted at (Torn 16)
-  set_negated e = tears n wants_set 16 (λ is. ap (λ (t : Token). told (go (wants_set is)) (spelt s t n.rest)) (symbol_is r.token 33 e) ∙ refuses (wants_set is) _ n.rest 16 (sign_then (set_wants is))) accepted
+  pub set_negated : is_symbol_of r.token 33 ≡ true → StepSays s wants_set accepted at (Err NotTaken)
+  set_negated e = tears n wants_set NotTaken (λ is. ap (λ (t : Token). told (go (wants_set is)) (spelt s t n.rest)) (symbol_is r.token 33 e) ∙ refuses (wants_set is) _ n.rest 16 (sign_then (set_wants is))) accepted
 
-  pub set_not : OneOf but_number (tag_of the_type r.token) → is_symbol_of r.token 33 ≡ false → (j : ℕ) → j ≡ fault_of r.token → StepSays s wants_set accepted at (Torn j)
-  set_not h e j f = tears n wants_set j (λ is. neither (set_wants is) s n.rest r.token h e ∙ ap refused (sym f)) accepted
+  pub set_not : OneOf but_number (tag_of the_type r.token) → is_symbol_of r.token 33 ≡ false → (j : Refusal) → j ≡ fault_of r.token → StepSays s wants_set accepted at (Err j)
+  set_not h e j f = tears n wants_set j (λ is. neither (set_wants is) s n.rest r.token h e ∙ ap (λ (i : Refusal). refused (number i)) (sym f)) accepted
 
   -- the name Inf; or another acceptance; or none at all
-  pub inf_is : (a e : ℕ) → r.token ≡ Name a e → equal (part s a e) (ascii "Inf") ≡ true → (l : Past) → StepSays s wants_open accepted r.next l → StepSays s wants_inf accepted at l
+  pub inf_is : (a e : ℕ) → r.token ≡ Name a e → equal (part s a e) (ascii "Inf") ≡ true → (l : Result ℕ Refusal) → StepSays s wants_open accepted r.next l → StepSays s wants_inf accepted at l
   inf_is a e q w l b = passes n wants_inf (Name a e) q refl _ refl wants_open (λ is. inf_step is (part s a e) ∙ rw w refl) accepted l b
 
-  pub inf_other : (a e : ℕ) → r.token ≡ Name a e → equal (part s a e) (ascii "Inf") ≡ false → StepSays s wants_inf accepted at (Torn 16)
-  inf_other a e q w = tears n wants_inf 16 (λ is. ap (λ (t : Token). told (go (wants_inf is)) (spelt s t n.rest)) q ∙ refuses (wants_inf is) _ n.rest 16 (inf_step is (part s a e) ∙ rw w refl)) accepted
+  pub inf_other : (a e : ℕ) → r.token ≡ Name a e → equal (part s a e) (ascii "Inf") ≡ false → StepSays s wants_inf accepted at (Err NotTaken)
+  inf_other a e q w = tears n wants_inf NotTaken (λ is. ap (λ (t : Token). told (go (wants_inf is)) (spelt s t n.rest)) q ∙ refuses (wants_inf is) _ n.rest 16 (inf_step is (part s a e) ∙ rw w refl)) accepted
 
-  pub inf_bracket : is_symbol_of r.token 40 ≡ true → StepSays s wants_inf accepted at (Torn 16)
-  inf_bracket e = tears n wants_inf 16 (λ is. ap (λ (t : Token). told (go (wants_inf is)) (spelt s t n.rest)) (symbol_is r.token 40 e) ∙ refuses (wants_inf is) _ n.rest 16 (bracket_step is)) accepted
+  pub inf_bracket : is_symbol_of r.token 40 ≡ true → StepSays s wants_inf accepted at (Err NotTaken)
+  inf_bracket e = tears n wants_inf NotTaken (λ is. ap (λ (t : Token). told (go (wants_inf is)) (spelt s t n.rest)) (symbol_is r.token 40 e) ∙ refuses (wants_inf is) _ n.rest 16 (bracket_step is)) accepted
 
-  pub inf_not : OneOf but_name (tag_of the_type r.token) → is_symbol_of r.token 40 ≡ false → (j : ℕ) → j ≡ fault_of r.token → StepSays s wants_inf accepted at (Torn j)
-  inf_not h e j f = tears n wants_inf j (λ is. no_inf is s n.rest r.token h e ∙ ap refused (sym f)) accepted
+  pub inf_not : OneOf but_name (tag_of the_type r.token) → is_symbol_of r.token 40 ≡ false → (j : Refusal) → j ≡ fault_of r.token → StepSays s wants_inf accepted at (Err j)
+  inf_not h e j f = tears n wants_inf j (λ is. no_inf is s n.rest r.token h e ∙ ap (λ (i : Refusal). refused (number i)) (sym f)) accepted
 
 -- the number of sets
-pub sets_is : (s : List ℕ) (at : ℕ) (l : Found) (v z : ℕ) → l ≡ Is v z → NumberSays s at l → v ≡ 1 → (x : Past) → StepSays s wants_inf accepted z x → StepSays s wants_sets accepted at x
-sets_is s at l v z q a e x b = go' x (rw q at a) b
+pub sets_is : (s : List ℕ) (at : ℕ) (v z : ℕ) → NumberSays s at (Ok (v, z)) → v ≡ 1 → (x : Result ℕ Refusal) → StepSays s wants_inf accepted z x → StepSays s wants_sets accepted at x
+sets_is s at v z a e x b = go' x a b
   where
     one : (is : List Item) → claim_tokens s at ≡ T.number v ∷ claim_tokens s z → told (go (wants_sets is)) (claim_tokens s at) ≡ told (go (wants_inf is)) (claim_tokens s z)
     one is c = ap (λ (ts : List T.Token). told (go (wants_sets is)) ts) c ∙ (number_taken (sets_wants is) v _ ∙ rw (eq-eqb v 1 e) refl)
 
-    go' : (x : Past) → NumberSays s at (Is v z) → StepSays s wants_inf accepted z x → StepSays s wants_sets accepted at x
-    go' (To y) (c, past) (b, past') = (λ is. one is c ∙ b is, ahead past past')
-    go' (Torn j) (c, past) b = λ is. one is c ∙ b is
+    go' : (x : Result ℕ Refusal) → NumberSays s at (Ok (v, z)) → StepSays s wants_inf accepted z x → StepSays s wants_sets accepted at x
+    go' (Ok y) (c, past) (b, past') = (λ is. one is c ∙ b is, ahead past past')
+    go' (Err j) (c, past) b = λ is. one is c ∙ b is
 
-pub sets_other : (s : List ℕ) (at : ℕ) (l : Found) (v z : ℕ) → l ≡ Is v z → NumberSays s at l → (v ≡ 1 → ⊥) → StepSays s wants_sets accepted at (Torn 16)
-sets_other s at l v z q a e is = go' (rw q at a)
-  where
-    go' : NumberSays s at (Is v z) → told (go (wants_sets is)) (claim_tokens s at) ≡ refused 16
-    go' (c, past) = ap (λ (ts : List T.Token). told (go (wants_sets is)) ts) c ∙ (number_taken (sets_wants is) v _ ∙ rw (ne_eqb v 1 e) (told_fault 16 _))
+pub sets_other : (s : List ℕ) (at : ℕ) (v z : ℕ) → NumberSays s at (Ok (v, z)) → (v ≡ 1 → ⊥) → StepSays s wants_sets accepted at (Err NotTaken)
+sets_other s at v z (c, past) e is = ap (λ (ts : List T.Token). told (go (wants_sets is)) ts) c ∙ (number_taken (sets_wants is) v _ ∙ rw (ne_eqb v 1 e) (told_fault 16 _))
 
-pub sets_none : (s : List ℕ) (at : ℕ) (l : Found) (j : ℕ) → l ≡ Not j → NumberSays s at l → StepSays s wants_sets accepted at (Torn j)
-sets_none s at l j q a is = go' (rw q at a)
-  where
-    go' : NumberSays s at (Not j) → told (go (wants_sets is)) (claim_tokens s at) ≡ refused j
-    go' b = b (wants_sets is) _ (sets_wants is)
+pub sets_none : (s : List ℕ) (at : ℕ) (j : Refusal) → NumberSays s at (Err j) → StepSays s wants_sets accepted at (Err j)
+sets_none s at j a is = a (wants_sets is) _ (sets_wants is)
 
 -- the item
 abbrev with_acceptance : Given → Given
@@ -459,14 +440,8 @@ module _ {is : List Item} {g : Given} (h : Gives is g) where
         few_propositions = h.few_propositions;
       }
 
-pub acceptance_taken : (s : List ℕ) (at : ℕ) (g : Given) (l : Past) (z : ℕ) → l ≡ To z → StepSays s wants_sets accepted at l → ItemSays s wants_sets after_acceptance at g (Read (with_acceptance g) z)
-acceptance_taken s at g l z q a = go' (rw q at a)
-  where
-    go' : StepSays s wants_sets accepted at (To z) → ItemSays s wants_sets after_acceptance at g (Read (with_acceptance g) z)
-    go' (b, past) = (λ is h. (snoc is acceptance, gives_acceptance h, b is), past)
+pub acceptance_taken : (s : List ℕ) (at : ℕ) (g : Given) (z : ℕ) → StepSays s wants_sets accepted at (Ok z) → ItemSays s wants_sets after_acceptance at g (Ok (with_acceptance g, z))
+acceptance_taken s at g z (b, past) = (λ is h. (snoc is acceptance, gives_acceptance h, b is), past)
 
-pub acceptance_none : (s : List ℕ) (at : ℕ) (g : Given) (l : Past) (j : ℕ) → l ≡ Torn j → StepSays s wants_sets accepted at l → ItemSays s wants_sets after_acceptance at g (Fault j)
-acceptance_none s at g l j q a is h = go' (rw q at a)
-  where
-    go' : StepSays s wants_sets accepted at (Torn j) → told (go (wants_sets is)) (claim_tokens s at) ≡ refused j
-    go' b = b is
+pub acceptance_none : (s : List ℕ) (at : ℕ) (g : Given) (j : Refusal) → StepSays s wants_sets accepted at (Err j) → ItemSays s wants_sets after_acceptance at g (Err j)
+acceptance_none s at g j a is h = a is

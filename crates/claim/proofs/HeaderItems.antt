@@ -4,7 +4,7 @@ use mathlib.Core.Path.{◌≡◌, refl, sym, ap, ◌∙◌}
 use mathlib.Core.Bool.{Bool, true, false, ◌||◌, cond, or-false}
 use mathlib.Core.List.{List, [], ◌∷◌}
 use mathlib.Core.Option.{Option, none, some, get_or}
-use Prim.Native.Nat.{ℕ, suc, ◌+◌, ◌-◌, ◌≤◌, ◌<◌}
+use Prim.Native.Nat.{ℕ, suc, ◌+◌, ◌≤◌, ◌<◌}
 use native.Mathlib.Omega.{arith}
 use types.Run.{OneOf, miss}
 use denote.Enum.Declared.{tag_of}
@@ -22,17 +22,16 @@ use Rattle.claim.specs.Reads.{Onward}
 use Rattle.claim.specs.declared.tokens.Token.{Token}
 use Rattle.claim.specs.declared.tokens.Token.TheVariants.{Name, Header, Number, Text, Symbol, Body, End, Alias, Comment, Stray, Done}
 use Rattle.claim.specs.declared.tokens.Seen.{Seen}
-use Rattle.claim.specs.declared.header.Found.{Found}
-use Rattle.claim.specs.declared.header.Found.TheVariants.{Is, Fault as Not}
 use Rattle.claim.specs.declared.header.Given.{Given}
-use Rattle.claim.specs.declared.header.Past.{Past}
-use Rattle.claim.specs.declared.header.Past.TheVariants.{To, Fault as Torn}
-use Rattle.claim.specs.declared.header.Header.{Header as Answer}
-use Rattle.claim.specs.declared.header.Header.TheVariants.{Read, Fault}
 use Rattle.claim.proofs.Places.{stays, onto, onward, ahead_onward}
 use Rattle.claim.specs.contracts.tokens.Token.{the_type}
 use Rattle.claim.proofs.Seeing.{reads_as, goes_past}
 use Rattle.claim.proofs.HeaderCode.{told_end, told_fault, stepped, refuses, number_taken}
+use Rattle.std.specs.Prelude.{Ok, Err}
+use Rattle.model.specs.Refusals.{number}
+use Rattle.model.specs.declared.refusal.Refusal.{Refusal}
+use Rattle.model.specs.declared.refusal.Refusal.TheVariants.{ClaimGrammar}
+use Rattle.claim.specs.Reads.{Parsed}
 
 -- PLACES
 -- STRINGS
@@ -40,7 +39,7 @@ abbrev but_text : List ℕ
 but_text = 0 ∷ 1 ∷ 2 ∷ 4 ∷ 5 ∷ 6 ∷ 7 ∷ 8 ∷ 9 ∷ 10 ∷ []
 
 module _ (is : List Item) (l : ℕ) (ns : List (List ℕ)) where
-  no_name : (s : List ℕ) (r : List T.Token) (t : Token) → OneOf but_text (tag_of the_type t) → told (go (wants_names is l ns)) (spelt s t r) ≡ refused (fault_of t)
+  no_name : (s : List ℕ) (r : List T.Token) (t : Token) → OneOf but_text (tag_of the_type t) → told (go (wants_names is l ns)) (spelt s t r) ≡ refused (number (fault_of t))
   unfolding step on_string otherwise ended
   no_name s r (Text a e) h = absurd (miss but_text 3 tt h)
   no_name s r (Name a e) h = refuses (wants_names is l ns) _ r 15 refl
@@ -59,11 +58,11 @@ module _ (is : List Item) (l : ℕ) (ns : List (List ℕ)) where
   name_taken w r = stepped (wants_names is l ns) _ r (go (named is l (snoc ns w))) refl
 
 module _ {s : List ℕ} {at : ℕ} {r : Seen} (n : Sees s T.longest_claim at (claim_tokens s at) r) where
-  pub string_is : (a e : ℕ) → r.token ≡ Text a e → StringSays s at (To r.next)
+  pub string_is : (a e : ℕ) → r.token ≡ Text a e → StringSays s at (Ok r.next)
   string_is a e q = (_, reads_as n (Text a e) q refl, goes_past n (Text a e) q refl)
 
-  pub string_not : OneOf but_text (tag_of the_type r.token) → (j : ℕ) → j ≡ fault_of r.token → StringSays s at (Torn j)
-  string_not h j e is l ns = ap (λ (ts : List T.Token). told (go (wants_names is l ns)) ts) n.reads ∙ (no_name is l ns s n.rest r.token h ∙ ap refused (sym e))
+  pub string_not : OneOf but_text (tag_of the_type r.token) → (j : Refusal) → j ≡ fault_of r.token → StringSays s at (Err j)
+  string_not h j e is l ns = ap (λ (ts : List T.Token). told (go (wants_names is l ns)) ts) n.reads ∙ (no_name is l ns s n.rest r.token h ∙ ap (λ (i : Refusal). refused (number i)) (sym e))
 
 -- NAMES: so many are left of so many
 pub record NamesSoFar (s : List ℕ) (at k left here : ℕ) : Type 0 where
@@ -76,35 +75,30 @@ pub names_begun : (s : List ℕ) (at k : ℕ) → NamesSoFar s at k k at
 names_begun s at k = record { names = []; counted = omega arith; same = λ is. refl; past = stays }
 
 -- one is wanted
-named_more : (is : List Item) (left : ℕ) (ns : List (List ℕ)) → 0 < left → named is left ns ≡ wants_names is (left - 1) ns
+named_more : (is : List Item) (left less : ℕ) (ns : List (List ℕ)) → left ≡ suc less → named is left ns ≡ wants_names is less ns
 unfolding named
-named_more is left ns h = let e : left ≡ suc (left - 1) = omega arith in ap (λ (l : ℕ). named is l ns) e
+named_more is left less ns e = ap (λ (l : ℕ). named is l ns) e
 
 named_none : (is : List Item) (left : ℕ) (ns : List (List ℕ)) → left ≤ 0 → named is left ns ≡ in_items whole (snoc is (propositions ns))
 unfolding named
 named_none is left ns h = let e : left ≡ 0 = omega arith in ap (λ (l : ℕ). named is l ns) e
 
 module _ {s : List ℕ} {at k left here : ℕ} (a : NamesSoFar s at k left here) where
-  wanted : 0 < left → (is : List Item) → told (go (named is k [])) (claim_tokens s at) ≡ told (go (wants_names is (left - 1) a.names)) (claim_tokens s here)
-  wanted h is = a.same is ∙ ap (λ (p : Place). told (go p) (claim_tokens s here)) (named_more is left a.names h)
+  module _ (less : ℕ) (h : left ≡ suc less) where
+    wanted : (is : List Item) → told (go (named is k [])) (claim_tokens s at) ≡ told (go (wants_names is less a.names)) (claim_tokens s here)
+    wanted is = a.same is ∙ ap (λ (p : Place). told (go p) (claim_tokens s here)) (named_more is left less a.names h)
 
-  pub names_again : 0 < left → (l : Past) (z : ℕ) → l ≡ To z → StringSays s here l → NamesSoFar s at k (left - 1) z
-  names_again h l z q b = go' (rw q at b)
-    where
-      go' : StringSays s here (To z) → NamesSoFar s at k (left - 1) z
-      go' (w, e, past) =
-          record {
-            names = snoc a.names w;
-            counted = omega (arith, length-append a.names (w ∷ []), a.counted);
-            same = λ is. wanted h is ∙ (ap (λ (ts : List T.Token). told (go (wants_names is (left - 1) a.names)) ts) e ∙ name_taken is (left - 1) a.names w _);
-            past = onward a.past (onto past);
-          }
+    pub names_again : (z : ℕ) → StringSays s here (Ok z) → NamesSoFar s at k less z
+    names_again z (w, e, past) =
+        record {
+          names = snoc a.names w;
+          counted = omega (arith, length-append a.names (w ∷ []), a.counted, h);
+          same = λ is. wanted is ∙ (ap (λ (ts : List T.Token). told (go (wants_names is less a.names)) ts) e ∙ name_taken is less a.names w _);
+          past = onward a.past (onto past);
+        }
 
-  pub names_torn : 0 < left → (g : Given) (l : Past) (j : ℕ) → l ≡ Torn j → StringSays s here l → ItemOn s (λ is. go (named is k [])) whole at g (Fault j)
-  names_torn h g l j q b is x = go' (rw q at b)
-    where
-      go' : StringSays s here (Torn j) → told (go (named is k [])) (claim_tokens s at) ≡ refused j
-      go' c = wanted h is ∙ c is (left - 1) a.names
+    pub names_torn : (g : Given) (j : Refusal) → StringSays s here (Err j) → ItemOn s (λ is. go (named is k [])) whole at g (Err j)
+    names_torn g j c is x = wanted is ∙ c is less a.names
 
 -- PROPOSITIONS: what the item gives
 abbrev with_names : Given → ℕ → Given
@@ -143,31 +137,25 @@ module _ {is : List Item} {g : Given} (h : Gives is g) (fresh : g.named ≡ fals
         few_propositions = f;
       }
 
-pub names_read : {s : List ℕ} {at k left here : ℕ} → NamesSoFar s at k left here → left ≤ 0 → (g : Given) → g.named ≡ false → k ≤ most_propositions → ItemOn s (λ is. go (named is k [])) whole at g (Read (with_names g k) here)
+pub names_read : {s : List ℕ} {at k left here : ℕ} → NamesSoFar s at k left here → left ≤ 0 → (g : Given) → g.named ≡ false → k ≤ most_propositions → ItemOn s (λ is. go (named is k [])) whole at g (Ok (with_names g k, here))
 names_read {s} {at} {k} {left} {here} a h g fresh few = (λ is x. (snoc is (propositions a.names), gives_names x fresh a.names k (omega (arith, h, a.counted)) few, a.same is ∙ ap (λ (p : Place). told (go p) (claim_tokens s here)) (named_none is left a.names h)), a.past)
 
 propositions_wants : (is : List Item) → WantsNumber (wants_propositions is) (λ k. cond (leb k most_propositions) (go (named is k [])) (fault 15))
 unfolding step ended
 propositions_wants is = record { steps = λ t. refl; open_ended = refl }
 
-pub propositions_taken : (s : List ℕ) (at : ℕ) (g : Given) (l : Found) (k z : ℕ) → l ≡ Is k z → NumberSays s at l → k ≤ most_propositions → (x : Answer) → ItemOn s (λ is. go (named is k [])) whole z g x → ItemSays s wants_propositions whole at g x
-propositions_taken s at g l k z q a few x b = go' x (rw q at a) b
+pub propositions_taken : (s : List ℕ) (at : ℕ) (g : Given) (k z : ℕ) → NumberSays s at (Ok (k, z)) → k ≤ most_propositions → (x : Parsed Given) → ItemOn s (λ is. go (named is k [])) whole z g x → ItemSays s wants_propositions whole at g x
+propositions_taken s at g k z a few x b = go' x a b
   where
     one : (is : List Item) → claim_tokens s at ≡ T.number k ∷ claim_tokens s z → told (go (wants_propositions is)) (claim_tokens s at) ≡ told (go (named is k [])) (claim_tokens s z)
     one is e = ap (λ (ts : List T.Token). told (go (wants_propositions is)) ts) e ∙ (number_taken (propositions_wants is) k _ ∙ rw (le-leb k most_propositions few) refl)
 
-    go' : (x : Answer) → NumberSays s at (Is k z) → ItemOn s (λ is. go (named is k [])) whole z g x → ItemSays s wants_propositions whole at g x
-    go' (Read h y) (e, past) (b, more) = (λ is i. ((b is i).0, (b is i).1, one is e ∙ (b is i).2), ahead_onward past more)
-    go' (Fault j) (e, past) b = λ is i. one is e ∙ b is i
+    go' : (x : Parsed Given) → NumberSays s at (Ok (k, z)) → ItemOn s (λ is. go (named is k [])) whole z g x → ItemSays s wants_propositions whole at g x
+    go' (Ok (h, y)) (e, past) (b, more) = (λ is i. ((b is i).0, (b is i).1, one is e ∙ (b is i).2), ahead_onward past more)
+    go' (Err j) (e, past) b = λ is i. one is e ∙ b is i
 
-pub propositions_many : (s : List ℕ) (at : ℕ) (g : Given) (l : Found) (k z : ℕ) → l ≡ Is k z → NumberSays s at l → most_propositions < k → ItemSays s wants_propositions whole at g (Fault 15)
-propositions_many s at g l k z q a many is h = go' (rw q at a)
-  where
-    go' : NumberSays s at (Is k z) → told (go (wants_propositions is)) (claim_tokens s at) ≡ refused 15
-    go' (e, past) = ap (λ (ts : List T.Token). told (go (wants_propositions is)) ts) e ∙ (number_taken (propositions_wants is) k _ ∙ rw (lt-leb k most_propositions many) (told_fault 15 _))
+pub propositions_many : (s : List ℕ) (at : ℕ) (g : Given) (k z : ℕ) → NumberSays s at (Ok (k, z)) → most_propositions < k → ItemSays s wants_propositions whole at g (Err ClaimGrammar)
+propositions_many s at g k z (e, past) many is h = ap (λ (ts : List T.Token). told (go (wants_propositions is)) ts) e ∙ (number_taken (propositions_wants is) k _ ∙ rw (lt-leb k most_propositions many) (told_fault 15 _))
 
-pub propositions_none : (s : List ℕ) (at : ℕ) (g : Given) (l : Found) (j : ℕ) → l ≡ Not j → NumberSays s at l → ItemSays s wants_propositions whole at g (Fault j)
-propositions_none s at g l j q a is h = go' (rw q at a)
-  where
-    go' : NumberSays s at (Not j) → told (go (wants_propositions is)) (claim_tokens s at) ≡ refused j
-    go' b = b (wants_propositions is) _ (propositions_wants is)
+pub propositions_none : (s : List ℕ) (at : ℕ) (g : Given) (j : Refusal) → NumberSays s at (Err j) → ItemSays s wants_propositions whole at g (Err j)
+propositions_none s at g j a is h = a (wants_propositions is) _ (propositions_wants is)

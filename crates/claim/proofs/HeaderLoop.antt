@@ -19,24 +19,26 @@ use Rattle.model.specs.ClaimTable.{is_sign, Last, whole, after_start, after_acce
 use Rattle.model.proofs.ClaimItems.{first_given, given_none, count_append, start_append}
 use Rattle.model.proofs.ClaimComplete.{small_not}
 use Rattle.claim.specs.Reads.{part, claim_tokens, spelt, is_symbol_of, fault_of, starts, Sees, Ahead}
-use Rattle.claim.specs.HeaderSays.{shown, Gives, ItemSays, ItemOn, Skips, kind_of, on_kind, last_of, KindSays, continues, no_item, items_end, HeaderSays}
+use Rattle.claim.specs.HeaderSays.{shown, Gives, ItemSays, ItemOn, Skips, kind_of, on_kind, on_name, last_of, KindSays, continues, no_item, items_end, HeaderSays}
 use Rattle.claim.specs.Reads.{Onward}
 use Rattle.claim.specs.declared.tokens.Token.{Token}
 use Rattle.claim.specs.declared.tokens.Token.TheVariants.{Name, Header, Number, Text, Symbol, Body, End, Alias, Comment, Stray, Done}
 use Rattle.claim.specs.declared.tokens.Seen.{Seen}
 use Rattle.claim.specs.declared.header.Given.{Given}
 use Rattle.claim.specs.declared.header.Kind.{Kind}
-use Rattle.claim.specs.declared.header.Kind.TheVariants.{States, Start, Propositions, Acceptance, Skipped, Fault as Bad}
-use Rattle.claim.specs.declared.header.Header.{Header as Answer}
-use Rattle.claim.specs.declared.header.Header.TheVariants.{Read, Fault}
+use Rattle.claim.specs.declared.header.Kind.TheVariants.{States, Start, Propositions, Acceptance, Skipped}
 use Rattle.claim.proofs.Places.{stays, onto, onward, ahead_onward}
 use Rattle.claim.specs.contracts.tokens.Token.{the_type}
 use Rattle.claim.specs.contracts.header.Kind.{the_type as kind_type}
-use Rattle.claim.specs.contracts.header.Header.{the_type as header_type}
 use Rattle.claim.proofs.Lexing.{part_cons, part_past, part_cut}
 use Rattle.claim.proofs.Seeing.{reads_as, goes_past, ends_as, starts_as}
 use Rattle.claim.proofs.HeaderCode.{told_end, told_fault, stepped, refuses, PlainItem, count_kept, named_kept, acceptance_kept}
 use Rattle.model.specs.ClaimLabels.{and_byte, or_byte}
+use Rattle.std.specs.Prelude.{Result, Ok, Err}
+use Rattle.model.specs.Refusals.{number}
+use Rattle.model.specs.declared.refusal.Refusal.{Refusal}
+use Rattle.model.specs.declared.refusal.Refusal.TheVariants.{ClaimGrammar, NotTaken}
+use Rattle.claim.specs.Reads.{Parsed}
 
 -- THE FIRST BYTE of a name
 module _ (s : List ℕ) (a e : ℕ) where
@@ -61,7 +63,7 @@ capital_at [] = refl
 capital_at (b ∷ w) = refl
 
 -- a name that begins with a small letter is skipped: none of the format's does
-pub small_skipped : (w : List ℕ) (b : ℕ) → b ≡ get_or w 0 0 → (leb 97 b && leb b 122) ≡ true → Skipped ≡ kind_of w
+pub small_skipped : (w : List ℕ) (b : ℕ) → b ≡ get_or w 0 0 → (leb 97 b && leb b 122) ≡ true → Ok Skipped ≡ kind_of w
 unfolding T.is_small
 small_skipped [] b q e = cc
 small_skipped (c ∷ w) b q e =
@@ -70,7 +72,7 @@ small_skipped (c ∷ w) b q e =
 
 -- the table's own choice
 module _ (is : List Item) (w : List ℕ) where
-  kinds : (a b c d e f g : Bool) → cond a (fault 15) (cond b (on_kind is w States) (cond c (on_kind is w Start) (cond d (on_kind is w Propositions) (cond e (on_kind is w Acceptance) (cond f (on_kind is w Skipped) (fault (cond g 16 15))))))) ≡ on_kind is w (cond a (Bad 15) (cond b States (cond c Start (cond d Propositions (cond e Acceptance (cond f Skipped (cond g (Bad 16) (Bad 15))))))))
+  kinds : (a b c d e f g : Bool) → cond a (fault 15) (cond b (on_kind is w States) (cond c (on_kind is w Start) (cond d (on_kind is w Propositions) (cond e (on_kind is w Acceptance) (cond f (on_kind is w Skipped) (fault (cond g 16 15))))))) ≡ on_name is w (cond a (Err ClaimGrammar) (cond b (Ok States) (cond c (Ok Start) (cond d (Ok Propositions) (cond e (Ok Acceptance) (cond f (Ok Skipped) (Err (cond g NotTaken ClaimGrammar))))))))
   kinds true b c d e f g = refl
   kinds false true c d e f g = refl
   kinds false false true d e f g = refl
@@ -80,7 +82,7 @@ module _ (is : List Item) (w : List ℕ) where
   kinds false false false false false false true = refl
   kinds false false false false false false false = refl
 
-  by_kind : on_header is w ≡ on_kind is w (kind_of w)
+  by_kind : on_header is w ≡ on_name is w (kind_of w)
   unfolding on_header
   by_kind = rw (small_at w, capital_at w) (kinds (equal w (ascii "HOA")) (equal w (ascii "States")) (equal w (ascii "Start")) (equal w (ascii "AP")) (equal w (ascii "Acceptance")) (T.is_small (get_or w 0 0)) (T.is_capital (get_or w 0 0)))
 
@@ -90,13 +92,13 @@ unfolding unless
 unless_told true k p r = told_fault k r
 unless_told false k p r = refl
 
-module _ (s : List ℕ) (at : ℕ) (g : Given) (p : List Item → Place) (l : Last) (given : List Item → Bool) (k : ℕ) where
-  first_one : ((is : List Item) → Gives is g → given is ≡ false) → (x : Answer) → ItemSays s p l at g x → ItemOn s (λ is. unless (given is) k (p is)) l at g x
-  first_one f (Read h n) (a, past) = (λ is i. ((a is i).0, (a is i).1, unless_told (given is) k (p is) _ ∙ (rw (f is i) refl ∙ (a is i).2)), record { more = omega (arith, past.more); inside = λ z. past.inside })
-  first_one f (Fault j) a = λ is i. unless_told (given is) k (p is) _ ∙ (rw (f is i) refl ∙ a is i)
+module _ (s : List ℕ) (at : ℕ) (g : Given) (p : List Item → Place) (l : Last) (given : List Item → Bool) (k : Refusal) where
+  first_one : ((is : List Item) → Gives is g → given is ≡ false) → (x : Parsed Given) → ItemSays s p l at g x → ItemOn s (λ is. unless (given is) (number k) (p is)) l at g x
+  first_one f (Ok (h, n)) (a, past) = (λ is i. ((a is i).0, (a is i).1, unless_told (given is) (number k) (p is) _ ∙ (rw (f is i) refl ∙ (a is i).2)), record { more = omega (arith, past.more); inside = λ z. past.inside })
+  first_one f (Err j) a = λ is i. unless_told (given is) (number k) (p is) _ ∙ (rw (f is i) refl ∙ a is i)
 
-  second_one : ((is : List Item) → Gives is g → given is ≡ true) → ItemOn s (λ is. unless (given is) k (p is)) l at g (Fault k)
-  second_one f is i = unless_told (given is) k (p is) _ ∙ rw (f is i) refl
+  second_one : ((is : List Item) → Gives is g → given is ≡ true) → ItemOn s (λ is. unless (given is) (number k) (p is)) l at g (Err k)
+  second_one f is i = unless_told (given is) (number k) (p is) _ ∙ rw (f is i) refl
 
 some_shown : (b : Bool) (v : ℕ) → is_some (shown b v) ≡ b
 unfolding is_some
@@ -136,38 +138,35 @@ gives_skipped {is} {g} h w ts =
 
 -- the item of each kind
 module _ (s : List ℕ) (k : Kind) (at : ℕ) (g : Given) where
-  of_kind : (i : Kind) → k ≡ i → (x : Answer) → KindSays s i at g x → KindSays s k at g x
+  of_kind : (i : Kind) → k ≡ i → (x : Parsed Given) → KindSays s i at g x → KindSays s k at g x
   of_kind i q x a = subst (λ (j : Kind). KindSays s j at g x) (sym q) a
 
-  pub kind_bad : (j : ℕ) → k ≡ Bad j → KindSays s k at g (Fault j)
-  kind_bad j q = of_kind (Bad j) q (Fault j) (λ w is i. told_fault j _)
+  pub states_first : k ≡ States → g.states ≤ 0 → (x : Parsed Given) → ItemSays s wants_count whole at g x → KindSays s k at g x
+  states_first q e x a = of_kind States q x (λ w. first_one s at g wants_count whole (λ is. is_some (state_count is)) ClaimGrammar (λ is i. states_given i ∙ le-ltb 0 g.states e) x a)
 
-  pub states_first : k ≡ States → g.states ≤ 0 → (x : Answer) → ItemSays s wants_count whole at g x → KindSays s k at g x
-  states_first q e x a = of_kind States q x (λ w. first_one s at g wants_count whole (λ is. is_some (state_count is)) 15 (λ is i. states_given i ∙ le-ltb 0 g.states e) x a)
+  pub states_again : k ≡ States → 0 < g.states → KindSays s k at g (Err ClaimGrammar)
+  states_again q e = of_kind States q (Err ClaimGrammar) (λ w. second_one s at g wants_count whole (λ is. is_some (state_count is)) ClaimGrammar (λ is i. states_given i ∙ lt-ltb 0 g.states e))
 
-  pub states_again : k ≡ States → 0 < g.states → KindSays s k at g (Fault 15)
-  states_again q e = of_kind States q (Fault 15) (λ w. second_one s at g wants_count whole (λ is. is_some (state_count is)) 15 (λ is i. states_given i ∙ lt-ltb 0 g.states e))
+  pub start_first : k ≡ Start → most_states ≤ g.start → (x : Parsed Given) → ItemSays s wants_start after_start at g x → KindSays s k at g x
+  start_first q e x a = of_kind Start q x (λ w. first_one s at g wants_start after_start (λ is. is_some (start_state is)) NotTaken (λ is i. start_given i ∙ le-ltb g.start most_states e) x a)
 
-  pub start_first : k ≡ Start → most_states ≤ g.start → (x : Answer) → ItemSays s wants_start after_start at g x → KindSays s k at g x
-  start_first q e x a = of_kind Start q x (λ w. first_one s at g wants_start after_start (λ is. is_some (start_state is)) 16 (λ is i. start_given i ∙ le-ltb g.start most_states e) x a)
+  pub start_again : k ≡ Start → g.start < most_states → KindSays s k at g (Err NotTaken)
+  start_again q e = of_kind Start q (Err NotTaken) (λ w. second_one s at g wants_start after_start (λ is. is_some (start_state is)) NotTaken (λ is i. start_given i ∙ lt-ltb g.start most_states e))
 
-  pub start_again : k ≡ Start → g.start < most_states → KindSays s k at g (Fault 16)
-  start_again q e = of_kind Start q (Fault 16) (λ w. second_one s at g wants_start after_start (λ is. is_some (start_state is)) 16 (λ is i. start_given i ∙ lt-ltb g.start most_states e))
+  pub propositions_first : k ≡ Propositions → g.named ≡ false → (x : Parsed Given) → ItemSays s wants_propositions whole at g x → KindSays s k at g x
+  propositions_first q e x a = of_kind Propositions q x (λ w. first_one s at g wants_propositions whole (λ is. is_some (proposition_names is)) ClaimGrammar (λ is i. i.named ∙ e) x a)
 
-  pub propositions_first : k ≡ Propositions → g.named ≡ false → (x : Answer) → ItemSays s wants_propositions whole at g x → KindSays s k at g x
-  propositions_first q e x a = of_kind Propositions q x (λ w. first_one s at g wants_propositions whole (λ is. is_some (proposition_names is)) 15 (λ is i. i.named ∙ e) x a)
+  pub propositions_again : k ≡ Propositions → g.named ≡ true → KindSays s k at g (Err ClaimGrammar)
+  propositions_again q e = of_kind Propositions q (Err ClaimGrammar) (λ w. second_one s at g wants_propositions whole (λ is. is_some (proposition_names is)) ClaimGrammar (λ is i. i.named ∙ e))
 
-  pub propositions_again : k ≡ Propositions → g.named ≡ true → KindSays s k at g (Fault 15)
-  propositions_again q e = of_kind Propositions q (Fault 15) (λ w. second_one s at g wants_propositions whole (λ is. is_some (proposition_names is)) 15 (λ is i. i.named ∙ e))
+  pub acceptance_first : k ≡ Acceptance → g.acceptance ≡ false → (x : Parsed Given) → ItemSays s wants_sets after_acceptance at g x → KindSays s k at g x
+  acceptance_first q e x a = of_kind Acceptance q x (λ w. first_one s at g wants_sets after_acceptance has_acceptance ClaimGrammar (λ is i. i.acceptance ∙ e) x a)
 
-  pub acceptance_first : k ≡ Acceptance → g.acceptance ≡ false → (x : Answer) → ItemSays s wants_sets after_acceptance at g x → KindSays s k at g x
-  acceptance_first q e x a = of_kind Acceptance q x (λ w. first_one s at g wants_sets after_acceptance has_acceptance 15 (λ is i. i.acceptance ∙ e) x a)
+  pub acceptance_again : k ≡ Acceptance → g.acceptance ≡ true → KindSays s k at g (Err ClaimGrammar)
+  acceptance_again q e = of_kind Acceptance q (Err ClaimGrammar) (λ w. second_one s at g wants_sets after_acceptance has_acceptance ClaimGrammar (λ is i. i.acceptance ∙ e))
 
-  pub acceptance_again : k ≡ Acceptance → g.acceptance ≡ true → KindSays s k at g (Fault 15)
-  acceptance_again q e = of_kind Acceptance q (Fault 15) (λ w. second_one s at g wants_sets after_acceptance has_acceptance 15 (λ is i. i.acceptance ∙ e))
-
-  pub skipped_read : k ≡ Skipped → (n : ℕ) → Skips s at n → KindSays s k at g (Read g n)
-  skipped_read q n a = of_kind Skipped q (Read g n) (λ w. (λ is i. let m = a.same is w in (m.0, m.2 g i, m.1), a.onward))
+  pub skipped_read : k ≡ Skipped → (n : ℕ) → Skips s at n → KindSays s k at g (Ok (g, n))
+  skipped_read q n a = of_kind Skipped q (Ok (g, n)) (λ w. (λ is i. let m = a.same is w in (m.0, m.2 g i, m.1), a.onward))
 
 -- SIGNS after an item
 module _ (l : Kind) (t : Token) where
@@ -178,7 +177,7 @@ module _ (l : Kind) (t : Token) where
   continues_acceptance q x y e f = rw (e, f) (sym (ap (λ (k : Kind). continues k t) q))
 
 abbrev but_signed : List ℕ
-but_signed = 0 ∷ 2 ∷ 4 ∷ 5 ∷ []
+but_signed = 0 ∷ 2 ∷ 4 ∷ []
 
 pub continues_not : (l : Kind) (t : Token) → OneOf but_signed (tag_of kind_type l) → false ≡ continues l t
 continues_not Start t h = absurd (miss but_signed 1 tt h)
@@ -186,28 +185,27 @@ continues_not Acceptance t h = absurd (miss but_signed 3 tt h)
 continues_not States t h = refl
 continues_not Propositions t h = refl
 continues_not Skipped t h = refl
-continues_not (Bad k) t h = refl
 
 -- THE END of the items
 abbrev but_body : List ℕ
 but_body = 0 ∷ 1 ∷ 2 ∷ 3 ∷ 4 ∷ 6 ∷ 7 ∷ 8 ∷ 9 ∷ 10 ∷ []
 
 module _ (n : ℕ) (g : Given) (l : Kind) where
-  pub body_is : (t : Token) → t ≡ Body → (b : Bool) → ((ltb 0 g.states && ltb g.start most_states) && g.acceptance) ≡ b → cond b (Read g n) (Fault 15) ≡ items_end t n g l
-  body_is t q b e = sym (ap (λ (u : Token). items_end u n g l) q ∙ ap (λ (x : Bool). cond x (Read g n) (Fault 15)) e)
+  pub body_is : (t : Token) → t ≡ Body → (b : Bool) → ((ltb 0 g.states && ltb g.start most_states) && g.acceptance) ≡ b → cond b (Ok (g, n)) (Err ClaimGrammar) ≡ items_end t n g l
+  body_is t q b e = sym (ap (λ (u : Token). items_end u n g l) q ∙ ap (λ (x : Bool). cond x (Ok (g, n)) (Err ClaimGrammar)) e)
 
-  pub body_not : (t : Token) → OneOf but_body (tag_of the_type t) → (b : Bool) → b ≡ continues l t → Fault (cond b 16 (fault_of t)) ≡ items_end t n g l
+  pub body_not : (t : Token) → OneOf but_body (tag_of the_type t) → (b : Bool) → b ≡ continues l t → Err (cond b NotTaken (fault_of t)) ≡ items_end t n g l
   body_not Body h b e = absurd (miss but_body 5 tt h)
-  body_not (Name a z) h b e = ap (λ (x : Bool). Fault (cond x 16 15)) e
-  body_not (Header a z) h b e = ap (λ (x : Bool). Fault (cond x 16 15)) e
-  body_not (Number v) h b e = ap (λ (x : Bool). Fault (cond x 16 15)) e
-  body_not (Text a z) h b e = ap (λ (x : Bool). Fault (cond x 16 15)) e
-  body_not (Symbol c) h b e = ap (λ (x : Bool). Fault (cond x 16 15)) e
-  body_not End h b e = ap (λ (x : Bool). Fault (cond x 16 15)) e
-  body_not Alias h b e = ap (λ (x : Bool). Fault (cond x 16 15)) e
-  body_not Comment h b e = ap (λ (x : Bool). Fault (cond x 16 16)) e
-  body_not Stray h b e = ap (λ (x : Bool). Fault (cond x 16 15)) e
-  body_not Done h b e = ap (λ (x : Bool). Fault (cond x 16 15)) e
+  body_not (Name a z) h b e = ap (λ (x : Bool). Err (cond x NotTaken ClaimGrammar)) e
+  body_not (Header a z) h b e = ap (λ (x : Bool). Err (cond x NotTaken ClaimGrammar)) e
+  body_not (Number v) h b e = ap (λ (x : Bool). Err (cond x NotTaken ClaimGrammar)) e
+  body_not (Text a z) h b e = ap (λ (x : Bool). Err (cond x NotTaken ClaimGrammar)) e
+  body_not (Symbol c) h b e = ap (λ (x : Bool). Err (cond x NotTaken ClaimGrammar)) e
+  body_not End h b e = ap (λ (x : Bool). Err (cond x NotTaken ClaimGrammar)) e
+  body_not Alias h b e = ap (λ (x : Bool). Err (cond x NotTaken ClaimGrammar)) e
+  body_not Comment h b e = ap (λ (x : Bool). Err (cond x NotTaken NotTaken)) e
+  body_not Stray h b e = ap (λ (x : Bool). Err (cond x NotTaken ClaimGrammar)) e
+  body_not Done h b e = ap (λ (x : Bool). Err (cond x NotTaken ClaimGrammar)) e
 
 -- what stands last asks for a sign or none; all else is as after whole items
 after_start_told : (is : List Item) (ts : List T.Token) → told (go (in_items after_start is)) ts ≡ cond (starts and_byte ts) (refused 16) (told (go (in_items whole is)) ts)
@@ -229,9 +227,9 @@ after_acceptance_told is (t ∷ r) = go' (is_sign (T.symbol and_byte) t || is_si
     go' false = refl
 
 -- a token after whole items
-pub header_told : (is : List Item) (w : List ℕ) (r : List T.Token) → told (go (in_items whole is)) (T.header w ∷ r) ≡ told (on_kind is w (kind_of w)) r
+pub header_told : (is : List Item) (w : List ℕ) (r : List T.Token) → told (go (in_items whole is)) (T.header w ∷ r) ≡ told (on_name is w (kind_of w)) r
 unfolding step header_step
-header_told is w r = stepped (in_items whole is) _ r (on_kind is w (kind_of w)) (by_kind is w)
+header_told is w r = stepped (in_items whole is) _ r (on_name is w (kind_of w)) (by_kind is w)
 
 body_told : (is : List Item) (r : List T.Token) (b : Bool) → header_whole is ≡ b → told (go (in_items whole is)) (T.body_mark ∷ r) ≡ told (cond b (go (in_lines is [])) (fault 15)) r
 unfolding step header_step
@@ -260,7 +258,6 @@ no_sign Acceptance t e f = rw (e, f) refl
 no_sign States t e f = refl
 no_sign Propositions t e f = refl
 no_sign Skipped t e f = refl
-no_sign (Bad k) t e f = refl
 
 abbrev but_header : List ℕ
 but_header = 0 ∷ 2 ∷ 3 ∷ 4 ∷ 5 ∷ 6 ∷ 7 ∷ 8 ∷ 9 ∷ 10 ∷ []
@@ -272,38 +269,35 @@ module _ {s : List ℕ} {at : ℕ} {g : Given} {l : Kind} {here : ℕ} (a : Item
   last_told States is = refl
   last_told Propositions is = refl
   last_told Skipped is = refl
-  last_told (Bad k) is = refl
 
   -- a token that is no sign
   whole_told : is_symbol_of r.token and_byte ≡ false → is_symbol_of r.token or_byte ≡ false → told (go (in_items whole [])) (claim_tokens s at) ≡ told (go (in_items whole a.items)) (claim_tokens s here)
   whole_told e f = a.same ∙ (last_told l a.items ∙ rw (no_sign l r.token e f) refl)
 
   -- a header
-  module _ (b e : ℕ) (q : r.token ≡ Header b e) (k : Kind) (o : k ≡ kind_of (part s b e)) where
-    kind_told : told (go (in_items whole [])) (claim_tokens s at) ≡ told (on_kind a.items (part s b e) k) (claim_tokens s r.next)
+  module _ (b e : ℕ) (q : r.token ≡ Header b e) (k : Result Kind Refusal) (o : k ≡ kind_of (part s b e)) where
+    kind_told : told (go (in_items whole [])) (claim_tokens s at) ≡ told (on_name a.items (part s b e) k) (claim_tokens s r.next)
     kind_told =
         whole_told (ap (λ (t : Token). is_symbol_of t and_byte) q) (ap (λ (t : Token). is_symbol_of t or_byte) q)
         ∙ (ap (λ (ts : List T.Token). told (go (in_items whole a.items)) ts) (reads_as n (Header b e) q refl)
-        ∙ (header_told a.items (part s b e) _ ∙ ap (λ (i : Kind). told (on_kind a.items (part s b e) i) (claim_tokens s r.next)) (sym o)))
+        ∙ (header_told a.items (part s b e) _ ∙ ap (λ (i : Result Kind Refusal). told (on_name a.items (part s b e) i) (claim_tokens s r.next)) (sym o)))
 
-    pub items_again : (x : Answer) (h : Given) (z : ℕ) → x ≡ Read h z → KindSays s k r.next g x → ItemsSoFar s at h k z
-    items_again x h z p c = go' (rw p at c)
-      where
-        go' : KindSays s k r.next g (Read h z) → ItemsSoFar s at h k z
-        go' d = let m = (d (part s b e)).0 a.items a.gives in record { items = m.0; gives = m.1; same = kind_told ∙ m.2; past = onward (onward a.past (onto (goes_past n (Header b e) q refl))) (d (part s b e)).1 }
+  module _ (b e : ℕ) (q : r.token ≡ Header b e) where
+    pub items_unknown : (j : Refusal) → Err j ≡ kind_of (part s b e) → HeaderSays s at (Err j)
+    items_unknown j o = kind_told b e q (Err j) o ∙ told_fault (number j) _
 
-    pub items_ahead : (x : Answer) (h : Given) (z : ℕ) → x ≡ Read h z → KindSays s k r.next g x → Ahead s here z
-    items_ahead x h z p c = go' (rw p at c)
-      where
-        go' : KindSays s k r.next g (Read h z) → Ahead s here z
-        go' d = ahead_onward (goes_past n (Header b e) q refl) (d (part s b e)).1
+    module _ (k : Kind) (o : Ok k ≡ kind_of (part s b e)) where
+      pub items_again : (h : Given) (z : ℕ) → KindSays s k r.next g (Ok (h, z)) → ItemsSoFar s at h k z
+      items_again h z d = let m = (d (part s b e)).0 a.items a.gives in record { items = m.0; gives = m.1; same = kind_told b e q (Ok k) o ∙ m.2; past = onward (onward a.past (onto (goes_past n (Header b e) q refl))) (d (part s b e)).1 }
 
-    pub items_broken : (x : Answer) → OneOf (1 ∷ []) (tag_of header_type x) → KindSays s k r.next g x → HeaderSays s at x
-    items_broken (Read h z) i c = absurd (miss (1 ∷ []) 0 tt i)
-    items_broken (Fault j) i c = kind_told ∙ c (part s b e) a.items a.gives
+      pub items_ahead : (h : Given) (z : ℕ) → KindSays s k r.next g (Ok (h, z)) → Ahead s here z
+      items_ahead h z d = ahead_onward (goes_past n (Header b e) q refl) (d (part s b e)).1
+
+      pub items_broken : (j : Refusal) → KindSays s k r.next g (Err j) → HeaderSays s at (Err j)
+      items_broken j c = kind_told b e q (Ok k) o ∙ c (part s b e) a.items a.gives
 
   -- the body
-  body_ended : r.token ≡ Body → (b : Bool) → ((ltb 0 g.states && ltb g.start most_states) && g.acceptance) ≡ b → HeaderSays s at (cond b (Read g r.next) (Fault 15))
+  body_ended : r.token ≡ Body → (b : Bool) → ((ltb 0 g.states && ltb g.start most_states) && g.acceptance) ≡ b → HeaderSays s at (cond b (Ok (g, r.next)) (Err ClaimGrammar))
   body_ended q b e = go' b (whole_given a.gives ∙ e)
     where
       body_next : told (go (in_items whole [])) (claim_tokens s at) ≡ told (go (in_items whole a.items)) (T.body_mark ∷ claim_tokens s r.next)
@@ -312,15 +306,15 @@ module _ {s : List ℕ} {at : ℕ} {g : Given} {l : Kind} {here : ℕ} (a : Item
       past : Ahead s here r.next
       past = goes_past n Body q refl
 
-      go' : (b : Bool) → header_whole a.items ≡ b → HeaderSays s at (cond b (Read g r.next) (Fault 15))
+      go' : (b : Bool) → header_whole a.items ≡ b → HeaderSays s at (cond b (Ok (g, r.next)) (Err ClaimGrammar))
       go' true w = (a.items, a.gives, w, body_next ∙ body_told a.items _ true w, record { more = omega (arith, past.more, a.past.more); inside = past.inside })
       go' false w = body_next ∙ (body_told a.items _ false w ∙ told_fault 15 _)
 
   -- neither
-  other_ended : (t : Token) → r.token ≡ t → told (go (in_items whole a.items)) (spelt s t n.rest) ≡ refused (fault_of t) → HeaderSays s at (no_item l t)
+  other_ended : (t : Token) → r.token ≡ t → told (go (in_items whole a.items)) (spelt s t n.rest) ≡ refused (number (fault_of t)) → HeaderSays s at (no_item l t)
   other_ended t q f = go' (continues l t) (a.same ∙ (last_told l a.items ∙ ap (λ (u : Token). cond (continues l u) (refused 16) (told (go (in_items whole a.items)) (claim_tokens s here))) q))
     where
-      go' : (b : Bool) → told (go (in_items whole [])) (claim_tokens s at) ≡ cond b (refused 16) (told (go (in_items whole a.items)) (claim_tokens s here)) → HeaderSays s at (Fault (cond b 16 (fault_of t)))
+      go' : (b : Bool) → told (go (in_items whole [])) (claim_tokens s at) ≡ cond b (refused 16) (told (go (in_items whole a.items)) (claim_tokens s here)) → HeaderSays s at (Err (cond b NotTaken (fault_of t)))
       go' true e = e
       go' false e = e ∙ (ap (λ (ts : List T.Token). told (go (in_items whole a.items)) ts) (ends_as n t q) ∙ f)
 
@@ -338,5 +332,5 @@ module _ {s : List ℕ} {at : ℕ} {g : Given} {l : Kind} {here : ℕ} (a : Item
   ended_by Stray q h = other_ended _ q (refuses (in_items whole a.items) _ _ 15 refl)
   ended_by Done q h = other_ended _ q (told_end (in_items whole a.items))
 
-  pub items_ended : OneOf but_header (tag_of the_type r.token) → (x : Answer) → x ≡ items_end r.token r.next g l → HeaderSays s at x
-  items_ended h x e = subst (λ (y : Answer). HeaderSays s at y) (sym e) (ended_by r.token refl h)
+  pub items_ended : OneOf but_header (tag_of the_type r.token) → (x : Parsed Given) → x ≡ items_end r.token r.next g l → HeaderSays s at x
+  items_ended h x e = subst (λ (y : Parsed Given). HeaderSays s at y) (sym e) (ended_by r.token refl h)

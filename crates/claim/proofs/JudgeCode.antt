@@ -7,8 +7,6 @@ use mathlib.Core.Option.{Option}
 use Prim.Native.Nat.{ℕ, ◌+◌, ◌-◌, ◌<◌, ◌≤◌}
 use native.Mathlib.Nat.{sub-zero}
 use native.Mathlib.Omega.{arith}
-use types.Run.{OneOf, miss}
-use denote.Enum.Declared.{tag_of}
 use lib.Dec.{ltb}
 use lib.ListN.{length, get_or, take, drop, replicate, length-replicate, get_or-append}
 use lib.Seq.{length-take-le, get_or-take, get_or-drop, get_or-append-add, ext_get_or}
@@ -21,7 +19,7 @@ use Rattle.model.specs.ClaimTokens as T
 use Rattle.model.specs.ClaimTokens.{lex, tokens, is_header, is_name, opens_so, opens}
 use Rattle.model.specs.ClaimLabels.{bit}
 use Rattle.model.specs.ClaimGrammar.{Item, State, Syntax, state_count, start_state, has_acceptance, count_in, header_whole, taken, most_states}
-use Rattle.model.specs.ClaimTable.{opening, in_items, in_lines, whole, go, step, Told, told, taken_as, refused, refusal_of, claim_told, claim_refusal}
+use Rattle.model.specs.ClaimTable.{opening, in_items, in_lines, whole, go, step, Told, told, taken_as, refused, refusal_of as told_number, claim_told, claim_refusal}
 use Rattle.model.specs.Claim.{Claim, ClaimState, state, some_edge, some_target, claim_moves, claim_leads, is_marked, edges_of, state_of_line, line_of, states_from, claim_of, tree_of, claim_in}
 use Rattle.model.specs.ClaimEntry.{mark_of, NameAt}
 use Rattle.model.proofs.Tools.{getD_replicate_same}
@@ -33,18 +31,13 @@ use Rattle.claim.specs.HeaderSays.{shown, Gives, HeaderSays}
 use Rattle.claim.specs.Cells.{name_cell, length_cell, lead_cell, move_cell, claim_cells, LinesHeld, ClaimHeld}
 use Rattle.claim.specs.BodySays.{BodySays}
 use Rattle.claim.specs.Judging.{OpeningSays, TreeRead, TextRead, counts_of, judged_claim, IntoSays, ClaimRead}
-use Rattle.claim.specs.declared.header.Past.{Past}
-use Rattle.claim.specs.declared.header.Past.TheVariants.{To, Fault}
 use Rattle.claim.specs.declared.header.Given.{Given}
-use Rattle.claim.specs.declared.header.Header.{Header}
-use Rattle.claim.specs.declared.header.Header.TheVariants.{Read, Fault as NoHeader}
-use Rattle.claim.specs.declared.body.Whole.{Whole}
-use Rattle.claim.specs.declared.body.Whole.TheVariants.{Taken, Refused as BadBody}
 use Rattle.claim.specs.declared.Counts.{Counts}
-use Rattle.claim.specs.declared.Judged.{Judged}
-use Rattle.claim.specs.declared.Judged.TheVariants.{Refused, Accepted}
-use Rattle.claim.specs.contracts.Judged.{the_type as judged_type}
 use Rattle.model.proofs.Bits.{bit_zero}
+use Rattle.std.specs.Prelude.{is_err, IsErr, Result, Ok, Err}
+use Rattle.model.specs.Refusals.{number, refusal_of}
+use Rattle.model.specs.declared.refusal.Refusal.{Refusal}
+use Rattle.model.specs.declared.refusal.Refusal.TheVariants.{LongFile, NoVersion, OtherVersion, CaseLayout, OutOfRange, VertexLine, EdgeEnd, EdgeOrder, ActRange, Unended, ShortBuffer, AnswerLayout, NotShown, NoClaim, ClaimGrammar, NotTaken, ChartFault, NoRule, TwoRules, CountsDiffer, TooManyEdges}
 
 -- THE OPENING of the whole text, and of the part that is looked at
 all_tokens : (s : List ℕ) → tokens_at s (length s) 0 ≡ lex (length s) T.between s
@@ -62,15 +55,15 @@ so_opened : (ts : List T.Token) → opens_so (T.header (ascii "HOA") ∷ T.name 
 unfolding opens_so is_header is_name equal
 so_opened ts = refl
 
-pub text_opens : (s : List ℕ) (x : Past) → OpeningSays s (length s) x → (n : ℕ) → x ≡ To n → opens s ≡ true
-text_opens s x said n q = sym (opens_by s) ∙ (ap opens_so (subst (λ (y : Past). OpeningSays s (length s) y) q said).0 ∙ so_opened _)
+pub text_opens : (s : List ℕ) (n : ℕ) → OpeningSays s (length s) (Ok n) → opens s ≡ true
+text_opens s n said = sym (opens_by s) ∙ (ap opens_so said.0 ∙ so_opened _)
 
 told_unopened : (s : List ℕ) → opens s ≡ false → claim_told s ≡ refused 14
 unfolding claim_told
 told_unopened s e = rw e refl
 
-pub text_unopened : (s : List ℕ) (x : Past) → OpeningSays s (length s) x → (j : ℕ) → x ≡ Fault j → (w v : List ℕ) → TextRead s (Refused 14) w v
-text_unopened s x said j q w v = told_unopened s (sym (opens_by s) ∙ (subst (λ (y : Past). OpeningSays s (length s) y) q said).0)
+pub text_unopened : (s : List ℕ) (j : Refusal) → OpeningSays s (length s) (Err j) → (w v : List ℕ) → TextRead s (Err NoClaim) w v
+text_unopened s j said w v = told_unopened s (sym (opens_by s) ∙ said.0)
 
 told_opened : (s : List ℕ) → opens s ≡ true → claim_told s ≡ told (go opening) (claim_tokens s 0)
 unfolding claim_told
@@ -104,30 +97,26 @@ start_by : {is : List Item} {g : Given} → Gives is g → is_some (start_state 
 start_by {is} {g} h e = ap (λ (o : Option ℕ). Option.get_or o 0) h.start ∙ shown_start g.start (sym (ap (λ (o : Option ℕ). is_some o) h.start) ∙ e)
 
 -- THE TEXT, opened
-module _ (s : List ℕ) (opened : opens s ≡ true) (w v : List ℕ) (x : Past) (said : OpeningSays s T.longest_claim x) where
-  pub opened_torn : (j : ℕ) → x ≡ Fault j → TextRead s (Refused j) w v
-  opened_torn j q = told_opened s opened ∙ (subst (λ (y : Past). OpeningSays s T.longest_claim y) q said).1
+module _ (s : List ℕ) (opened : opens s ≡ true) (w v : List ℕ) where
+  pub opened_torn : (j : Refusal) → OpeningSays s T.longest_claim (Err j) → TextRead s (Err j) w v
+  opened_torn j said = told_opened s opened ∙ said.1
 
-  module _ (n : ℕ) (q : x ≡ To n) (y : Header) (header : HeaderSays s n y) where
+  module _ (n : ℕ) (said : OpeningSays s T.longest_claim (Ok n)) where
     to_items : claim_told s ≡ told (go (in_items whole [])) (claim_tokens s n)
-    to_items = told_opened s opened ∙ (ap (λ (ts : List T.Token). told (go opening) ts) (subst (λ (z : Past). OpeningSays s T.longest_claim z) q said).0 ∙ past_opening _)
+    to_items = told_opened s opened ∙ (ap (λ (ts : List T.Token). told (go opening) ts) said.0 ∙ past_opening _)
 
-    pub header_torn : (j : ℕ) → y ≡ NoHeader j → TextRead s (Refused j) w v
-    header_torn j r = to_items ∙ subst (λ (z : Header). HeaderSays s n z) r header
+    pub header_torn : (j : Refusal) → HeaderSays s n (Err j) → TextRead s (Err j) w v
+    header_torn j header = to_items ∙ header
 
-    module _ (g : Given) (m : ℕ) (r : y ≡ Read g m) (z : Whole) (body : BodySays s g.states g.count m z w v) where
-      header_there : HeaderSays s n (Read g m)
-      header_there = subst (λ (p : Header). HeaderSays s n p) r header
-
+    module _ (g : Given) (m : ℕ) (header_there : HeaderSays s n (Ok (g, m))) where
       to_lines : claim_told s ≡ told (go (in_lines header_there.0 [])) (claim_tokens s m)
       to_lines = to_items ∙ header_there.3
 
-      pub body_torn : (j : ℕ) → z ≡ BadBody j → TextRead s (Refused j) w v
-      body_torn j p = to_lines ∙ subst (λ (b : Whole). BodySays s g.states g.count m b w v) p body header_there.0 (count_by header_there.1) header_there.1.count
+      pub body_torn : (j : Refusal) → BodySays s g.states g.count m (Err j) w v → TextRead s (Err j) w v
+      body_torn j b = to_lines ∙ b header_there.0 (count_by header_there.1) header_there.1.count
 
-      pub body_taken : z ≡ Taken → TextRead s (Accepted (record { states = g.states; start = g.start; propositions = g.count })) w v
-      body_taken p =
-          let b = subst (λ (b : Whole). BodySays s g.states g.count m b w v) p body in
+      pub body_taken : BodySays s g.states g.count m (Ok tt) w v → TextRead s (Ok (record { states = g.states; start = g.start; propositions = g.count })) w v
+      body_taken b =
           record {
             items = header_there.0;
             states = b.0;
@@ -137,10 +126,6 @@ module _ (s : List ℕ) (opened : opens s ≡ true) (w v : List ℕ) (x : Past) 
             counts = refl;
             held = b.2;
           }
-
--- what the body asks of the header
-pub given_low : (s : List ℕ) (n : ℕ) (y : Header) → HeaderSays s n y → (g : Given) (m : ℕ) → y ≡ Read g m → (g.states ≤ most_states) × (g.count ≤ 8)
-given_low s n y header g m r = let h = subst (λ (p : Header). HeaderSays s n p) r header in (h.1.few_states, h.1.few_propositions)
 
 -- CELLS: all zeros hold no line
 zero_cell : (n i : ℕ) → ◌≡◌ {A = ℕ} (get_or (replicate n 0) i 0) 0
@@ -173,14 +158,38 @@ unfolding claim_in tree_of claim_of state states_from count_in state_count state
 no_claim s k e c = rw e refl
 
 -- THE JUDGE
-refused_by : (s : List ℕ) (k : ℕ) → claim_told s ≡ refused k → Refused k ≡ judged_claim s
-unfolding judged_claim claim_refusal refusal_of
-refused_by s k e = rw (e, ne_eqb k 0 (refused_some s k e)) refl
+of_number : (r : Refusal) → refusal_of (number r) ≡ r
+unfolding refusal_of
+of_number LongFile = refl
+of_number NoVersion = refl
+of_number OtherVersion = refl
+of_number CaseLayout = refl
+of_number OutOfRange = refl
+of_number VertexLine = refl
+of_number EdgeEnd = refl
+of_number EdgeOrder = refl
+of_number ActRange = refl
+of_number Unended = refl
+of_number ShortBuffer = refl
+of_number AnswerLayout = refl
+of_number NotShown = refl
+of_number NoClaim = refl
+of_number ClaimGrammar = refl
+of_number NotTaken = refl
+of_number ChartFault = refl
+of_number NoRule = refl
+of_number TwoRules = refl
+of_number CountsDiffer = refl
+of_number TooManyEdges = refl
 
-pub into_refused : (s : List ℕ) (r : Judged) (k : ℕ) (w v : List ℕ) → r ≡ Refused k → TextRead s r w v → (n : ℕ) → IntoSays s r (replicate n 0)
-into_refused s r k w v q read n =
-    let e = subst (λ (j : Judged). TextRead s j w v) q read in
-    record { answer = q ∙ refused_by s k e; held = lines_claim s (claim_in s) [] (replicate n 0) (no_claim s k e) (zeros_hold s n) }
+refused_by : (s : List ℕ) (r : Refusal) → claim_told s ≡ refused (number r) → Err r ≡ judged_claim s
+unfolding judged_claim claim_refusal told_number
+refused_by s r e = rw (e, ne_eqb (number r) 0 (refused_some s (number r) e), of_number r) refl
+
+pub into_refused : (s : List ℕ) (r : Result Counts Refusal) → IsErr r → (w v : List ℕ) → TextRead s r w v → (n : ℕ) → IntoSays s r (replicate n 0)
+into_refused s (Err r) h w v e n =
+    record { answer = refused_by s r e; held = lines_claim s (claim_in s) [] (replicate n 0) (no_claim s (number r) e) (zeros_hold s n) }
+into_refused s (Ok c) h w v e n = clash false h refl
 
 module _ (s : List ℕ) (c : Counts) (w v : List ℕ) (t : TreeRead s c w v) where
   abbrev tree : Syntax
@@ -195,7 +204,7 @@ module _ (s : List ℕ) (c : Counts) (w v : List ℕ) (t : TreeRead s c w v) whe
   accepted_told false e = clash_told (sym (told_unopened s e) ∙ t.taken_so)
     where
       clash_told : {X : Type 0} → refused 14 ≡ taken_as tree → X
-      clash_told q = absurd (subst (λ (x : Told). elim x as (λ y. Type 0) [ taken_as a ↦ ⊥ | refused j ↦ Unit {0} ]) q tt)
+      clash_told q = absurd (subst (λ (x : Told). elim x as (λ y. Type 0) [ taken_as a ↦ ⊥ | refused k ↦ Unit {0} ]) q tt)
 
   within : taken tree ≡ true
   within = told_taken tree (tokens s) (accepted_told (opens s) refl)
@@ -212,19 +221,19 @@ module _ (s : List ℕ) (c : Counts) (w v : List ℕ) (t : TreeRead s c w v) whe
       let n : length (states_from (count_in t.items) 0 t.states) ≡ t.given.states = length_states (count_in t.items) 0 t.states ∙ count_by t.gives in
       rw (n, start_by t.gives started, t.gives.count) (sym t.counts)
 
-  accepted_by : Accepted c ≡ judged_claim s
-  unfolding judged_claim claim_refusal refusal_of
+  accepted_by : Ok c ≡ judged_claim s
+  unfolding judged_claim claim_refusal told_number
   accepted_by = rw (t.taken_so, claim_is, counts_so) refl
 
-  pub into_accepted : LinesHeld s [] w → IntoSays s (Accepted c) v
+  pub into_accepted : LinesHeld s [] w → IntoSays s (Ok c) v
   into_accepted h = record { answer = accepted_by; held = subst (λ (k : Claim). ClaimHeld s k v) (sym claim_is) (lines_claim s (claim_of tree) t.states v (state_is_line tree within) (t.held h)) }
 
-pub into_kept : (s : List ℕ) (r : Judged) (w v : List ℕ) → OneOf (1 ∷ []) (tag_of judged_type r) → TextRead s r w v → (n : ℕ) → w ≡ replicate n 0 → IntoSays s r v
-into_kept s (Refused k) w v h read n e = absurd (miss (1 ∷ []) 0 tt h)
-into_kept s (Accepted c) w v h read n e = into_accepted s c w v read (subst (λ (x : List ℕ). LinesHeld s [] x) (sym e) (zeros_hold s n))
+pub into_kept : (s : List ℕ) (r : Result Counts Refusal) → is_err r ≡ false → (w v : List ℕ) → TextRead s r w v → (n : ℕ) → w ≡ replicate n 0 → IntoSays s r v
+into_kept s (Err k) h w v read n e = clash true refl h
+into_kept s (Ok c) h w v read n e = into_accepted s c w v read (subst (λ (x : List ℕ). LinesHeld s [] x) (sym e) (zeros_hold s n))
 
 -- ANY CELLS: those without room, and those behind a claim, are zeros
-pub read_short : (s : List ℕ) (r : Judged) (w v : List ℕ) → IntoSays s r v → length w < claim_cells → ClaimRead s r w (replicate (length w) 0)
+pub read_short : (s : List ℕ) (r : Result Counts Refusal) (w v : List ℕ) → IntoSays s r v → length w < claim_cells → ClaimRead s r w (replicate (length w) 0)
 read_short s r w v i h = record { answer = i.answer; held = λ k. absurd (omega (arith, h, k)); rest = λ j k. zero_cell (length w) j; short = λ k. refl }
 
 pub zeros_front : (n k : ℕ) → k ≤ n → (k ≤ length (take k (replicate {A = ℕ} n 0))) × (take k (replicate {A = ℕ} n 0) ≡ replicate (length (take k (replicate {A = ℕ} n 0))) 0)
@@ -250,7 +259,7 @@ front_held s k v z e held =
     front : (i : ℕ) → i < length v → get_or (v ++ z) i 0 ≡ get_or v i 0
     front i h = get_or-append v z 0 i h
 
-pub read_whole : (s : List ℕ) (r : Judged) (w v : List ℕ) (n : ℕ) → IntoSays s r v → length v ≡ claim_cells → claim_cells ≤ length w → ClaimRead s r w (v ++ drop claim_cells (replicate n 0))
+pub read_whole : (s : List ℕ) (r : Result Counts Refusal) (w v : List ℕ) (n : ℕ) → IntoSays s r v → length v ≡ claim_cells → claim_cells ≤ length w → ClaimRead s r w (v ++ drop claim_cells (replicate n 0))
 read_whole s r w v n i e h =
     record {
       answer = i.answer;

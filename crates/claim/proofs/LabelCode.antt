@@ -21,16 +21,18 @@ use Rattle.claim.specs.declared.tokens.Token.{Token}
 use Rattle.claim.specs.declared.tokens.Token.TheVariants.{Name, Header, Number, Text, Symbol, Body, End, Alias, Comment, Stray, Done}
 use Rattle.claim.specs.declared.tokens.Seen.{Seen}
 use Rattle.claim.specs.declared.labels.Values.{Values}
-use Rattle.claim.specs.declared.labels.Truth.{Truth}
-use Rattle.claim.specs.declared.labels.Truth.TheVariants.{Is, Fault}
 use Rattle.claim.proofs.Places.{ahead, ahead_onward, from_ahead, over_blanks}
 use Rattle.claim.specs.contracts.tokens.Token.{the_type}
-use Rattle.claim.specs.contracts.labels.Truth.{the_type as truth_type}
 use Rattle.claim.proofs.Seeing.{reads_as, goes_past}
 use Rattle.claim.proofs.Signs.{not_sign, and_sign, or_sign, open_sign, sign_is, sign_past, sign_not}
 use Rattle.claim.proofs.Bits.{always_everything, never_nothing}
 use Rattle.model.proofs.ClaimLabels.{step_open}
 use Rattle.claim.proofs.LabelSteps.{flipped, atom_not, atom_twice, and_everything, or_nothing, atom_bracket, atom_bracket_fault, one_deeper, and_first, and_more, and_fault, or_first, or_more, or_fault, label_whole}
+use Rattle.std.specs.Prelude.{Ok, Err}
+use Rattle.model.specs.Refusals.{number}
+use Rattle.model.specs.declared.refusal.Refusal.{Refusal}
+use Rattle.model.specs.declared.refusal.Refusal.TheVariants.{ClaimGrammar}
+use Rattle.claim.specs.Reads.{Parsed}
 
 -- ONE TOKEN
 module _ (k : ℕ) where
@@ -82,7 +84,7 @@ abbrev no_atom_keys : List ℕ
 no_atom_keys = 1 ∷ 3 ∷ 4 ∷ 5 ∷ 6 ∷ 7 ∷ 8 ∷ 9 ∷ 10 ∷ []
 
 -- a token that begins no atom
-none_spelt : (k d : ℕ) (s : List ℕ) (r : List T.Token) (t : Token) → OneOf no_atom_keys (tag_of the_type t) → starts not_byte (spelt s t r) ≡ false → starts open_byte (spelt s t r) ≡ false → AtomSays k d (spelt s t r) (No (no_atom_of t))
+none_spelt : (k d : ℕ) (s : List ℕ) (r : List T.Token) (t : Token) → OneOf no_atom_keys (tag_of the_type t) → starts not_byte (spelt s t r) ≡ false → starts open_byte (spelt s t r) ≡ false → AtomSays k d (spelt s t r) (No (number (no_atom_of t)))
 unfolding atom_step starts is_sign
 none_spelt k d s r (Name a e) h p z = absurd (miss no_atom_keys 0 tt h)
 none_spelt k d s r (Number v) h p z = absurd (miss no_atom_keys 2 tt h)
@@ -132,20 +134,20 @@ letter_is b c = and-true (eqb b c)
 
 -- what the code reads at a leaf: a token, and the blanks past it
 module _ (s : List ℕ) (k d at : ℕ) (t : T.Token) (next past : ℕ) (h : Stands s at t next) (b : BlanksEnd s T.longest_claim next past) where
-  leaf_read : (a : Label atom) (w : Values) → ((us : List Under) (u : Under) → atom_step k us u t ≡ on (with_atom us u a)) → TruthOf a w → AtomRead s k d at (Is w past)
+  leaf_read : (a : Label atom) (w : Values) → ((us : List Under) (u : Under) → atom_step k us u t ≡ on (with_atom us u a)) → TruthOf a w → AtomRead s k d at (Ok (w, past))
   leaf_read a w f v =
       (subst (λ (ts : List T.Token). AtomSays k d ts (Got w (claim_tokens s past))) (sym (h.0 ∙ ap (λ (ts : List T.Token). t ∷ ts) b.same)) (leaf k d a t _ w f v), ahead_onward h.1 (over_blanks b), b.stops)
 
-  leaf_broken : ((us : List Under) (u : Under) → atom_step k us u t ≡ broken 15) → AtomRead s k d at (Fault 15)
+  leaf_broken : ((us : List Under) (u : Under) → atom_step k us u t ≡ broken 15) → AtomRead s k d at (Err ClaimGrammar)
   leaf_broken f = subst (λ (ts : List T.Token). AtomSays k d ts (No 15)) (sym h.0) (no_leaf k d t _ 15 (λ us u q. f us u))
 
 module _ (s : List ℕ) (k d at next past : ℕ) where
-  pub leaf_number : (i : ℕ) → Stands s at (T.number i) next → BlanksEnd s T.longest_claim next past → (l : Truth) → PropositionRead i k past l → AtomRead s k d at l
-  leaf_number i h b (Is w m) (y, t, z) = rw z (leaf_read s k d at (T.number i) next past h b (proposition i) w (λ us u. number_step k i us u ∙ rw y refl) t)
-  leaf_number i h b (Fault j) (y, z) = rw z (leaf_broken s k d at (T.number i) next past h b (λ us u. number_step k i us u ∙ rw y refl))
+  pub leaf_number : (i : ℕ) → Stands s at (T.number i) next → BlanksEnd s T.longest_claim next past → (l : Parsed Values) → PropositionRead i k past l → AtomRead s k d at l
+  leaf_number i h b (Ok (w, m)) (y, t, z) = rw z (leaf_read s k d at (T.number i) next past h b (proposition i) w (λ us u. number_step k i us u ∙ rw y refl) t)
+  leaf_number i h b (Err j) (y, z) = rw z (leaf_broken s k d at (T.number i) next past h b (λ us u. number_step k i us u ∙ rw y refl))
 
-  pub leaf_name : (w : List ℕ) → Stands s at (T.name w) next → BlanksEnd s T.longest_claim next past → (t f : Bool) → equal w (ascii "t") ≡ t → equal w (ascii "f") ≡ f → (l : Truth) → l ≡ constant_if t f past → AtomRead s k d at l
-  leaf_name w h b t f x x' l p = subst (λ (y : Truth). AtomRead s k d at y) (sym p) (go t x f x')
+  pub leaf_name : (w : List ℕ) → Stands s at (T.name w) next → BlanksEnd s T.longest_claim next past → (t f : Bool) → equal w (ascii "t") ≡ t → equal w (ascii "f") ≡ f → (l : Parsed Values) → l ≡ constant_if t f past → AtomRead s k d at l
+  leaf_name w h b t f x x' l p = subst (λ (y : Parsed Values). AtomRead s k d at y) (sym p) (go t x f x')
     where
       go : (y : Bool) → equal w (ascii "t") ≡ y → (z : Bool) → equal w (ascii "f") ≡ z → AtomRead s k d at (constant_if y z past)
       go true y z' z = leaf_read s k d at (T.name w) next past h b always everything (λ us u. name_step k w us u ∙ rw y refl) always_everything
@@ -157,18 +159,18 @@ module _ {s : List ℕ} {at : ℕ} {r : Seen} (n : Sees s T.longest_claim at (cl
   name_is a e q = (reads_as n (Name a e) q refl, goes_past n (Name a e) q refl)
 
   -- the token begins no atom
-  pub leaf_refused : (k d : ℕ) → OneOf no_atom_keys (tag_of the_type r.token) → starts not_byte (claim_tokens s at) ≡ false → starts open_byte (claim_tokens s at) ≡ false → (j : ℕ) → j ≡ no_atom_of r.token → AtomRead s k d at (Fault j)
+  pub leaf_refused : (k d : ℕ) → OneOf no_atom_keys (tag_of the_type r.token) → starts not_byte (claim_tokens s at) ≡ false → starts open_byte (claim_tokens s at) ≡ false → (j : Refusal) → j ≡ no_atom_of r.token → AtomRead s k d at (Err j)
   leaf_refused k d h p q j e =
-      subst (λ (ts : List T.Token). AtomSays k d ts (No j)) (sym n.reads) (subst (λ (i : ℕ). AtomSays k d (spelt s r.token n.rest) (No i)) (sym e) (none_spelt k d s n.rest r.token h (ap (starts not_byte) (sym n.reads) ∙ p) (ap (starts open_byte) (sym n.reads) ∙ q)))
+      subst (λ (ts : List T.Token). AtomSays k d ts (No (number j))) (sym n.reads) (subst (λ (i : Refusal). AtomSays k d (spelt s r.token n.rest) (No (number i))) (sym e) (none_spelt k d s n.rest r.token h (ap (starts not_byte) (sym n.reads) ∙ p) (ap (starts open_byte) (sym n.reads) ∙ q)))
 
 -- BRACKETS
 module _ (s : List ℕ) (k d here : ℕ) where
   opened_as : (R : Read) → byte_of s here ≡ open_byte → AtomSays k d (T.symbol open_byte ∷ claim_tokens s (here + 1)) R → AtomSays k d (claim_tokens s here) R
   opened_as R e a = subst (λ (y : List T.Token). AtomSays k d y R) (sym (sign_is s here open_byte open_sign e)) a
 
-  pub atom_closed : byte_of s here ≡ open_byte → d < deepest → (l m : Truth) → OrRead s k (d + 1) (here + 1) l → Closed s close_byte l m → AtomRead s k d here m
-  atom_closed e h (Fault j) m a c = subst (λ (y : Truth). AtomRead s k d here y) (sym c) (opened_as (No j) e (atom_bracket_fault k d _ j h (rw (add-one d) at a)))
-  atom_closed e h (Is v z) (Is w y) (o, past, stop, a, p) (u, t, past', stop') = (
+  pub atom_closed : byte_of s here ≡ open_byte → d < deepest → (l m : Parsed Values) → OrRead s k (d + 1) (here + 1) l → Closed s close_byte l m → AtomRead s k d here m
+  atom_closed e h (Err j) m a c = subst (λ (y : Parsed Values). AtomRead s k d here y) (sym c) (opened_as (No (number j)) e (atom_bracket_fault k d _ (number j) h (rw (add-one d) at a)))
+  atom_closed e h (Ok (v, z)) (Ok (w, y)) (o, past, stop, a, p) (u, t, past', stop') = (
     opened_as (Got w (claim_tokens s y)) e (subst (λ (x : Values). AtomSays k d (T.symbol open_byte ∷ claim_tokens s (here + 1)) (Got x (claim_tokens s y))) (sym u) (atom_bracket k d _ _ v h (bracketed o))),
     ahead (sign_past s here open_byte open_sign e) (ahead past past'),
     stop',
@@ -176,12 +178,12 @@ module _ (s : List ℕ) (k d here : ℕ) where
     where
       bracketed : OrSays k (d + 1) (claim_tokens s (here + 1)) (Got v (claim_tokens s z)) → OrSays k (suc d) (claim_tokens s (here + 1)) (Got v (T.symbol close_byte ∷ claim_tokens s y))
       bracketed o = subst (λ (ts : List T.Token). OrSays k (suc d) (claim_tokens s (here + 1)) (Got v ts)) t (rw (add-one d) at o)
-  atom_closed e h (Is v z) (Fault j) (o, past, stop, a, p) c =
+  atom_closed e h (Ok (v, z)) (Err j) (o, past, stop, a, p) c =
       let (t, f) = c stop in
-      opened_as (No j) e (subst (λ (i : ℕ). AtomSays k d (T.symbol open_byte ∷ claim_tokens s (here + 1)) (No i)) (sym f) (atom_open k d _ _ v h (rw (add-one d) at o) a p t))
+      opened_as (No (number j)) e (subst (λ (i : ℕ). AtomSays k d (T.symbol open_byte ∷ claim_tokens s (here + 1)) (No i)) (sym f) (atom_open k d _ _ v h (rw (add-one d) at o) a p t))
 
   -- a negation or a bracket that is one too many
-  pub too_deep : (b : ℕ) → Sign b → byte_of s here ≡ b → deepest ≤ d → AtomRead s k d here (Fault 15)
+  pub too_deep : (b : ℕ) → Sign b → byte_of s here ≡ b → deepest ≤ d → AtomRead s k d here (Err ClaimGrammar)
   too_deep b y e h = subst (λ (ts : List T.Token). AtomSays k d ts (No 15)) (sym (sign_is s here b y e)) (no_leaf k d _ _ 15 (λ us u q. deep_step k b us u (omega (arith, h, q))))
 
 -- NEGATIONS: what stands past those that are read gives the whole
@@ -213,16 +215,16 @@ module _ {s : List ℕ} {k d at here down : ℕ} {odd : Bool} (n : NotsSoFar s k
         stops = b.stops;
       }
 
-  pub nots_carried : (l m : Truth) → m ≡ negated_of odd l → AtomRead s k down here l → AtomRead s k d at m
-  nots_carried l m q a = subst (λ (y : Truth). AtomRead s k d at y) (sym q) (go odd n.carries l a)
+  pub nots_carried : (l m : Parsed Values) → m ≡ negated_of odd l → AtomRead s k down here l → AtomRead s k d at m
+  nots_carried l m q a = subst (λ (y : Parsed Values). AtomRead s k d at y) (sym q) (go odd n.carries l a)
     where
-      go : (odd : Bool) → ((R : Read) → AtomSays k down (claim_tokens s here) R → AtomSays k d (claim_tokens s at) (negated_read odd R)) → (l : Truth) → AtomRead s k down here l → AtomRead s k d at (negated_of odd l)
-      go true c (Is w e) (a, past, stop) = (c (Got w (claim_tokens s e)) a, from_ahead n.past past, stop)
-      go false c (Is w e) (a, past, stop) = (c (Got w (claim_tokens s e)) a, from_ahead n.past past, stop)
-      go true c (Fault j) a = c (No j) a
-      go false c (Fault j) a = c (No j) a
+      go : (odd : Bool) → ((R : Read) → AtomSays k down (claim_tokens s here) R → AtomSays k d (claim_tokens s at) (negated_read odd R)) → (l : Parsed Values) → AtomRead s k down here l → AtomRead s k d at (negated_of odd l)
+      go true c (Ok (w, e)) (a, past, stop) = (c (Got w (claim_tokens s e)) a, from_ahead n.past past, stop)
+      go false c (Ok (w, e)) (a, past, stop) = (c (Got w (claim_tokens s e)) a, from_ahead n.past past, stop)
+      go true c (Err j) a = c (No (number j)) a
+      go false c (Err j) a = c (No (number j)) a
 
-  pub nots_deep : (b : ℕ) → Sign b → byte_of s here ≡ b → deepest ≤ down → AtomRead s k d at (Fault 15)
+  pub nots_deep : (b : ℕ) → Sign b → byte_of s here ≡ b → deepest ≤ down → AtomRead s k d at (Err ClaimGrammar)
   nots_deep b y q h = go odd (n.carries (No 15) (too_deep s k down here b y q h))
     where
       go : (odd : Bool) → AtomSays k d (claim_tokens s at) (negated_read odd (No 15)) → AtomSays k d (claim_tokens s at) (No 15)
@@ -249,18 +251,14 @@ module _ (s : List ℕ) (k d at : ℕ) where
   or_first_due v e = rw e (record { more = λ w q a. or_nothing k d _ w q (or_first k d _ (Got w q) a); fault = λ j a. or_first k d _ (No j) a; past = omega arith })
 
 module _ {s : List ℕ} (k : ℕ) {d at : ℕ} {v : Values} {here : ℕ} (n : AndDue s k d at v here) where
-  pub and_broken : (l : Truth) → OneOf (1 ∷ []) (tag_of truth_type l) → AtomRead s k d here l → AndRead s k d at l
-  and_broken (Is w z) h b = absurd (miss (1 ∷ []) 0 tt h)
-  and_broken (Fault j) h b = n.fault j b
+  pub and_broken : (j : Refusal) → AtomRead s k d here (Err j) → AndRead s k d at (Err j)
+  and_broken j b = n.fault (number j) b
 
-  module _ (l : Truth) (w : Values) (e : ℕ) (q : l ≡ Is w e) (a : AtomRead s k d here l) (m : Values) (p : m ≡ intersection_of v w) where
-    atom_there : AtomRead s k d here (Is w e)
-    atom_there = subst (λ (y : Truth). AtomRead s k d here y) q a
-
+  module _ (w : Values) (e : ℕ) (atom_there : AtomRead s k d here (Ok (w, e))) (m : Values) (p : m ≡ intersection_of v w) where
     joined : AndSays k d (claim_tokens s at) (Got m (claim_tokens s e))
     joined = rw p (n.more w _ atom_there.0)
 
-    pub and_ended : (byte_of s e ≡ and_byte → ⊥) → AndRead s k d at (Is m e)
+    pub and_ended : (byte_of s e ≡ and_byte → ⊥) → AndRead s k d at (Ok (m, e))
     and_ended b = (joined, from_ahead n.past atom_there.1, atom_there.2, sign_not s e and_byte atom_there.2 b)
 
     pub and_again : byte_of s e ≡ and_byte → AndDue s k d at m (e + 1)
@@ -272,18 +270,14 @@ module _ {s : List ℕ} (k : ℕ) {d at : ℕ} {v : Values} {here : ℕ} (n : An
     and_ahead b = ahead atom_there.1 (sign_past s e and_byte and_sign b)
 
 module _ {s : List ℕ} (k : ℕ) {d at : ℕ} {v : Values} {here : ℕ} (n : OrDue s k d at v here) where
-  pub or_broken : (l : Truth) → OneOf (1 ∷ []) (tag_of truth_type l) → AndRead s k d here l → OrRead s k d at l
-  or_broken (Is w z) h b = absurd (miss (1 ∷ []) 0 tt h)
-  or_broken (Fault j) h b = n.fault j b
+  pub or_broken : (j : Refusal) → AndRead s k d here (Err j) → OrRead s k d at (Err j)
+  or_broken j b = n.fault (number j) b
 
-  module _ (l : Truth) (w : Values) (e : ℕ) (q : l ≡ Is w e) (a : AndRead s k d here l) (m : Values) (p : m ≡ union_of v w) where
-    term_there : AndRead s k d here (Is w e)
-    term_there = subst (λ (y : Truth). AndRead s k d here y) q a
-
+  module _ (w : Values) (e : ℕ) (term_there : AndRead s k d here (Ok (w, e))) (m : Values) (p : m ≡ union_of v w) where
     parted : OrSays k d (claim_tokens s at) (Got m (claim_tokens s e))
     parted = rw p (n.more w _ term_there.0)
 
-    pub or_ended : (byte_of s e ≡ or_byte → ⊥) → OrRead s k d at (Is m e)
+    pub or_ended : (byte_of s e ≡ or_byte → ⊥) → OrRead s k d at (Ok (m, e))
     or_ended b = (parted, from_ahead n.past term_there.1, term_there.2, term_there.3, sign_not s e or_byte term_there.2 b)
 
     pub or_again : byte_of s e ≡ or_byte → OrDue s k d at m (e + 1)
@@ -320,10 +314,10 @@ at_top : depth_of [] ≡ 0
 unfolding depth_of
 at_top = refl
 
-pub label_closed : (s : List ℕ) (k at : ℕ) (l m : Truth) → OrRead s k 0 at l → Closed s end_label_byte l m → LabelSays s k at m
-label_closed s k at (Fault j) m a c = subst (λ (y : Truth). LabelSays s k at y) (sym c) (a [] at_top)
-label_closed s k at (Is v e) (Is w n) (o, past, stop, a, p) (u, t, past', stop') = go (label_whole k _ _ v (subst (λ (ts : List T.Token). OrSays k 0 (claim_tokens s at) (Got v ts)) t o))
+pub label_closed : (s : List ℕ) (k at : ℕ) (l m : Parsed Values) → OrRead s k 0 at l → Closed s end_label_byte l m → LabelSays s k at m
+label_closed s k at (Err j) m a c = subst (λ (y : Parsed Values). LabelSays s k at y) (sym c) (a [] at_top)
+label_closed s k at (Ok (v, e)) (Ok (w, n)) (o, past, stop, a, p) (u, t, past', stop') = go (label_whole k _ _ v (subst (λ (ts : List T.Token). OrSays k 0 (claim_tokens s at) (Got v ts)) t o))
   where
-    go : (o : Label or_level) × TruthOf o v × (label_told k (on label_start) (claim_tokens s at) ≡ label_is o (claim_tokens s n)) → LabelSays s k at (Is w n)
+    go : (o : Label or_level) × TruthOf o v × (label_told k (on label_start) (claim_tokens s at) ≡ label_is o (claim_tokens s n)) → LabelSays s k at (Ok (w, n))
     go (o, h, q) = (o, rw u h, q, ahead past past', stop')
-label_closed s k at (Is v e) (Fault j) ((o, h, f), past, stop, a, p) c = let (t, i) = c stop in f [] at_top ∙ (no_end_or k o _ a p t ∙ ap no_label (sym i))
+label_closed s k at (Ok (v, e)) (Err j) ((o, h, f), past, stop, a, p) c = let (t, i) = c stop in f [] at_top ∙ (no_end_or k o _ a p t ∙ ap no_label (sym i))

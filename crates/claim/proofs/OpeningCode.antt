@@ -16,16 +16,18 @@ use Rattle.claim.specs.Judging.{VersionSays, OpeningSays}
 use Rattle.claim.specs.declared.tokens.Token.{Token}
 use Rattle.claim.specs.declared.tokens.Token.TheVariants.{Name, Header, Number, Text, Symbol, Body, End, Alias, Comment, Stray, Done}
 use Rattle.claim.specs.declared.tokens.Seen.{Seen}
-use Rattle.claim.specs.declared.header.Past.{Past}
-use Rattle.claim.specs.declared.header.Past.TheVariants.{To, Fault}
 use Rattle.claim.proofs.Places.{ahead}
 use Rattle.claim.specs.contracts.tokens.Token.{the_type}
 use Rattle.claim.proofs.Seeing.{reads_as, goes_past}
 use Rattle.claim.proofs.HeaderCode.{refuses, stepped}
+use Rattle.std.specs.Prelude.{Result, Ok, Err}
+use Rattle.model.specs.Refusals.{number}
+use Rattle.model.specs.declared.refusal.Refusal.{Refusal}
+use Rattle.model.specs.declared.refusal.Refusal.TheVariants.{ClaimGrammar}
 
 -- a token other than the one that is due: it refuses, and the text does not open so
-abbrev Refuses : Place → List T.Token → ℕ → Type 0
-Refuses p ts j = told (go p) ts ≡ refused j
+abbrev Refuses : Place → List T.Token → Refusal → Type 0
+Refuses p ts j = told (go p) ts ≡ refused (number j)
 
 no_version : (t u : T.Token) (ts : List T.Token) → is_name (ascii "v1") u ≡ false → opens_so (t ∷ u ∷ ts) ≡ false
 unfolding opens_so
@@ -93,46 +95,46 @@ header_test w = refl
 
 -- THE VERSION
 module _ (s : List ℕ) (l at : ℕ) {r : Seen} (n : Sees s l at (tokens_at s l at) r) where
-  pub version_is : (a e : ℕ) → r.token ≡ Name a e → equal (part s a e) (ascii "v1") ≡ true → VersionSays s l at (To r.next)
+  pub version_is : (a e : ℕ) → r.token ≡ Name a e → equal (part s a e) (ascii "v1") ≡ true → VersionSays s l at (Ok r.next)
   version_is a e q t = (reads_as n (Name a e) q refl ∙ ap (λ (w : List ℕ). T.name w ∷ tokens_at s l r.next) (equal_true _ _ t), goes_past n (Name a e) q refl)
 
-  pub version_other : (a e : ℕ) → r.token ≡ Name a e → equal (part s a e) (ascii "v1") ≡ false → VersionSays s l at (Fault 15)
+  pub version_other : (a e : ℕ) → r.token ≡ Name a e → equal (part s a e) (ascii "v1") ≡ false → VersionSays s l at (Err ClaimGrammar)
   version_other a e q t =
       let p = reads_as n (Name a e) q refl in (
         λ u. ap (λ (ts : List T.Token). opens_so (u ∷ ts)) p ∙ no_version u _ _ (name_test _ ∙ t),
         ap (λ (ts : List T.Token). told (go version) ts) p ∙ refuses version _ _ 15 (name_step _ ∙ ap (λ (b : Bool). cond b (go (in_items whole [])) (fault 15)) t),
       )
 
-  pub version_none : OneOf but_name (tag_of the_type r.token) → (j : ℕ) → j ≡ fault_of r.token → VersionSays s l at (Fault j)
+  pub version_none : OneOf but_name (tag_of the_type r.token) → (j : Refusal) → j ≡ fault_of r.token → VersionSays s l at (Err j)
   version_none h j e =
       let p = unversioned s n.rest r.token h in (
         λ u. ap (λ (ts : List T.Token). opens_so (u ∷ ts)) n.reads ∙ p.0 u,
-        ap (λ (ts : List T.Token). told (go version) ts) n.reads ∙ (p.1 ∙ ap refused (sym e)),
+        ap (λ (ts : List T.Token). told (go version) ts) n.reads ∙ (p.1 ∙ ap (λ (i : Refusal). refused (number i)) (sym e)),
       )
 
 -- THE OPENING
 module _ (s : List ℕ) (l : ℕ) {r : Seen} (n : Sees s l 0 (tokens_at s l 0) r) where
   module _ (a e : ℕ) (q : r.token ≡ Header a e) where
-    pub opening_is : equal (part s a e) (ascii "HOA") ≡ true → (x : Past) → VersionSays s l r.next x → OpeningSays s l x
-    opening_is t (To z) v =
+    pub opening_is : equal (part s a e) (ascii "HOA") ≡ true → (x : Result ℕ Refusal) → VersionSays s l r.next x → OpeningSays s l x
+    opening_is t (Ok z) v =
         let p = reads_as n (Header a e) q refl ∙ ap (λ (w : List ℕ). T.header w ∷ tokens_at s l r.next) (equal_true _ _ t) in
         (p ∙ ap (λ (ts : List T.Token). T.header (ascii "HOA") ∷ ts) v.0, ahead (goes_past n (Header a e) q refl) v.1)
-    opening_is t (Fault j) v =
+    opening_is t (Err j) v =
         let p = reads_as n (Header a e) q refl in (
           ap opens_so p ∙ v.0 _,
           ap (λ (ts : List T.Token). told (go opening) ts) p ∙ (stepped opening _ _ (go version) (header_step _ ∙ ap (λ (b : Bool). cond b (go version) (fault 15)) t) ∙ v.1),
         )
 
-    pub opening_other : equal (part s a e) (ascii "HOA") ≡ false → OpeningSays s l (Fault 15)
+    pub opening_other : equal (part s a e) (ascii "HOA") ≡ false → OpeningSays s l (Err ClaimGrammar)
     opening_other t =
         let p = reads_as n (Header a e) q refl in (
           ap opens_so p ∙ no_opening _ _ (header_test _ ∙ t),
           ap (λ (ts : List T.Token). told (go opening) ts) p ∙ refuses opening _ _ 15 (header_step _ ∙ ap (λ (b : Bool). cond b (go version) (fault 15)) t),
         )
 
-  pub opening_none : OneOf but_header (tag_of the_type r.token) → (j : ℕ) → j ≡ fault_of r.token → OpeningSays s l (Fault j)
+  pub opening_none : OneOf but_header (tag_of the_type r.token) → (j : Refusal) → j ≡ fault_of r.token → OpeningSays s l (Err j)
   opening_none h j e =
       let p = unopened s n.rest r.token h in (
         ap opens_so n.reads ∙ p.0,
-        ap (λ (ts : List T.Token). told (go opening) ts) n.reads ∙ (p.1 ∙ ap refused (sym e)),
+        ap (λ (ts : List T.Token). told (go opening) ts) n.reads ∙ (p.1 ∙ ap (λ (i : Refusal). refused (number i)) (sym e)),
       )

@@ -11,11 +11,12 @@ use Rattle.claim.specs.declared.tokens.Token.{Token}
 use Rattle.claim.specs.declared.tokens.Token.TheVariants.{Name, Header, Number, Text, Symbol, Body, End, Alias, Comment, Stray, Done}
 use Rattle.claim.specs.declared.tokens.Seen.{Seen}
 use Rattle.claim.specs.declared.labels.Values.{Values}
-use Rattle.claim.specs.declared.labels.Truth.{Truth}
-use Rattle.claim.specs.declared.labels.Truth.TheVariants.{Is, Fault}
 use Rattle.text.proofs.Tests.{clash}
 use Rattle.claim.proofs.Places.{ahead_onward, over_blanks}
 use Rattle.claim.proofs.Signs.{sign_is, sign_past, sign_not}
+use Rattle.std.specs.Prelude.{Ok, Err}
+use Rattle.model.specs.Refusals.{number}
+use Rattle.model.specs.declared.refusal.Refusal.{Refusal}
 
 pub symbol_is : (t : Token) (b : ℕ) → is_symbol_of t b ≡ true → t ≡ Symbol b
 symbol_is (Symbol c) b e = ap Symbol (eqb-true c b e)
@@ -45,7 +46,7 @@ module _ (s : List ℕ) (rest : List T.Token) where
   starts_spelt Stray b = refl
   starts_spelt Done b = refl
 
-  fault_spelt : (t : Token) → first_fault (spelt s t rest) ≡ fault_of t
+  fault_spelt : (t : Token) → first_fault (spelt s t rest) ≡ number (fault_of t)
   unfolding first_fault
   fault_spelt (Symbol c) = refl
   fault_spelt (Name a z) = refl
@@ -75,7 +76,7 @@ module _ {s : List ℕ} {limit at : ℕ} {ts : List T.Token} {r : Seen} (n : See
   pub starts_as : (b : ℕ) (x : Bool) → is_symbol_of r.token b ≡ x → starts b ts ≡ x
   starts_as b x e = ap (λ (y : List T.Token). starts b y) n.reads ∙ (starts_spelt s n.rest r.token b ∙ e)
 
-  pub fault_as : fault_of r.token ≡ first_fault ts
+  pub fault_as : number (fault_of r.token) ≡ first_fault ts
   fault_as = sym (ap first_fault n.reads ∙ fault_spelt s n.rest r.token)
 
   pub symbol_next : (b : ℕ) → is_symbol_of r.token b ≡ true → ts ≡ T.symbol b ∷ tokens_at s limit r.next
@@ -85,14 +86,9 @@ module _ {s : List ℕ} {limit at : ℕ} {ts : List T.Token} {r : Seen} (n : See
   symbol_past b e = goes_past (Symbol b) (symbol_is r.token b e) refl
 
 -- BRACKETS
-module _ (s : List ℕ) (b : ℕ) (l : Truth) where
-  pub closed_fault : (j : ℕ) → l ≡ Fault j → Closed s b l (Fault j)
-  closed_fault j q = subst (λ (x : Truth). Closed s b x (Fault j)) (sym q) refl
+module _ (s : List ℕ) (b : ℕ) (w : Values) (e : ℕ) where
+  pub closed_is : Sign b → byte_of s e ≡ b → {z : ℕ} → BlanksEnd s T.longest_claim (e + 1) z → Closed s b (Ok (w, e)) (Ok (w, z))
+  closed_is y p n = (refl, sign_is s e b y p ∙ ap (λ (ts : List T.Token). T.symbol b ∷ ts) n.same, ahead_onward (sign_past s e b y p) (over_blanks n), n.stops)
 
-  module _ (w : Values) (e : ℕ) (q : l ≡ Is w e) where
-    pub closed_is : Sign b → byte_of s e ≡ b → {z : ℕ} → BlanksEnd s T.longest_claim (e + 1) z → Closed s b l (Is w z)
-    closed_is y p {z} n =
-        subst (λ (x : Truth). Closed s b x (Is w z)) (sym q) (refl, sign_is s e b y p ∙ ap (λ (ts : List T.Token). T.symbol b ∷ ts) n.same, ahead_onward (sign_past s e b y p) (over_blanks n), n.stops)
-
-    pub closed_not : (byte_of s e ≡ b → ⊥) → {r : Seen} → Sees s T.longest_claim e (claim_tokens s e) r → (j : ℕ) → j ≡ fault_of r.token → Closed s b l (Fault j)
-    closed_not p n j f = subst (λ (x : Truth). Closed s b x (Fault j)) (sym q) (λ h. (sign_not s e b h p, f ∙ fault_as n))
+  pub closed_not : (byte_of s e ≡ b → ⊥) → {r : Seen} → Sees s T.longest_claim e (claim_tokens s e) r → (j : Refusal) → j ≡ fault_of r.token → Closed s b (Ok (w, e)) (Err j)
+  closed_not p n j f h = (sign_not s e b h p, ap number f ∙ fault_as n)

@@ -18,6 +18,7 @@ use Rattle.model.specs.ClaimLabels.{not_byte, and_byte, or_byte, open_byte, clos
 use Rattle.model.specs.ClaimTable.{is_sign}
 use Rattle.claim.proofs.Lexing.{lexed_by, lexed_before, lexed_cut, tokens_end, digit_low, begin_digit, digit_stops, begin_letter, name_stops}
 use lib.Seq.{drop-cons}
+use Rattle.std.specs.Prelude.{Some}
 use Rattle.claim.specs.Reads.{claim_tokens, byte_of, PastBlanks, Sign, LoneDigit, LoneLetter, Stands, Ahead, starts}
 
 -- inside a token other than a sign
@@ -247,8 +248,8 @@ no_blank b h = rw (ne_eqb b 32 (λ q. omega (arith, h, q)), lt-leb b 13 (omega (
 pub digit_some : (b : ℕ) → is_digit b ≡ true → b ≡ 0 → ⊥
 digit_some b d q = omega (arith, q, digit_low b d)
 
-pub digit_alone : (s : List ℕ) (e : ℕ) → is_digit (byte_of s e) ≡ true → (byte_of s (e + 1) ≡ 0 → ⊥) → is_digit (byte_of s (e + 1)) ≡ false → (v : ℕ) → v ≡ byte_of s e - 48 → LoneDigit s e v
-digit_alone s e d n p v q h =
+pub digit_alone : (s : List ℕ) (e : ℕ) → is_digit (byte_of s e) ≡ true → (byte_of s (e + 1) ≡ 0 → ⊥) → is_digit (byte_of s (e + 1)) ≡ false → (v : ℕ) → v ≡ byte_of s e - 48 → LoneDigit s e (Some v)
+digit_alone s e d n p v q =
     subst (λ (x : ℕ). Stands s e (number x) (e + 1)) (sym q) (alone s e (digit_some _ d) n _ _ (begin_digit _ (no_blank _ (omega (arith, digit_low (byte_of s e) d))) d) (digit_stops _ _ p))
 
 -- a letter
@@ -263,6 +264,6 @@ letter_high b l = go (ltb b 65) refl
 pub letter_some : (b : ℕ) → is_letter b ≡ true → b ≡ 0 → ⊥
 letter_some b l q = omega (arith, q, letter_high b l)
 
-pub letter_alone : (s : List ℕ) (e : ℕ) → is_letter (byte_of s e) ≡ true → (byte_of s (e + 1) ≡ 0 → ⊥) → (byte_of s (e + 1) ≡ colon → ⊥) → is_name_byte (byte_of s (e + 1)) ≡ false → (b : ℕ) → b ≡ byte_of s e → LoneLetter s e b
-letter_alone s e l n c p b q h =
+pub letter_alone : (s : List ℕ) (e : ℕ) → is_letter (byte_of s e) ≡ true → (byte_of s (e + 1) ≡ 0 → ⊥) → (byte_of s (e + 1) ≡ colon → ⊥) → is_name_byte (byte_of s (e + 1)) ≡ false → (b : ℕ) → b ≡ byte_of s e → LoneLetter s e (Some b)
+letter_alone s e l n c p b q =
     subst (λ (x : ℕ). Stands s e (name (x ∷ [])) (e + 1)) (sym q) (alone s e (letter_some _ l) n _ _ (begin_letter _ (no_blank _ (omega (arith, letter_high (byte_of s e) l))) l) (name_stops _ _ p c))

@@ -12,7 +12,7 @@ use Rattle.model.specs.ClaimTokens as T
 use Rattle.model.specs.ClaimGrammar.{Item, skipped, is_plain}
 use Rattle.model.specs.ClaimTable.{whole, in_items, in_skipped, go, snoc, step, ended, told}
 use Rattle.claim.specs.Reads.{part, claim_tokens, spelt, reads_on, Sees, Ahead, Onward}
-use Rattle.claim.specs.HeaderSays.{Gives, Skips, passed_of, on_kind}
+use Rattle.claim.specs.HeaderSays.{Gives, Skips, passed_of, on_name}
 use Rattle.claim.specs.declared.tokens.Token.{Token}
 use Rattle.claim.specs.declared.tokens.Token.TheVariants.{Name, Header, Number, Text, Symbol, Body, End, Alias, Comment, Stray, Done}
 use Rattle.claim.specs.declared.tokens.Seen.{Seen}
@@ -21,6 +21,8 @@ use Rattle.claim.proofs.Places.{stays, onto, onward}
 use Rattle.claim.specs.contracts.tokens.Token.{the_type}
 use Rattle.claim.proofs.Seeing.{reads_as, goes_past}
 use Rattle.claim.proofs.HeaderCode.{stepped}
+use Rattle.std.specs.Prelude.{Result}
+use Rattle.model.specs.declared.refusal.Refusal.{Refusal}
 use Rattle.claim.specs.declared.header.Kind.{Kind}
 use Rattle.claim.proofs.HeaderLoop.{gives_skipped, header_told, small_skipped}
 
@@ -56,7 +58,7 @@ module _ (is : List Item) (h : List ℕ) (ts : List T.Token) (s : List ℕ) (r :
     snoc is (skipped h ts),
     part s a e,
     [],
-    plain_not (T.header (part s a e)) refl ∙ (header_told (snoc is (skipped h ts)) (part s a e) r ∙ ap (λ (k : Kind). told (on_kind (snoc is (skipped h ts)) (part s a e) k) r) (sym (small_skipped (part s a e) _ refl q))),
+    plain_not (T.header (part s a e)) refl ∙ (header_told (snoc is (skipped h ts)) (part s a e) r ∙ ap (λ (k : Result Kind Refusal). told (on_name (snoc is (skipped h ts)) (part s a e) k) r) (sym (small_skipped (part s a e) _ refl q))),
     λ g i. gives_skipped i h ts,
   )
   passed_step (Symbol b) q = clash false q refl

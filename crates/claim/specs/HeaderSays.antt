@@ -1,6 +1,6 @@
 -- What the readers of the header say: from a place on, what is left gives the whole. Assumes nothing: these are definitions.
 use Rattle.model.specs.Run.{is_some}
-use Rattle.std.specs.Prelude.{◌≡◌, Bool, true, false, ◌&&◌, ◌||◌, cond, List, [], ◌∷◌, ℕ, ◌≤◌, ltb, get_or}
+use Rattle.std.specs.Prelude.{◌≡◌, Bool, true, false, ◌&&◌, ◌||◌, cond, List, [], ◌∷◌, ℕ, ◌≤◌, ltb, get_or, Result, Ok, Err}
 use Rattle.std.proofs.Math.Option.{Option, none, some}
 use Rattle.text.specs.Ascii.{ascii}
 use Rattle.text.specs.Lines.{equal}
@@ -8,18 +8,15 @@ use Rattle.model.specs.ClaimTokens as T
 use Rattle.model.specs.ClaimTokens.{is_small, is_capital}
 use Rattle.model.specs.ClaimGrammar.{Item, acceptance, state_count, start_state, proposition_names, propositions_in, has_acceptance, header_whole, most_states, most_propositions}
 use Rattle.model.specs.ClaimTable.{Last, whole, after_start, after_acceptance, Place, in_items, in_skipped, in_lines, wants_count, wants_start, wants_propositions, wants_names, wants_sets, snoc, Next, go, fault, unless, on_number, step, ended, told, refused}
-use Rattle.claim.specs.Reads.{part, claim_tokens, Ahead, Stands, is_symbol_of, fault_of, Onward}
+use Rattle.claim.specs.Reads.{part, claim_tokens, Ahead, Stands, is_symbol_of, fault_of, Onward, Parsed}
 use Rattle.claim.specs.declared.tokens.Token.{Token}
 use Rattle.claim.specs.declared.tokens.Token.TheVariants.{Name, Header as HeaderName, Number, Text, Symbol, Body, End, Alias, Comment, Stray, Done}
-use Rattle.claim.specs.declared.header.Found.{Found}
-use Rattle.claim.specs.declared.header.Found.TheVariants.{Is, Fault as Not}
 use Rattle.claim.specs.declared.header.Given.{Given}
-use Rattle.claim.specs.declared.header.Past.{Past}
-use Rattle.claim.specs.declared.header.Past.TheVariants.{To, Fault as Torn}
 use Rattle.claim.specs.declared.header.Kind.{Kind}
-use Rattle.claim.specs.declared.header.Kind.TheVariants.{States, Start, Propositions, Acceptance, Skipped, Fault as Bad}
-use Rattle.claim.specs.declared.header.Header.{Header}
-use Rattle.claim.specs.declared.header.Header.TheVariants.{Read, Fault}
+use Rattle.claim.specs.declared.header.Kind.TheVariants.{States, Start, Propositions, Acceptance, Skipped}
+use Rattle.model.specs.Refusals.{number}
+use Rattle.model.specs.declared.refusal.Refusal.{Refusal}
+use Rattle.model.specs.declared.refusal.Refusal.TheVariants.{ClaimGrammar, NotTaken}
 use Rattle.model.specs.ClaimLabels.{and_byte, or_byte}
 
 -- a place that takes a number and nothing else
@@ -28,9 +25,9 @@ pub record WantsNumber (p : Place) (f : ℕ → Next) : Type 0 where
   pub open_ended : ended p ≡ refused 15
 
 -- a number is at a place; or whatever place wants one refuses what is there
-abbrev pub NumberSays : (text : List ℕ) → (at : ℕ) → Found → Type 0
-NumberSays s at (Is v n) = Stands s at (T.number v) n
-NumberSays s at (Not j) = (p : Place) (f : ℕ → Next) → WantsNumber p f → told (go p) (claim_tokens s at) ≡ refused j
+abbrev pub NumberSays : (text : List ℕ) → (at : ℕ) → Parsed ℕ → Type 0
+NumberSays s at (Ok (v, n)) = Stands s at (T.number v) n
+NumberSays s at (Err j) = (p : Place) (f : ℕ → Next) → WantsNumber p f → told (go p) (claim_tokens s at) ≡ refused (number j)
 
 -- a value, or none
 abbrev pub shown : Bool → ℕ → Option ℕ
@@ -47,33 +44,33 @@ pub record Gives (is : List Item) (g : Given) : Type 0 where
   pub few_propositions : g.count ≤ most_propositions
 
 -- an item is read from a place on: whatever stands before it, what is left gives the whole
-abbrev pub ItemSays : (text : List ℕ) → (List Item → Place) → Last → (at : ℕ) → Given → Header → Type 0
-ItemSays s p l at g (Read h n) =
+abbrev pub ItemSays : (text : List ℕ) → (List Item → Place) → Last → (at : ℕ) → Given → Parsed Given → Type 0
+ItemSays s p l at g (Ok (h, n)) =
     ((is : List Item) → Gives is g → (js : List Item) × Gives js h × (told (go (p is)) (claim_tokens s at) ≡ told (go (in_items l js)) (claim_tokens s n))) × Ahead s at n
-ItemSays s p l at g (Fault j) = (is : List Item) → Gives is g → told (go (p is)) (claim_tokens s at) ≡ refused j
+ItemSays s p l at g (Err j) = (is : List Item) → Gives is g → told (go (p is)) (claim_tokens s at) ≡ refused (number j)
 
 abbrev pub most_states_of : Given → ℕ
 most_states_of g = cond (ltb 0 g.states) g.states most_states
 
 -- from one place to another, whatever items stand before
-abbrev pub StepSays : (text : List ℕ) → (from to : List Item → Place) → (at : ℕ) → Past → Type 0
-StepSays s p q at (To n) = ((is : List Item) → told (go (p is)) (claim_tokens s at) ≡ told (go (q is)) (claim_tokens s n)) × Ahead s at n
-StepSays s p q at (Torn j) = (is : List Item) → told (go (p is)) (claim_tokens s at) ≡ refused j
+abbrev pub StepSays : (text : List ℕ) → (from to : List Item → Place) → (at : ℕ) → Result ℕ Refusal → Type 0
+StepSays s p q at (Ok n) = ((is : List Item) → told (go (p is)) (claim_tokens s at) ≡ told (go (q is)) (claim_tokens s n)) × Ahead s at n
+StepSays s p q at (Err j) = (is : List Item) → told (go (p is)) (claim_tokens s at) ≡ refused (number j)
 
 -- after the acceptance
 abbrev pub accepted : List Item → Place
 accepted is = in_items after_acceptance (snoc is acceptance)
 
 -- AP: a string is at a place; or whatever wants a name refuses what is there
-abbrev pub StringSays : (text : List ℕ) → (at : ℕ) → Past → Type 0
-StringSays s at (To n) = (w : List ℕ) × (claim_tokens s at ≡ T.string w ∷ claim_tokens s n) × Ahead s at n
-StringSays s at (Torn j) = (is : List Item) (left : ℕ) (ns : List (List ℕ)) → told (go (wants_names is left ns)) (claim_tokens s at) ≡ refused j
+abbrev pub StringSays : (text : List ℕ) → (at : ℕ) → Result ℕ Refusal → Type 0
+StringSays s at (Ok n) = (w : List ℕ) × (claim_tokens s at ≡ T.string w ∷ claim_tokens s n) × Ahead s at n
+StringSays s at (Err j) = (is : List Item) (left : ℕ) (ns : List (List ℕ)) → told (go (wants_names is left ns)) (claim_tokens s at) ≡ refused (number j)
 
 -- an item is read from a place on, perhaps of no more tokens
-abbrev pub ItemOn : (text : List ℕ) → (List Item → Next) → Last → (at : ℕ) → Given → Header → Type 0
-ItemOn s x l at g (Read h n) =
+abbrev pub ItemOn : (text : List ℕ) → (List Item → Next) → Last → (at : ℕ) → Given → Parsed Given → Type 0
+ItemOn s x l at g (Ok (h, n)) =
     ((is : List Item) → Gives is g → (js : List Item) × Gives js h × (told (x is) (claim_tokens s at) ≡ told (go (in_items l js)) (claim_tokens s n))) × Onward s at n
-ItemOn s x l at g (Fault j) = (is : List Item) → Gives is g → told (x is) (claim_tokens s at) ≡ refused j
+ItemOn s x l at g (Err j) = (is : List Item) → Gives is g → told (x is) (claim_tokens s at) ≡ refused (number j)
 
 -- SKIPPED HEADERS: the tokens passed over in one, and the name of another
 abbrev pub passed_of : (text : List ℕ) → Token → Bool
@@ -95,19 +92,19 @@ pub record Skips (s : List ℕ) (at next : ℕ) : Type 0 where
   pub onward : Onward s at next
 
 -- NAMES OF HEADERS
--- by its first byte, no small letter, one that is none of the format's
-abbrev pub kind_by : (first : ℕ) → Kind
-kind_by b = cond (is_capital b) (Bad 16) (Bad 15)
+-- the refusal for one that is none of the format's, by its first byte, no small letter
+abbrev pub no_kind : (first : ℕ) → Refusal
+no_kind b = cond (is_capital b) NotTaken ClaimGrammar
 
-abbrev pub kind_of : (name : List ℕ) → Kind
+abbrev pub kind_of : (name : List ℕ) → Result Kind Refusal
 kind_of h =
-    cond (equal h (ascii "HOA")) (Bad 15)
-    (cond (equal h (ascii "States")) States
-    (cond (equal h (ascii "Start")) Start
-    (cond (equal h (ascii "AP")) Propositions
-    (cond (equal h (ascii "Acceptance")) Acceptance
-    (cond (is_small (get_or h 0 0)) Skipped
-    (kind_by (get_or h 0 0)))))))
+    cond (equal h (ascii "HOA")) (Err ClaimGrammar)
+    (cond (equal h (ascii "States")) (Ok States)
+    (cond (equal h (ascii "Start")) (Ok Start)
+    (cond (equal h (ascii "AP")) (Ok Propositions)
+    (cond (equal h (ascii "Acceptance")) (Ok Acceptance)
+    (cond (is_small (get_or h 0 0)) (Ok Skipped)
+    (Err (no_kind (get_or h 0 0))))))))
 
 -- the table's `on_header`, by kind
 abbrev pub on_kind : List Item → (name : List ℕ) → Kind → Next
@@ -116,7 +113,10 @@ on_kind is h Start = unless (is_some (start_state is)) 16 (wants_start is)
 on_kind is h Propositions = unless (is_some (proposition_names is)) 15 (wants_propositions is)
 on_kind is h Acceptance = unless (has_acceptance is) 15 (wants_sets is)
 on_kind is h Skipped = go (in_skipped is h [])
-on_kind is h (Bad k) = fault k
+
+abbrev pub on_name : List Item → (name : List ℕ) → Result Kind Refusal → Next
+on_name is h (Ok k) = on_kind is h k
+on_name is h (Err r) = fault (number r)
 
 -- what stands last after an item
 abbrev pub last_of : Kind → Last
@@ -125,10 +125,9 @@ last_of Acceptance = after_acceptance
 last_of States = whole
 last_of Propositions = whole
 last_of Skipped = whole
-last_of (Bad k) = whole
 
 -- the item of a kind is read from past its header's name on
-abbrev pub KindSays : (text : List ℕ) → Kind → (at : ℕ) → Given → Header → Type 0
+abbrev pub KindSays : (text : List ℕ) → Kind → (at : ℕ) → Given → Parsed Given → Type 0
 KindSays s k at g r = (name : List ℕ) → ItemOn s (λ is. on_kind is name k) (last_of k) at g r
 
 -- whether a token goes on with the item before it: other starts, another acceptance
@@ -138,14 +137,13 @@ continues Acceptance t = is_symbol_of t and_byte || is_symbol_of t or_byte
 continues States t = false
 continues Propositions t = false
 continues Skipped t = false
-continues (Bad k) t = false
 
-abbrev pub no_item : Kind → Token → Header
-no_item l t = Fault (cond (continues l t) 16 (fault_of t))
+abbrev pub no_item : Kind → Token → Parsed Given
+no_item l t = Err (cond (continues l t) NotTaken (fault_of t))
 
 -- what the items come to at a token that begins no other
-abbrev pub items_end : Token → (next : ℕ) → Given → Kind → Header
-items_end Body n g l = cond ((ltb 0 g.states && ltb g.start most_states) && g.acceptance) (Read g n) (Fault 15)
+abbrev pub items_end : Token → (next : ℕ) → Given → Kind → Parsed Given
+items_end Body n g l = cond ((ltb 0 g.states && ltb g.start most_states) && g.acceptance) (Ok (g, n)) (Err ClaimGrammar)
 items_end (Name a e) n g l = no_item l (Name a e)
 items_end (HeaderName a e) n g l = no_item l (HeaderName a e)
 items_end (Number v) n g l = no_item l (Number v)
@@ -158,7 +156,7 @@ items_end Stray n g l = no_item l Stray
 items_end Done n g l = no_item l Done
 
 -- THE WHOLE HEADER, from where no item stands yet up to past its --BODY--: the items, whole, and what they give; or the refusal
-abbrev pub HeaderSays : (text : List ℕ) → (at : ℕ) → Header → Type 0
-HeaderSays s at (Read g n) =
+abbrev pub HeaderSays : (text : List ℕ) → (at : ℕ) → Parsed Given → Type 0
+HeaderSays s at (Ok (g, n)) =
     (is : List Item) × Gives is g × (header_whole is ≡ true) × (told (go (in_items whole [])) (claim_tokens s at) ≡ told (go (in_lines is [])) (claim_tokens s n)) × Ahead s at n
-HeaderSays s at (Fault j) = told (go (in_items whole [])) (claim_tokens s at) ≡ refused j
+HeaderSays s at (Err j) = told (go (in_items whole [])) (claim_tokens s at) ≡ refused (number j)

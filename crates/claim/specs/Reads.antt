@@ -1,13 +1,15 @@
 -- What the reader's functions say of the text from where they stand. Assumes nothing: these are definitions.
-use Rattle.std.specs.Prelude.{◌≡◌, Bool, true, false, cond, List, [], ◌∷◌, ℕ, ◌+◌, ◌-◌, ◌<◌, ◌≤◌, min, ltb, eqb, length, get_or, take, drop}
+use Rattle.std.specs.Prelude.{◌≡◌, Bool, true, false, cond, List, [], ◌∷◌, ℕ, ◌+◌, ◌-◌, ◌<◌, ◌≤◌, min, ltb, eqb, length, get_or, take, drop, Option, Some, None, Result, Ok, Err}
 use Rattle.model.specs.ClaimTokens as T
 use Rattle.model.specs.ClaimLabels.{and_byte, or_byte, Label, or_level, proposition, on, label_start, label_told, label_is, no_label}
 use Rattle.model.specs.ClaimTokens.{Mode, between, lex, is_blank, is_name_byte, is_symbol}
 use Rattle.claim.specs.declared.tokens.Token.{Token}
 use Rattle.claim.specs.declared.tokens.Token.TheVariants.{Name, Header, Number, Text, Symbol, Body, End, Alias, Comment, Stray, Done}
 use Rattle.claim.specs.declared.tokens.Seen.{Seen}
-use Rattle.claim.specs.declared.labels.Truth.{Truth}
-use Rattle.claim.specs.declared.labels.Truth.TheVariants.{Is, Fault}
+use Rattle.claim.specs.declared.labels.Values.{Values}
+use Rattle.model.specs.Refusals.{number}
+use Rattle.model.specs.declared.refusal.Refusal.{Refusal}
+use Rattle.model.specs.declared.refusal.Refusal.TheVariants.{ClaimGrammar, NotTaken}
 use Rattle.model.specs.ClaimTable.{is_sign}
 use Rattle.claim.specs.LabelSays.{TruthOf, everything, nothing, complement_of, Got, No, AtomSays, AndSays, OrSays}
 
@@ -65,13 +67,19 @@ pub record Onward (s : List ℕ) (at next : ℕ) : Type 0 where
 abbrev pub Stands : (text : List ℕ) → (at : ℕ) → T.Token → (next : ℕ) → Type 0
 Stands s at t n = (claim_tokens s at ≡ t ∷ claim_tokens s n) × Ahead s at n
 
--- a number of one digit stands at a place, told by the byte after it; 10 says nothing
-abbrev pub LoneDigit : (text : List ℕ) → (at value : ℕ) → Type 0
-LoneDigit s at v = v < 10 → Stands s at (T.number v) (at + 1)
+-- a number of one digit stands at a place, told by the byte after it; `None` says nothing
+abbrev pub LoneDigit : (text : List ℕ) → (at : ℕ) → Option ℕ → Type 0
+LoneDigit s at (Some v) = Stands s at (T.number v) (at + 1)
+LoneDigit s at None = Unit {0}
 
--- a name of one letter; 0 says nothing
-abbrev pub LoneLetter : (text : List ℕ) → (at byte : ℕ) → Type 0
-LoneLetter s at b = (b ≡ 0 → ⊥) → Stands s at (T.name (b ∷ [])) (at + 1)
+-- a name of one letter
+abbrev pub LoneLetter : (text : List ℕ) → (at : ℕ) → Option ℕ → Type 0
+LoneLetter s at (Some b) = Stands s at (T.name (b ∷ [])) (at + 1)
+LoneLetter s at None = Unit {0}
+
+-- what was read and the place past it; or the refusal
+abbrev pub Parsed : Type 0 → Type 0
+Parsed A = Result (A × ℕ) Refusal
 
 -- a token of the code and what follows it
 abbrev pub spelt : (text : List ℕ) → Token → (rest : List T.Token) → List T.Token
@@ -144,18 +152,18 @@ is_symbol_of Stray b = false
 is_symbol_of Done b = false
 
 -- the refusal for a token that is not taken
-abbrev pub fault_of : Token → ℕ
-fault_of Comment = 16
-fault_of (Name a e) = 15
-fault_of (Header a e) = 15
-fault_of (Number v) = 15
-fault_of (Text a e) = 15
-fault_of (Symbol c) = 15
-fault_of Body = 15
-fault_of End = 15
-fault_of Alias = 15
-fault_of Stray = 15
-fault_of Done = 15
+abbrev pub fault_of : Token → Refusal
+fault_of Comment = NotTaken
+fault_of (Name a e) = ClaimGrammar
+fault_of (Header a e) = ClaimGrammar
+fault_of (Number v) = ClaimGrammar
+fault_of (Text a e) = ClaimGrammar
+fault_of (Symbol c) = ClaimGrammar
+fault_of Body = ClaimGrammar
+fault_of End = ClaimGrammar
+fault_of Alias = ClaimGrammar
+fault_of Stray = ClaimGrammar
+fault_of Done = ClaimGrammar
 
 -- the same of the tokens that it stands before: whether they begin with this sign
 unfoldable pub starts : (byte : ℕ) → List T.Token → Bool
@@ -177,53 +185,53 @@ first_fault (T.alias ∷ ts) = 15
 first_fault (T.stray ∷ ts) = 15
 
 -- LABELS: what the reader of each level answers at a place, so many brackets and negations deep; it goes past the blanks too
-abbrev pub AtomRead : (text : List ℕ) → (k deep at : ℕ) → Truth → Type 0
-AtomRead s k d at (Is w n) = AtomSays k d (claim_tokens s at) (Got w (claim_tokens s n)) × Ahead s at n × PastBlanks s n
-AtomRead s k d at (Fault j) = AtomSays k d (claim_tokens s at) (No j)
+abbrev pub AtomRead : (text : List ℕ) → (k deep at : ℕ) → Parsed Values → Type 0
+AtomRead s k d at (Ok (w, n)) = AtomSays k d (claim_tokens s at) (Got w (claim_tokens s n)) × Ahead s at n × PastBlanks s n
+AtomRead s k d at (Err j) = AtomSays k d (claim_tokens s at) (No (number j))
 
-abbrev pub AndRead : (text : List ℕ) → (k deep at : ℕ) → Truth → Type 0
-AndRead s k d at (Is w n) = AndSays k d (claim_tokens s at) (Got w (claim_tokens s n)) × Ahead s at n × PastBlanks s n × (starts and_byte (claim_tokens s n) ≡ false)
-AndRead s k d at (Fault j) = AndSays k d (claim_tokens s at) (No j)
+abbrev pub AndRead : (text : List ℕ) → (k deep at : ℕ) → Parsed Values → Type 0
+AndRead s k d at (Ok (w, n)) = AndSays k d (claim_tokens s at) (Got w (claim_tokens s n)) × Ahead s at n × PastBlanks s n × (starts and_byte (claim_tokens s n) ≡ false)
+AndRead s k d at (Err j) = AndSays k d (claim_tokens s at) (No (number j))
 
-abbrev pub OrRead : (text : List ℕ) → (k deep at : ℕ) → Truth → Type 0
-OrRead s k d at (Is w n) =
+abbrev pub OrRead : (text : List ℕ) → (k deep at : ℕ) → Parsed Values → Type 0
+OrRead s k d at (Ok (w, n)) =
     OrSays k d (claim_tokens s at) (Got w (claim_tokens s n)) × Ahead s at n × PastBlanks s n × (starts and_byte (claim_tokens s n) ≡ false) × (starts or_byte (claim_tokens s n) ≡ false)
-OrRead s k d at (Fault j) = OrSays k d (claim_tokens s at) (No j)
+OrRead s k d at (Err j) = OrSays k d (claim_tokens s at) (No (number j))
 
 -- after negations, whether they are odd in number
-abbrev pub negated_of : (odd : Bool) → Truth → Truth
-negated_of true (Is w n) = Is (complement_of w) n
-negated_of false (Is w n) = Is w n
-negated_of odd (Fault k) = Fault k
+abbrev pub negated_of : (odd : Bool) → Parsed Values → Parsed Values
+negated_of true (Ok (w, n)) = Ok (complement_of w, n)
+negated_of false (Ok (w, n)) = Ok (w, n)
+negated_of odd (Err k) = Err k
 
 -- the inside of a bracket or a label, once its end is looked at
-abbrev pub Closed : (text : List ℕ) → (byte : ℕ) → (inside whole : Truth) → Type 0
-Closed s b (Fault j) r = r ≡ Fault j
-Closed s b (Is v e) (Is w n) = (w ≡ v) × (claim_tokens s e ≡ T.symbol b ∷ claim_tokens s n) × Ahead s e n × PastBlanks s n
-Closed s b (Is v e) (Fault j) = PastBlanks s e → (starts b (claim_tokens s e) ≡ false) × (j ≡ first_fault (claim_tokens s e))
+abbrev pub Closed : (text : List ℕ) → (byte : ℕ) → (inside whole : Parsed Values) → Type 0
+Closed s b (Err j) r = r ≡ Err j
+Closed s b (Ok (v, e)) (Ok (w, n)) = (w ≡ v) × (claim_tokens s e ≡ T.symbol b ∷ claim_tokens s n) × Ahead s e n × PastBlanks s n
+Closed s b (Ok (v, e)) (Err j) = PastBlanks s e → (starts b (claim_tokens s e) ≡ false) × (number j ≡ first_fault (claim_tokens s e))
 
 -- a label and its ], and the blanks past it
-abbrev pub LabelSays : (text : List ℕ) → (k at : ℕ) → Truth → Type 0
-LabelSays s k at (Is w n) = (o : Label or_level) × TruthOf o w × (label_told k (on label_start) (claim_tokens s at) ≡ label_is o (claim_tokens s n)) × Ahead s at n × PastBlanks s n
-LabelSays s k at (Fault j) = label_told k (on label_start) (claim_tokens s at) ≡ no_label j
+abbrev pub LabelSays : (text : List ℕ) → (k at : ℕ) → Parsed Values → Type 0
+LabelSays s k at (Ok (w, n)) = (o : Label or_level) × TruthOf o w × (label_told k (on label_start) (claim_tokens s at) ≡ label_is o (claim_tokens s n)) × Ahead s at n × PastBlanks s n
+LabelSays s k at (Err j) = label_told k (on label_start) (claim_tokens s at) ≡ no_label (number j)
 
 -- leaves of a label
-abbrev pub constant_if : (always never : Bool) → (next : ℕ) → Truth
-constant_if t f n = cond t (Is everything n) (cond f (Is nothing n) (Fault 15))
+abbrev pub constant_if : (always never : Bool) → (next : ℕ) → Parsed Values
+constant_if t f n = cond t (Ok (everything, n)) (cond f (Ok (nothing, n)) (Err ClaimGrammar))
 
-abbrev pub PropositionRead : (i count next : ℕ) → Truth → Type 0
-PropositionRead i k n (Is w m) = (ltb i k ≡ true) × TruthOf (proposition i) w × (m ≡ n)
-PropositionRead i k n (Fault j) = (ltb i k ≡ false) × (j ≡ 15)
+abbrev pub PropositionRead : (i count next : ℕ) → Parsed Values → Type 0
+PropositionRead i k n (Ok (w, m)) = (ltb i k ≡ true) × TruthOf (proposition i) w × (m ≡ n)
+PropositionRead i k n (Err j) = (ltb i k ≡ false) × (j ≡ ClaimGrammar)
 
-abbrev pub no_atom_of : Token → ℕ
-no_atom_of Alias = 16
-no_atom_of Comment = 16
-no_atom_of (Name a e) = 15
-no_atom_of (Header a e) = 15
-no_atom_of (Number v) = 15
-no_atom_of (Text a e) = 15
-no_atom_of (Symbol c) = 15
-no_atom_of Body = 15
-no_atom_of End = 15
-no_atom_of Stray = 15
-no_atom_of Done = 15
+abbrev pub no_atom_of : Token → Refusal
+no_atom_of Alias = NotTaken
+no_atom_of Comment = NotTaken
+no_atom_of (Name a e) = ClaimGrammar
+no_atom_of (Header a e) = ClaimGrammar
+no_atom_of (Number v) = ClaimGrammar
+no_atom_of (Text a e) = ClaimGrammar
+no_atom_of (Symbol c) = ClaimGrammar
+no_atom_of Body = ClaimGrammar
+no_atom_of End = ClaimGrammar
+no_atom_of Stray = ClaimGrammar
+no_atom_of Done = ClaimGrammar

@@ -12,9 +12,12 @@ ghost use Rattle.claim.specs.Cells.{claim_cells, moves_from, set_words, set_of, 
 ghost use Rattle.claim.specs.BodySays.{TitleSays, MarksSay, MarkSays, EdgeSays, EdgesSay, NumberRead, RestSays, LineSays, EndSays, DueSays, BodySays};
 
 use crate::Counts;
-use crate::header::{Found, Past, number_at};
-use crate::labels::{ALL, Truth, Values, label, union};
-use crate::tokens::{Token, byte_at, claim_token, fault, is_symbol, past_blanks, word};
+use crate::header::number_at;
+use crate::labels::{ALL, Values, label, union};
+use crate::tokens::{
+    Parsed, Seen, Token, byte_at, claim_token, fault, is_symbol, past_blanks, word,
+};
+use model::Refusal;
 
 const LONGEST_TITLE: usize = 32;
 
@@ -48,53 +51,40 @@ fn title_fits(text: &[u8], a: usize, e: usize) -> bool
 }
 
 // The name of state c, if one is at `at`; else the place past the blanks there.
-fn title(text: &[u8], at: usize, c: usize, cells: &mut [u32]) -> Past
+fn title(text: &[u8], at: usize, c: usize, cells: &mut [u32]) -> Result<usize, Refusal>
     requires c_lt_most_states { c < most_states }
     requires claim_cells_in_bounds { claim_cells ≤ length cells.old }
     ensures { TitleSays text.now c at result cells.old cells.new }
 {
     let here = past_blanks(text, at);
-    let seen = claim_token(text, here);
-    let t = seen.token;
-    let next = seen.next;
-    match t {
-        Token::Text(a, e) => {
-            if !title_fits(text, a, e) {
-                return Past::Fault(15);
-            }
-            cells[Counts::NAMES + c] = a as u32;
-            cells[Counts::LENGTHS + c] = (e - a) as u32;
-            Past::To(next)
-        }
-        _ => Past::To(here),
+    let Seen { token, next } = claim_token(text, here);
+    let Token::Text(a, e) = token else {
+        return Ok(here);
+    };
+    if !title_fits(text, a, e) {
+        return Err(Refusal::ClaimGrammar);
     }
+    cells[Counts::NAMES + c] = a as u32;
+    cells[Counts::LENGTHS + c] = (e - a) as u32;
+    Ok(next)
 }
 
-// The numbers of a mark: whether there are any, and the place past its }; or the refusal.
-#[derive(Clone, Copy)]
-pub enum Marks {
-    Read(bool, usize),
-    Fault(u32),
-}
-
-// The numbers from `at` on, past the {.
-fn marks_end(text: &[u8], at: usize) -> Marks
+// Whether a mark has numbers, from `at` on, past the {; and the place past its }.
+fn marks_end(text: &[u8], at: usize) -> Parsed<bool>
     ensures { MarksSay text.now at result }
 {
     let mut any = false;
     let mut here = at;
     loop {
-        let seen = claim_token(text, here);
-        let t = seen.token;
-        let next = seen.next;
-        let Token::Number(v) = t else {
-            if is_symbol(t, b'}') {
-                return Marks::Read(any, next);
+        let Seen { token, next } = claim_token(text, here);
+        let Token::Number(v) = token else {
+            if is_symbol(token, b'}') {
+                return Ok((any, next));
             }
-            return Marks::Fault(fault(t));
+            return Err(fault(token));
         };
         if v != 0 {
-            return Marks::Fault(15);
+            return Err(Refusal::ClaimGrammar);
         }
         any = true;
         here = next;
@@ -102,22 +92,18 @@ fn marks_end(text: &[u8], at: usize) -> Marks
 }
 
 // The mark of state c, if one is at `at`.
-fn mark(text: &[u8], at: usize, c: usize, cells: &mut [u32]) -> Past
+fn mark(text: &[u8], at: usize, c: usize, cells: &mut [u32]) -> Result<usize, Refusal>
     requires c_lt_most_states { c < most_states }
     requires claim_cells_in_bounds { claim_cells ≤ length cells.old }
     ensures { MarkSays text.now c at result cells.old cells.new }
 {
     let here = past_blanks(text, at);
     if byte_at(text, here) != b'{' {
-        return Past::To(here);
+        return Ok(here);
     }
-    match marks_end(text, here + 1) {
-        Marks::Fault(k) => Past::Fault(k),
-        Marks::Read(any, past) => {
-            cells[c] = any as u32;
-            Past::To(past)
-        }
-    }
+    let (any, past) = marks_end(text, here + 1)?;
+    cells[c] = u32::from(any);
+    Ok(past)
 }
 
 // One more target, d, for 64 cells from `first` on.
@@ -216,33 +202,34 @@ fn add_edges(cells: &mut [u32], c: usize, leads: u32, sets: &[u64])
 }
 
 // An edge, past its [: its target and the place past that and blanks. Its label's flag values go into the target's set.
-fn edge(text: &[u8], at: usize, states: u32, count: u32, sets: &mut [u64]) -> Found
+fn edge(text: &[u8], at: usize, states: u32, count: u32, sets: &mut [u64]) -> Parsed<u32>
     requires states_le_most_states { states ≤ most_states }
     requires count_le_most_propositions { count ≤ most_propositions }
     requires set_words_in_bounds { set_words ≤ length sets.old }
     ensures { EdgeSays text.now states count at result sets.old sets.new }
 {
-    match label(text, at, count) {
-        Truth::Fault(k) => Found::Fault(k),
-        Truth::Is(w, end) => match number_at(text, end) {
-            Found::Fault(k) => Found::Fault(k),
-            Found::Is(d, past) => {
-                if states <= d {
-                    return Found::Fault(15);
-                }
-                let next = past_blanks(text, past);
-                if byte_at(text, next) == b'{' {
-                    return Found::Fault(16);
-                }
-                add_values(sets, d as usize, w);
-                Found::Is(d, next)
-            }
-        },
+    let (w, end) = label(text, at, count)?;
+    let (d, past) = number_at(text, end)?;
+    if states <= d {
+        return Err(Refusal::ClaimGrammar);
     }
+    let next = past_blanks(text, past);
+    if byte_at(text, next) == b'{' {
+        return Err(Refusal::NotTaken);
+    }
+    add_values(sets, d as usize, w);
+    Ok((d, next))
 }
 
 // The edges of state c from `at` on.
-fn edges(text: &[u8], at: usize, states: u32, count: u32, c: usize, cells: &mut [u32]) -> Past
+fn edges(
+    text: &[u8],
+    at: usize,
+    states: u32,
+    count: u32,
+    c: usize,
+    cells: &mut [u32],
+) -> Result<usize, Refusal>
     requires states_le_most_states { states ≤ most_states }
     requires count_le_most_propositions { count ≤ most_propositions }
     requires c_lt_most_states { c < most_states }
@@ -253,18 +240,12 @@ fn edges(text: &[u8], at: usize, states: u32, count: u32, c: usize, cells: &mut 
     let mut leads: u32 = 0;
     let mut here = past_blanks(text, at);
     while byte_at(text, here) == b'[' {
-        match edge(text, here + 1, states, count, &mut sets) {
-            Found::Fault(k) => {
-                return Past::Fault(k);
-            }
-            Found::Is(d, end) => {
-                leads = leads | (1 << d);
-                here = end;
-            }
-        }
+        let (d, end) = edge(text, here + 1, states, count, &mut sets)?;
+        leads = leads | (1 << d);
+        here = end;
     }
     add_edges(cells, c, leads, &sets);
-    Past::To(here)
+    Ok(here)
 }
 
 // Whether c is a state that is not listed.
@@ -279,121 +260,110 @@ fn unlisted(c: u32, states: u32, listed: u32) -> bool
 }
 
 // The number of a state line, past its `State:`.
-fn line_number(text: &[u8], at: usize, states: u32, listed: u32) -> Found
+fn line_number(text: &[u8], at: usize, states: u32, listed: u32) -> Parsed<u32>
     requires { states ≤ most_states }
     ensures { NumberRead text.now states listed at result }
 {
-    let seen = claim_token(text, at);
-    let t = seen.token;
-    let next = seen.next;
-    match t {
+    let Seen { token, next } = claim_token(text, at);
+    match token {
         Token::Number(c) => {
             if unlisted(c, states, listed) {
-                return Found::Is(c, next);
+                return Ok((c, next));
             }
-            Found::Fault(15)
+            Err(Refusal::ClaimGrammar)
         }
         _ => {
-            if is_symbol(t, b'[') {
-                return Found::Fault(16);
+            if is_symbol(token, b'[') {
+                return Err(Refusal::NotTaken);
             }
-            Found::Fault(fault(t))
+            Err(fault(token))
         }
     }
 }
 
 // What follows the number of state c: its name, its mark, its edges.
-fn line_rest(text: &[u8], at: usize, states: u32, count: u32, c: usize, cells: &mut [u32]) -> Past
+fn line_rest(
+    text: &[u8],
+    at: usize,
+    states: u32,
+    count: u32,
+    c: usize,
+    cells: &mut [u32],
+) -> Result<usize, Refusal>
     requires states_le_most_states { states ≤ most_states }
     requires count_le_most_propositions { count ≤ most_propositions }
     requires c_lt_most_states { c < most_states }
     requires claim_cells_in_bounds { claim_cells ≤ length cells.old }
     ensures { RestSays text.now states count c at result cells.old cells.new }
 {
-    let named = title(text, at, c, cells);
-    let Past::To(a) = named else {
-        return named;
-    };
-    let marked = mark(text, a, c, cells);
-    let Past::To(b) = marked else {
-        return marked;
-    };
-    edges(text, b, states, count, c, cells)
+    let named = title(text, at, c, cells)?;
+    let marked = mark(text, named, c, cells)?;
+    edges(text, marked, states, count, c, cells)
 }
 
 // A state line, past its `State:`: its state's number and the place past it.
-fn line(text: &[u8], at: usize, states: u32, count: u32, listed: u32, cells: &mut [u32]) -> Found
+fn line(
+    text: &[u8],
+    at: usize,
+    states: u32,
+    count: u32,
+    listed: u32,
+    cells: &mut [u32],
+) -> Parsed<u32>
     requires states_le_most_states { states ≤ most_states }
     requires count_le_most_propositions { count ≤ most_propositions }
     requires claim_cells_in_bounds { claim_cells ≤ length cells.old }
     ensures { LineSays text.now states count listed at result cells.old cells.new }
 {
-    let number = line_number(text, at, states, listed);
-    let Found::Is(c, next) = number else {
-        return number;
-    };
-    match line_rest(text, next, states, count, c as usize, cells) {
-        Past::Fault(k) => Found::Fault(k),
-        Past::To(end) => Found::Is(c, end),
-    }
+    let (c, next) = line_number(text, at, states, listed)?;
+    let end = line_rest(text, next, states, count, c as usize, cells)?;
+    Ok((c, end))
 }
 
-// What is due after whole lines: one more, past its `State:`; nothing, since the claim is whole; or the refusal.
-#[derive(Clone, Copy)]
-pub enum Due {
-    Line(usize),
-    Nothing,
-    Fault(u32),
-}
-
-// Whether nothing follows the claim's end.
-fn end_on(text: &[u8], at: usize) -> Due
+// Past the claim's end: nothing follows it.
+fn end_on(text: &[u8], at: usize) -> Result<(), Refusal>
     ensures { EndSays text.now at result }
 {
-    let seen = claim_token(text, at);
-    let t = seen.token;
-    match t {
-        Token::Done => Due::Nothing,
-        _ => Due::Fault(fault(t)),
+    match claim_token(text, at).token {
+        Token::Done => Ok(()),
+        other => Err(fault(other)),
     }
 }
 
-// After so many lines.
-fn due_at(text: &[u8], at: usize, states: u32, lines: u32) -> Due
+// What is due after so many lines: one more, past its `State:`, or none, since the claim is whole.
+fn due_at(text: &[u8], at: usize, states: u32, lines: u32) -> Result<Option<usize>, Refusal>
     requires { lines ≤ states }
     ensures { DueSays text.now states lines at result }
 {
-    let seen = claim_token(text, at);
-    let t = seen.token;
-    let next = seen.next;
-    match t {
+    let Seen { token, next } = claim_token(text, at);
+    match token {
         Token::Header(a, e) => {
             if lines < states {
                 if word(text, a, e, b"State") {
-                    return Due::Line(next);
+                    return Ok(Some(next));
                 }
             }
-            Due::Fault(15)
+            Err(Refusal::ClaimGrammar)
         }
         Token::End => {
             if lines < states {
-                return Due::Fault(15);
+                return Err(Refusal::ClaimGrammar);
             }
-            end_on(text, next)
+            end_on(text, next)?;
+            Ok(None)
         }
-        _ => Due::Fault(fault(t)),
+        _ => Err(fault(token)),
     }
 }
 
-// The body: it is taken with what the cells then hold; or the refusal.
-#[derive(Clone, Copy)]
-pub enum Whole {
-    Taken,
-    Refused(u32),
-}
-
-// The body from `at` on, past its --BODY--.
-pub(crate) fn read_body(text: &[u8], at: usize, states: u32, count: u32, cells: &mut [u32]) -> Whole
+// The body from `at` on, past its --BODY--: what the cells then hold.
+pub(crate) fn read_body(
+    text: &[u8],
+    at: usize,
+    states: u32,
+    count: u32,
+    cells: &mut [u32],
+) -> Result<(), Refusal>
     requires states_le_most_states { states ≤ most_states }
     requires count_le_most_propositions { count ≤ most_propositions }
     requires claim_cells_in_bounds { claim_cells ≤ length cells.old }
@@ -402,24 +372,11 @@ pub(crate) fn read_body(text: &[u8], at: usize, states: u32, count: u32, cells: 
     let mut here = at;
     let mut listed: u32 = 0;
     let mut lines: u32 = 0;
-    loop {
-        match due_at(text, here, states, lines) {
-            Due::Fault(k) => {
-                return Whole::Refused(k);
-            }
-            Due::Nothing => {
-                return Whole::Taken;
-            }
-            Due::Line(next) => match line(text, next, states, count, listed, cells) {
-                Found::Fault(k) => {
-                    return Whole::Refused(k);
-                }
-                Found::Is(c, end) => {
-                    listed = listed | (1 << c);
-                    lines += 1;
-                    here = end;
-                }
-            },
-        }
+    while let Some(next) = due_at(text, here, states, lines)? {
+        let (c, end) = line(text, next, states, count, listed, cells)?;
+        listed = listed | (1 << c);
+        lines += 1;
+        here = end;
     }
+    Ok(())
 }

@@ -3,32 +3,25 @@ ghost use Rattle.std.specs.Prelude.{◌≡◌, false, [], ◌≤◌, get_or};
 ghost use Rattle.model.specs.ClaimGrammar.{most_states, most_propositions};
 ghost use Rattle.model.specs.ClaimTable.{wants_count, wants_start, wants_propositions, wants_sets, wants_inf, wants_open, wants_set, wants_close, named, go, whole, after_start, after_acceptance};
 ghost use Rattle.claim.specs.Reads.{part};
-ghost use Rattle.claim.specs.HeaderSays.{NumberSays, StringSays, ItemSays, ItemOn, StepSays, Skips, accepted, most_states_of, passed_of, kind_by, kind_of, continues, items_end, KindSays, HeaderSays};
+ghost use Rattle.claim.specs.HeaderSays.{NumberSays, StringSays, ItemSays, ItemOn, StepSays, Skips, accepted, most_states_of, passed_of, no_kind, kind_of, continues, items_end, KindSays, HeaderSays};
 
 use crate::Counts;
-use crate::tokens::{Token, claim_token, fault, is_symbol, lone_digit, name_or_token, word};
-
-// A number and the place past it; or the refusal.
-#[derive(Clone, Copy)]
-pub enum Found {
-    Is(u32, usize),
-    Fault(u32),
-}
+use crate::tokens::{
+    Parsed, Seen, Token, claim_token, fault, is_symbol, lone_digit, name_or_token, word,
+};
+use model::Refusal;
 
 // The number at `at`.
-pub(crate) fn number_at(text: &[u8], at: usize) -> Found
+pub(crate) fn number_at(text: &[u8], at: usize) -> Parsed<u32>
     ensures { NumberSays text.now at result }
 {
-    let v = lone_digit(text, at);
-    if v < 10 {
-        return Found::Is(v, at + 1);
+    if let Some(v) = lone_digit(text, at) {
+        return Ok((v, at + 1));
     }
-    let seen = claim_token(text, at);
-    let t = seen.token;
-    let next = seen.next;
-    match t {
-        Token::Number(w) => Found::Is(w, next),
-        _ => Found::Fault(fault(t)),
+    let Seen { token, next } = claim_token(text, at);
+    match token {
+        Token::Number(v) => Ok((v, next)),
+        _ => Err(fault(token)),
     }
 }
 
@@ -42,40 +35,16 @@ pub struct Given {
     pub acceptance: bool,
 }
 
-// What an item gives with those before it and the place past it; or the refusal.
-#[derive(Clone, Copy)]
-pub enum Header {
-    Read(Given, usize),
-    Fault(u32),
-}
-
 // After States: the count.
-fn states_item(text: &[u8], at: usize, g: Given) -> Header
+fn states_item(text: &[u8], at: usize, g: Given) -> Parsed<Given>
     requires { g.states ≡ 0 }
     ensures { ItemSays text.now wants_count whole at g result }
 {
-    let found = number_at(text, at);
-    match found {
-        Found::Fault(k) => Header::Fault(k),
-        Found::Is(n, next) => {
-            if (1 <= n)
-                & (n <= Counts::MOST_STATES)
-                & ((Counts::MOST_STATES <= g.start) | (g.start < n))
-            {
-                return Header::Read(
-                    Given {
-                        states: n,
-                        start: g.start,
-                        count: g.count,
-                        named: g.named,
-                        acceptance: g.acceptance,
-                    },
-                    next,
-                );
-            }
-            Header::Fault(15)
-        }
+    let (n, next) = number_at(text, at)?;
+    if (1 <= n) & (n <= Counts::MOST_STATES) & ((Counts::MOST_STATES <= g.start) | (g.start < n)) {
+        return Ok((Given { states: n, ..g }, next));
     }
+    Err(Refusal::ClaimGrammar)
 }
 
 // How many states there may be: the count, once it is given.
@@ -90,209 +59,150 @@ fn most_states(g: Given) -> u32
 }
 
 // After Start: the state.
-fn start_item(text: &[u8], at: usize, g: Given) -> Header
+fn start_item(text: &[u8], at: usize, g: Given) -> Parsed<Given>
     requires { most_states ≤ g.start }
     ensures { ItemSays text.now wants_start after_start at g result }
 {
-    let found = number_at(text, at);
-    match found {
-        Found::Fault(k) => Header::Fault(k),
-        Found::Is(n, next) => {
-            if n < most_states(g) {
-                return Header::Read(
-                    Given {
-                        states: g.states,
-                        start: n,
-                        count: g.count,
-                        named: g.named,
-                        acceptance: g.acceptance,
-                    },
-                    next,
-                );
-            }
-            Header::Fault(15)
-        }
+    let (n, next) = number_at(text, at)?;
+    if n < most_states(g) {
+        return Ok((Given { start: n, ..g }, next));
     }
-}
-
-// The place past a piece; or the refusal.
-#[derive(Clone, Copy)]
-pub enum Past {
-    To(usize),
-    Fault(u32),
+    Err(Refusal::ClaimGrammar)
 }
 
 // After Acceptance: 1 Inf(0 the closing bracket.
-fn close_on(text: &[u8], at: usize) -> Past
+fn close_on(text: &[u8], at: usize) -> Result<usize, Refusal>
     ensures { StepSays text.now wants_close accepted at result }
 {
-    let seen = claim_token(text, at);
-    let t = seen.token;
-    let next = seen.next;
-    if is_symbol(t, b')') {
-        return Past::To(next);
+    let Seen { token, next } = claim_token(text, at);
+    if is_symbol(token, b')') {
+        return Ok(next);
     }
-    Past::Fault(fault(t))
+    Err(fault(token))
 }
 
 // After Acceptance: 1 Inf( the set 0, and on.
-fn set_on(text: &[u8], at: usize) -> Past
+fn set_on(text: &[u8], at: usize) -> Result<usize, Refusal>
     ensures { StepSays text.now wants_set accepted at result }
 {
-    let seen = claim_token(text, at);
-    let t = seen.token;
-    let next = seen.next;
-    match t {
+    let Seen { token, next } = claim_token(text, at);
+    match token {
         Token::Number(v) => {
             if v == 0 {
                 return close_on(text, next);
             }
-            Past::Fault(16)
+            Err(Refusal::NotTaken)
         }
         _ => {
-            if is_symbol(t, b'!') {
-                return Past::Fault(16);
+            if is_symbol(token, b'!') {
+                return Err(Refusal::NotTaken);
             }
-            Past::Fault(fault(t))
+            Err(fault(token))
         }
     }
 }
 
 // After Acceptance: 1 Inf the opening bracket, and on.
-fn open_on(text: &[u8], at: usize) -> Past
+fn open_on(text: &[u8], at: usize) -> Result<usize, Refusal>
     ensures { StepSays text.now wants_open accepted at result }
 {
-    let seen = claim_token(text, at);
-    let t = seen.token;
-    let next = seen.next;
-    if is_symbol(t, b'(') {
+    let Seen { token, next } = claim_token(text, at);
+    if is_symbol(token, b'(') {
         return set_on(text, next);
     }
-    Past::Fault(fault(t))
+    Err(fault(token))
 }
 
 // After Acceptance: 1 the name Inf, and on.
-fn inf_on(text: &[u8], at: usize) -> Past
+fn inf_on(text: &[u8], at: usize) -> Result<usize, Refusal>
     ensures { StepSays text.now wants_inf accepted at result }
 {
-    let seen = claim_token(text, at);
-    let t = seen.token;
-    let next = seen.next;
-    match t {
+    let Seen { token, next } = claim_token(text, at);
+    match token {
         Token::Name(a, e) => {
             if word(text, a, e, b"Inf") {
                 return open_on(text, next);
             }
-            Past::Fault(16)
+            Err(Refusal::NotTaken)
         }
         _ => {
-            if is_symbol(t, b'(') {
-                return Past::Fault(16);
+            if is_symbol(token, b'(') {
+                return Err(Refusal::NotTaken);
             }
-            Past::Fault(fault(t))
+            Err(fault(token))
         }
     }
 }
 
 // After Acceptance: the number of sets, 1, and on.
-fn sets_on(text: &[u8], at: usize) -> Past
+fn sets_on(text: &[u8], at: usize) -> Result<usize, Refusal>
     ensures { StepSays text.now wants_sets accepted at result }
 {
-    let found = number_at(text, at);
-    match found {
-        Found::Fault(k) => Past::Fault(k),
-        Found::Is(n, next) => {
-            if n == 1 {
-                return inf_on(text, next);
-            }
-            Past::Fault(16)
-        }
+    let (n, next) = number_at(text, at)?;
+    if n == 1 {
+        return inf_on(text, next);
     }
+    Err(Refusal::NotTaken)
 }
 
 // After Acceptance: what is taken, 1 Inf(0).
-fn acceptance_item(text: &[u8], at: usize, g: Given) -> Header
+fn acceptance_item(text: &[u8], at: usize, g: Given) -> Parsed<Given>
     ensures { ItemSays text.now wants_sets after_acceptance at g result }
 {
-    let past = sets_on(text, at);
-    match past {
-        Past::Fault(k) => Header::Fault(k),
-        Past::To(next) => Header::Read(
-            Given {
-                states: g.states,
-                start: g.start,
-                count: g.count,
-                named: g.named,
-                acceptance: true,
-            },
-            next,
-        ),
-    }
+    let next = sets_on(text, at)?;
+    Ok((
+        Given {
+            acceptance: true,
+            ..g
+        },
+        next,
+    ))
 }
 
 // Past the string at `at`.
-fn string_at(text: &[u8], at: usize) -> Past
+fn string_at(text: &[u8], at: usize) -> Result<usize, Refusal>
     ensures { StringSays text.now at result }
 {
-    let seen = claim_token(text, at);
-    let t = seen.token;
-    let next = seen.next;
-    match t {
-        Token::Text(_, _) => Past::To(next),
-        _ => Past::Fault(fault(t)),
+    let Seen { token, next } = claim_token(text, at);
+    match token {
+        Token::Text(_, _) => Ok(next),
+        _ => Err(fault(token)),
     }
 }
 
 // After AP: and the count, the names.
-fn names_on(text: &[u8], at: usize, count: u32, g: Given) -> Header
+fn names_on(text: &[u8], at: usize, count: u32, g: Given) -> Parsed<Given>
     requires count_le_most_propositions { count ≤ most_propositions }
     requires named_value { g.named ≡ false }
     ensures { ItemOn text.now (λ is. go (named is count [])) whole at g result }
 {
-    let mut left = count;
     let mut here = at;
-    while 0 < left {
-        let past = string_at(text, here);
-        match past {
-            Past::Fault(k) => {
-                return Header::Fault(k);
-            }
-            Past::To(next) => {
-                here = next;
-                left -= 1;
-            }
-        }
+    for _ in 0..count {
+        here = string_at(text, here)?;
     }
-    Header::Read(
+    Ok((
         Given {
-            states: g.states,
-            start: g.start,
-            count: count,
+            count,
             named: true,
-            acceptance: g.acceptance,
+            ..g
         },
         here,
-    )
+    ))
 }
 
 // After AP: the count and the names.
-fn propositions_item(text: &[u8], at: usize, g: Given) -> Header
+fn propositions_item(text: &[u8], at: usize, g: Given) -> Parsed<Given>
     requires { g.named ≡ false }
     ensures { ItemSays text.now wants_propositions whole at g result }
 {
-    let found = number_at(text, at);
-    match found {
-        Found::Fault(k) => Header::Fault(k),
-        Found::Is(n, next) => {
-            if n <= Counts::MOST_PROPOSITIONS {
-                return names_on(text, next, n, g);
-            }
-            Header::Fault(15)
-        }
+    let (n, next) = number_at(text, at)?;
+    if n <= Counts::MOST_PROPOSITIONS {
+        return names_on(text, next, n, g);
     }
+    Err(Refusal::ClaimGrammar)
 }
 
-// What a header's name asks for; or the refusal.
+// What a header's name asks for.
 #[derive(Clone, Copy)]
 pub enum Kind {
     States,
@@ -300,7 +210,6 @@ pub enum Kind {
     Propositions,
     Acceptance,
     Skipped,
-    Fault(u32),
 }
 
 // The byte at `a`, 0 if that is not before `e`.
@@ -335,83 +244,81 @@ fn skipped_end(text: &[u8], at: usize) -> usize
 {
     let mut here = at;
     loop {
-        let seen = name_or_token(text, here);
-        let t = seen.token;
-        let next = seen.next;
-        if !is_passed(text, t) {
+        let Seen { token, next } = name_or_token(text, here);
+        if !is_passed(text, token) {
             return here;
         }
         here = next;
     }
 }
 
-// By its first byte, no small letter, a name that is none of the format's.
-fn kind_by(b: u8) -> Kind
-    ensures { result ≡ kind_by b }
+// The refusal for a name that is none of the format's, by its first byte, no small letter.
+fn no_kind(b: u8) -> Refusal
+    ensures { result ≡ no_kind b }
 {
     if (b'A' <= b) & (b <= b'Z') {
-        return Kind::Fault(16);
+        Refusal::NotTaken
+    } else {
+        Refusal::ClaimGrammar
     }
-    Kind::Fault(15)
 }
 
 // Small letters first: no name of the format's begins with one.
-fn kind_of(text: &[u8], a: usize, e: usize) -> Kind
+fn kind_of(text: &[u8], a: usize, e: usize) -> Result<Kind, Refusal>
     ensures { result ≡ kind_of (part text.now a e) }
 {
     let b = first_byte(text, a, e);
     if (b'a' <= b) & (b <= b'z') {
-        return Kind::Skipped;
+        return Ok(Kind::Skipped);
     }
     if word(text, a, e, b"HOA") {
-        return Kind::Fault(15);
+        return Err(Refusal::ClaimGrammar);
     }
     if word(text, a, e, b"States") {
-        return Kind::States;
+        return Ok(Kind::States);
     }
     if word(text, a, e, b"Start") {
-        return Kind::Start;
+        return Ok(Kind::Start);
     }
     if word(text, a, e, b"AP") {
-        return Kind::Propositions;
+        return Ok(Kind::Propositions);
     }
     if word(text, a, e, b"Acceptance") {
-        return Kind::Acceptance;
+        return Ok(Kind::Acceptance);
     }
-    kind_by(b)
+    Err(no_kind(b))
 }
 
 // After a header's name, what it asks for: once, unless it is skipped.
-fn item(text: &[u8], at: usize, g: Given, kind: Kind) -> Header
+fn item(text: &[u8], at: usize, g: Given, kind: Kind) -> Parsed<Given>
     ensures { KindSays text.now kind at g result }
 {
     match kind {
-        Kind::Fault(k) => Header::Fault(k),
         Kind::States => {
             if 0 < g.states {
-                return Header::Fault(15);
+                return Err(Refusal::ClaimGrammar);
             }
             states_item(text, at, g)
         }
         Kind::Start => {
             if g.start < Counts::MOST_STATES {
-                return Header::Fault(16);
+                return Err(Refusal::NotTaken);
             }
             start_item(text, at, g)
         }
         Kind::Propositions => {
             if g.named {
-                return Header::Fault(15);
+                return Err(Refusal::ClaimGrammar);
             }
             propositions_item(text, at, g)
         }
         Kind::Acceptance => {
             if g.acceptance {
-                return Header::Fault(15);
+                return Err(Refusal::ClaimGrammar);
             }
             acceptance_item(text, at, g)
         }
-        Kind::Skipped => Header::Read(g, skipped_end(text, at)),
+        Kind::Skipped => Ok((g, skipped_end(text, at))),
     }
 }
 
@@ -427,27 +334,27 @@ fn continues(last: Kind, t: Token) -> bool
 }
 
 // What the items come to at a token that begins no other.
-fn items_end(t: Token, next: usize, g: Given, last: Kind) -> Header
+fn items_end(t: Token, next: usize, g: Given, last: Kind) -> Parsed<Given>
     ensures { result ≡ items_end t next g last }
 {
     match t {
         Token::Body => {
             if (0 < g.states) & (g.start < Counts::MOST_STATES) & g.acceptance {
-                return Header::Read(g, next);
+                return Ok((g, next));
             }
-            Header::Fault(15)
+            Err(Refusal::ClaimGrammar)
         }
         _ => {
             if continues(last, t) {
-                return Header::Fault(16);
+                return Err(Refusal::NotTaken);
             }
-            Header::Fault(fault(t))
+            Err(fault(t))
         }
     }
 }
 
 // The header from `at` on, past the version, up to past --BODY--.
-pub(crate) fn header_at(text: &[u8], at: usize) -> Header
+pub(crate) fn header_at(text: &[u8], at: usize) -> Parsed<Given>
     ensures { HeaderSays text.now at result }
 {
     let mut g = Given {
@@ -461,19 +368,11 @@ pub(crate) fn header_at(text: &[u8], at: usize) -> Header
     let mut last = Kind::Skipped;
     let mut here = at;
     loop {
-        let seen = claim_token(text, here);
-        let t = seen.token;
-        let next = seen.next;
-        let Token::Header(a, e) = t else {
-            return items_end(t, next, g, last);
+        let Seen { token, next } = claim_token(text, here);
+        let Token::Header(a, e) = token else {
+            return items_end(token, next, g, last);
         };
-        let kind = kind_of(text, a, e);
-        let read = item(text, next, g, kind);
-        let Header::Read(h, n) = read else {
-            return read;
-        };
-        g = h;
-        last = kind;
-        here = n;
+        last = kind_of(text, a, e)?;
+        (g, here) = item(text, next, g, last)?;
     }
 }

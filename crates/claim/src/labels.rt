@@ -7,8 +7,9 @@ ghost use Rattle.claim.specs.LabelSays.{TruthOf, repeated_of, complement_of, int
 ghost use Rattle.claim.specs.Reads.{claim_tokens, Sign, starts, AtomRead, AndRead, OrRead, negated_of, Closed, LabelSays, constant_if, PropositionRead, no_atom_of};
 
 use crate::tokens::{
-    Token, byte_at, claim_token, fault, lone_digit, lone_letter, past_blanks, word,
+    Parsed, Seen, Token, byte_at, claim_token, fault, lone_digit, lone_letter, past_blanks, word,
 };
+use model::Refusal;
 
 // A set of flag values, 0 to 255: value v is bit v of `a`, bit v - 64 of `b`, bit v - 128 of `c`, bit v - 192 of `d`.
 #[derive(Clone, Copy)]
@@ -21,13 +22,6 @@ pub struct Values {
 
 // A word with every bit.
 pub(crate) const ALL: u64 = 0xFFFF_FFFF_FFFF_FFFF;
-
-// The flag values on which a piece of a label holds and the place past it; or the refusal.
-#[derive(Clone, Copy)]
-pub enum Truth {
-    Is(Values, usize),
-    Fault(u32),
-}
 
 const DEEPEST: usize = 16;
 
@@ -103,99 +97,86 @@ fn flagged(i: u32) -> Values
 }
 
 // A piece of a label after negations, whether they are odd in number.
-fn negated(l: Truth, odd: bool) -> Truth
+fn negated(l: Parsed<Values>, odd: bool) -> Parsed<Values>
     ensures { result ≡ negated_of odd l }
 {
-    match l {
-        Truth::Fault(k) => Truth::Fault(k),
-        Truth::Is(w, n) => {
-            if odd {
-                return Truth::Is(complement(w), n);
-            }
-            l
-        }
+    let (w, n) = l?;
+    if odd {
+        return Ok((complement(w), n));
     }
+    Ok((w, n))
 }
 
 // What the inside of a bracket or a label comes to, once its end, `b`, is looked at.
-fn closed(text: &[u8], l: Truth, b: u8) -> Truth
+fn closed(text: &[u8], l: Parsed<Values>, b: u8) -> Parsed<Values>
     requires { Sign b }
     ensures { Closed text.now b l result }
 {
-    match l {
-        Truth::Fault(k) => Truth::Fault(k),
-        Truth::Is(w, e) => {
-            if byte_at(text, e) == b {
-                return Truth::Is(w, past_blanks(text, e + 1));
-            }
-            let seen = claim_token(text, e);
-            let t = seen.token;
-            Truth::Fault(fault(t))
-        }
+    let (w, e) = l?;
+    if byte_at(text, e) == b {
+        return Ok((w, past_blanks(text, e + 1)));
     }
+    Err(fault(claim_token(text, e).token))
 }
 
 // A name as an atom: t, f or none.
-fn constant(always: bool, never: bool, next: usize) -> Truth
+fn constant(always: bool, never: bool, next: usize) -> Parsed<Values>
     ensures { result ≡ constant_if always never next }
 {
     if always {
-        return Truth::Is(repeated(ALL), next);
+        return Ok((repeated(ALL), next));
     }
     if never {
-        return Truth::Is(repeated(0), next);
+        return Ok((repeated(0), next));
     }
-    Truth::Fault(15)
+    Err(Refusal::ClaimGrammar)
 }
 
 // The proposition `i`.
-fn proposition(i: u32, count: u32, next: usize) -> Truth
+fn proposition(i: u32, count: u32, next: usize) -> Parsed<Values>
     requires { count ≤ most_propositions }
     ensures { PropositionRead i count next result }
 {
     if i < count {
-        return Truth::Is(flagged(i), next);
+        return Ok((flagged(i), next));
     }
-    Truth::Fault(15)
+    Err(Refusal::ClaimGrammar)
 }
 
 // The refusal for a token that begins no atom.
-fn no_atom(t: Token) -> u32
+fn no_atom(t: Token) -> Refusal
     ensures { result ≡ no_atom_of t }
 {
     match t {
-        Token::Alias | Token::Comment => 16,
-        _ => 15,
+        Token::Alias | Token::Comment => Refusal::NotTaken,
+        _ => Refusal::ClaimGrammar,
     }
 }
 
 // The atom at `at`, where neither a negation nor a bracket begins.
-fn leaf(text: &[u8], at: usize, count: u32) -> Truth
+fn leaf(text: &[u8], at: usize, count: u32) -> Parsed<Values>
     requires count_le_most_propositions { count ≤ most_propositions }
     requires at_value { starts not_byte (claim_tokens text.now at) ≡ false }
     requires at_value_2 { starts open_byte (claim_tokens text.now at) ≡ false }
     ensures { (deep : ℕ) → AtomRead text.now count deep at result }
 {
-    let v = lone_digit(text, at);
-    if v < 10 {
-        return proposition(v, count, past_blanks(text, at + 1));
+    if let Some(i) = lone_digit(text, at) {
+        return proposition(i, count, past_blanks(text, at + 1));
     }
-    let b = lone_letter(text, at);
-    if b != 0 {
+    if let Some(b) = lone_letter(text, at) {
         return constant(b == b't', b == b'f', past_blanks(text, at + 1));
     }
-    let seen = claim_token(text, at);
-    let t = seen.token;
-    let past = past_blanks(text, seen.next);
-    match t {
+    let Seen { token, next } = claim_token(text, at);
+    let past = past_blanks(text, next);
+    match token {
         Token::Name(a, e) => constant(word(text, a, e, b"t"), word(text, a, e, b"f"), past),
         Token::Number(i) => proposition(i, count, past),
-        _ => Truth::Fault(no_atom(t)),
+        _ => Err(no_atom(token)),
     }
 }
 
 #[cycle(and_level_atom_or_level)]
-fn atom(text: &[u8], at: usize, deep: usize, count: u32) -> Truth
+fn atom(text: &[u8], at: usize, deep: usize, count: u32) -> Parsed<Values>
     requires { count ≤ most_propositions }
     ensures { AtomRead text.now count deep at result }
 {
@@ -204,7 +185,7 @@ fn atom(text: &[u8], at: usize, deep: usize, count: u32) -> Truth
     let mut odd = false;
     while byte_at(text, here) == b'!' {
         if DEEPEST <= down {
-            return Truth::Fault(15);
+            return Err(Refusal::ClaimGrammar);
         }
         here = past_blanks(text, here + 1);
         down += 1;
@@ -214,54 +195,48 @@ fn atom(text: &[u8], at: usize, deep: usize, count: u32) -> Truth
         return negated(leaf(text, here, count), odd);
     }
     if DEEPEST <= down {
-        return Truth::Fault(15);
+        return Err(Refusal::ClaimGrammar);
     }
     let inside = or_level(text, here + 1, down + 1, count);
     negated(closed(text, inside, b')'), odd)
 }
 
 #[cycle(and_level_atom_or_level)]
-fn and_level(text: &[u8], at: usize, deep: usize, count: u32) -> Truth
+fn and_level(text: &[u8], at: usize, deep: usize, count: u32) -> Parsed<Values>
     requires { count ≤ most_propositions }
     ensures { AndRead text.now count deep at result }
 {
     let mut values = repeated(ALL);
     let mut here = at;
     loop {
-        let more = atom(text, here, deep, count);
-        let Truth::Is(w, e) = more else {
-            return more;
-        };
+        let (w, e) = atom(text, here, deep, count)?;
         values = intersection(values, w);
         if byte_at(text, e) != b'&' {
-            return Truth::Is(values, e);
+            return Ok((values, e));
         }
         here = e + 1;
     }
 }
 
 #[cycle(and_level_atom_or_level)]
-fn or_level(text: &[u8], at: usize, deep: usize, count: u32) -> Truth
+fn or_level(text: &[u8], at: usize, deep: usize, count: u32) -> Parsed<Values>
     requires { count ≤ most_propositions }
     ensures { OrRead text.now count deep at result }
 {
     let mut values = repeated(0);
     let mut here = at;
     loop {
-        let more = and_level(text, here, deep, count);
-        let Truth::Is(w, e) = more else {
-            return more;
-        };
+        let (w, e) = and_level(text, here, deep, count)?;
         values = union(values, w);
         if byte_at(text, e) != b'|' {
-            return Truth::Is(values, e);
+            return Ok((values, e));
         }
         here = e + 1;
     }
 }
 
 // The label from `at` on, past its [, and the place past its ] and the blanks there.
-pub(crate) fn label(text: &[u8], at: usize, count: u32) -> Truth
+pub(crate) fn label(text: &[u8], at: usize, count: u32) -> Parsed<Values>
     requires { count ≤ most_propositions }
     ensures { LabelSays text.now count at result }
 {

@@ -13,10 +13,10 @@ mod header;
 mod labels;
 mod tokens;
 
-use crate::body::{Whole, read_body};
-use crate::header::{Header, Past, header_at};
-use crate::tokens::{Token, fault, token_at, word};
-use model::Claimed;
+use crate::body::read_body;
+use crate::header::header_at;
+use crate::tokens::{Seen, Token, fault, token_at, word};
+use model::{Claimed, Refusal};
 
 // The counts of a claim.
 #[derive(Clone, Copy)]
@@ -48,79 +48,62 @@ impl Counts {
     pub const MOVES: usize = 60;
 }
 
-// What a text is as a claim: its refusal, or its counts.
-#[derive(Clone, Copy)]
-pub enum Judged {
-    Refused(u32),
-    Accepted(Counts),
-}
-
 // Past the name v1 at `at`.
-fn version(text: &[u8], at: usize, limit: usize) -> Past
+fn version(text: &[u8], at: usize, limit: usize) -> Result<usize, Refusal>
     ensures { VersionSays text.now limit at result }
 {
-    let seen = token_at(text, at, limit);
-    let t = seen.token;
-    let next = seen.next;
-    match t {
+    let Seen { token, next } = token_at(text, at, limit);
+    match token {
         Token::Name(a, e) => {
             if word(text, a, e, b"v1") {
-                return Past::To(next);
+                return Ok(next);
             }
-            Past::Fault(15)
+            Err(Refusal::ClaimGrammar)
         }
-        _ => Past::Fault(fault(t)),
+        _ => Err(fault(token)),
     }
 }
 
 // Past the tokens `HOA:` and v1, of a text of which `limit` bytes are looked at.
-fn opening(text: &[u8], limit: usize) -> Past
+fn opening(text: &[u8], limit: usize) -> Result<usize, Refusal>
     ensures { OpeningSays text.now limit result }
 {
-    let seen = token_at(text, 0, limit);
-    let t = seen.token;
-    let next = seen.next;
-    match t {
+    let Seen { token, next } = token_at(text, 0, limit);
+    match token {
         Token::Header(a, e) => {
             if word(text, a, e, b"HOA") {
                 return version(text, next, limit);
             }
-            Past::Fault(15)
+            Err(Refusal::ClaimGrammar)
         }
-        _ => Past::Fault(fault(t)),
+        _ => Err(fault(token)),
     }
 }
 
 // Reads a text that opens rightly into cells that are all zeros.
-fn read_opened(text: &[u8], cells: &mut [u32]) -> Judged
+fn read_opened(text: &[u8], cells: &mut [u32]) -> Result<Counts, Refusal>
     requires text_value { opens text.now ≡ true }
     requires claim_cells_in_bounds { claim_cells ≤ length cells.old }
     ensures { TextRead text.now result cells.old cells.new }
 {
-    match opening(text, Counts::LONGEST) {
-        Past::Fault(k) => Judged::Refused(k),
-        Past::To(items) => match header_at(text, items) {
-            Header::Fault(k) => Judged::Refused(k),
-            Header::Read(g, lines) => match read_body(text, lines, g.states, g.count, cells) {
-                Whole::Refused(k) => Judged::Refused(k),
-                Whole::Taken => Judged::Accepted(Counts {
-                    states: g.states,
-                    start: g.start,
-                    propositions: g.count,
-                }),
-            },
-        },
-    }
+    let items = opening(text, Counts::LONGEST)?;
+    let (g, lines) = header_at(text, items)?;
+    read_body(text, lines, g.states, g.count, cells)?;
+    Ok(Counts {
+        states: g.states,
+        start: g.start,
+        propositions: g.count,
+    })
 }
 
 // The same of any text: "14, the text does not open with the tokens `HOA:` and v1", however long it is.
-fn read_text(text: &[u8], cells: &mut [u32]) -> Judged
+fn read_text(text: &[u8], cells: &mut [u32]) -> Result<Counts, Refusal>
     requires { claim_cells ≤ length cells.old }
     ensures { TextRead text.now result cells.old cells.new }
 {
     match opening(text, text.len()) {
-        Past::Fault(_) => Judged::Refused(14),
-        Past::To(_) => read_opened(text, cells),
+        Err(_) => Err(Refusal::NoClaim),
+        Ok(_) => read_opened(text, cells),
     }
 }
 
@@ -135,26 +118,25 @@ fn clear(cells: &mut [u32])
 }
 
 // Reads into cells that have room, all zeros before; after a refusal they are so again.
-fn read_into(text: &[u8], cells: &mut [u32]) -> Judged
+fn read_into(text: &[u8], cells: &mut [u32]) -> Result<Counts, Refusal>
     requires claim_cells_in_bounds { claim_cells ≤ length cells.old }
     requires cells_value { cells.old ≡ replicate (length cells.old) 0 }
     ensures { IntoSays text.now result cells.new }
 {
     let judged = read_text(text, cells);
-    let Judged::Refused(_) = judged else {
-        return judged;
-    };
-    clear(cells);
+    if judged.is_err() {
+        clear(cells);
+    }
     judged
 }
 
 // Judges a whole text as a claim, and puts the claim into the first cells, if they have room for it; the rest are zeros.
-pub fn read_claim(text: &[u8], cells: &mut [u32]) -> Judged
+pub fn read_claim(text: &[u8], cells: &mut [u32]) -> Result<Counts, Refusal>
     ensures { ClaimRead text.now result cells.old cells.new }
 {
     clear(cells);
     if cells.len() < Counts::CELLS {
-        let mut own = [0u32; 3900];
+        let mut own = [0u32; Counts::CELLS];
         return read_into(text, &mut own);
     }
     read_into(text, &mut cells[..Counts::CELLS])
@@ -176,7 +158,7 @@ fn copy(cells: &[u32], at: usize, part: &mut [u32])
 pub fn describe_claim(text: &[u8]) -> Claimed
     ensures { ClaimSays text.now result }
 {
-    let mut cells = [0u32; 3900];
+    let mut cells = [0u32; Counts::CELLS];
     let mut accepting = [0u32; 15];
     let mut name_at = [0u32; 15];
     let mut name_length = [0u32; 15];
@@ -185,8 +167,8 @@ pub fn describe_claim(text: &[u8]) -> Claimed
     copy(&cells, Counts::NAMES, &mut name_at);
     copy(&cells, Counts::LENGTHS, &mut name_length);
     match judged {
-        Judged::Refused(k) => Claimed {
-            refusal: k,
+        Err(r) => Claimed {
+            refusal: r.number(),
             states: 0,
             start: 0,
             propositions: 0,
@@ -194,7 +176,7 @@ pub fn describe_claim(text: &[u8]) -> Claimed
             name_at: name_at,
             name_length: name_length,
         },
-        Judged::Accepted(c) => Claimed {
+        Ok(c) => Claimed {
             refusal: 0,
             states: c.states,
             start: c.start,
@@ -211,10 +193,10 @@ pub fn describe_claim(text: &[u8]) -> Claimed
 pub fn claim_moves(text: &[u8], state: u32, values: u32) -> u32
     ensures { MovesSay text.now state values result }
 {
-    let mut cells = [0u32; 3900];
+    let mut cells = [0u32; Counts::CELLS];
     match read_into(text, &mut cells) {
-        Judged::Refused(_) => 0,
-        Judged::Accepted(c) => {
+        Err(_) => 0,
+        Ok(c) => {
             if c.states <= state {
                 return 0;
             }

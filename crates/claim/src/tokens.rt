@@ -6,6 +6,7 @@ ghost use Rattle.model.specs.ClaimTokens.{longest_claim, is_blank, is_letter, is
 ghost use Rattle.claim.specs.Reads.{part, lexed, tokens_at, claim_tokens, byte_of, LoneDigit, LoneLetter, BlanksEnd, NameEnd, Sees, is_symbol_of, fault_of};
 
 use crate::Counts;
+use model::Refusal;
 
 // A token: names, headers and strings by where their bytes begin and end. Done is the text's end.
 #[derive(Clone, Copy)]
@@ -29,6 +30,9 @@ pub struct Seen {
     pub token: Token,
     pub next: usize,
 }
+
+// What was read and the place past it; or the refusal.
+pub(crate) type Parsed<T> = Result<(T, usize), Refusal>;
 
 const NUMBER_END: u64 = 2147483648;
 
@@ -392,34 +396,34 @@ pub(crate) fn name_or_token(text: &[u8], at: usize) -> Seen
     claim_token(text, e)
 }
 
-// The number at `at` of a claim, where it has one digit and a byte follows it; else 10, which says nothing.
-pub(crate) fn lone_digit(text: &[u8], at: usize) -> u32
+// The number at `at` of a claim, where it has one digit and a byte follows it; `None` says nothing.
+pub(crate) fn lone_digit(text: &[u8], at: usize) -> Option<u32>
     ensures { LoneDigit text.now at result }
 {
     let b = byte_at(text, at);
     if !digit(b) {
-        return 10;
+        return None;
     }
     let next = byte_at(text, at + 1);
     if (next == 0) | digit(next) {
-        return 10;
+        return None;
     }
-    (b - b'0') as u32
+    Some((b - b'0') as u32)
 }
 
-// The name at `at` of a claim, where it has one letter and a byte follows it; else 0, which says nothing.
-pub(crate) fn lone_letter(text: &[u8], at: usize) -> u8
+// The name at `at` of a claim, where it has one letter and a byte follows it; `None` says nothing.
+pub(crate) fn lone_letter(text: &[u8], at: usize) -> Option<u8>
     ensures { LoneLetter text.now at result }
 {
     let b = byte_at(text, at);
     if !letter(b) {
-        return 0;
+        return None;
     }
     let next = byte_at(text, at + 1);
     if (next == 0) | ((next == b':') | name_byte(next)) {
-        return 0;
+        return None;
     }
-    b
+    Some(b)
 }
 
 // Whether a token is this symbol.
@@ -433,12 +437,12 @@ pub(crate) fn is_symbol(t: Token, b: u8) -> bool
 }
 
 // The refusal for a token that is not taken.
-pub(crate) fn fault(t: Token) -> u32
+pub(crate) fn fault(t: Token) -> Refusal
     ensures { result ≡ fault_of t }
 {
     match t {
-        Token::Comment => 16,
-        _ => 15,
+        Token::Comment => Refusal::NotTaken,
+        _ => Refusal::ClaimGrammar,
     }
 }
 

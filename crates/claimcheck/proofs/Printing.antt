@@ -1,15 +1,13 @@
 -- From what the reader of claims says to what is printed. Assumes nothing.
-use mathlib.Core.Path.{◌≡◌, refl, sym, ap, subst, ◌∙◌}
-use mathlib.Core.Bool.{Bool, true, false, cond}
+use mathlib.Core.Path.{◌≡◌, refl, sym, ap, ◌∙◌}
+use mathlib.Core.Bool.{false}
 use mathlib.Core.List.{List, [], ◌∷◌, ◌++◌, append_assoc}
 use mathlib.Core.Option.{Option, none, some}
 use Prim.Native.Nat.{ℕ, suc, ◌+◌, ◌*◌, ◌-◌, ◌≤◌, ◌<◌}
 use native.Mathlib.Nat.{add-zero, zero-add}
 use native.Mathlib.Omega.{arith}
-use lib.Dec.{eqb}
 use lib.ListN.{length, get_or, take, drop, length-append}
 use lib.Seq.{take-suc, take_all, length-take-le}
-use borrow.Author.Tests.{eqb-true}
 use Rattle.text.specs.Ascii.{ascii, space, line_feed}
 use Rattle.text.specs.Lines.{joined, text}
 use Rattle.text.specs.Numbers.{decimal}
@@ -24,10 +22,15 @@ use Rattle.model.specs.ClaimEntry.{mark_of, NameAt}
 use Rattle.model.specs.ClaimPromise.{ClaimsRight}
 use Rattle.model.proofs.ClaimWhole.{claims_right}
 use Rattle.claim.specs.Cells.{name_cell, length_cell, claim_cells}
-use Rattle.claim.specs.Judging.{counts_of, judged_claim, ClaimRead}
+use Rattle.claim.specs.Judging.{counts_of, ClaimRead}
 use Rattle.claim.specs.declared.Counts.{Counts}
-use Rattle.claim.specs.declared.Judged.{Judged}
-use Rattle.claim.specs.declared.Judged.TheVariants.{Refused, Accepted}
+use Rattle.std.specs.Prelude.{Result, Ok, Err}
+use Rattle.model.specs.Refusals.{number}
+use Rattle.model.specs.declared.refusal.Refusal.{Refusal}
+use Rattle.model.specs.ClaimTable.{claim_told, refused}
+use Rattle.model.proofs.ClaimDefinite.{refused_some}
+use Rattle.claim.proofs.EntryCode.{SomeClaim, judged_by}
+use borrow.Author.Tests.{ne_eqb}
 use Rattle.desk.specs.Lines.{refused_line, refused_parts, Shows}
 use Rattle.desk.proofs.Writing.{puts_shows, refused_puts, refused_short}
 use Rattle.claimcheck.specs.Printing.{name_fields, state_row, state_rows, count_names, state_names, count_row, claim_lines, printed, name_end, head_lines, ClaimThere, page_room}
@@ -226,31 +229,26 @@ claim_short k h =
     )
 
 -- WHAT THE READER SAYS
-abbrev Says : (text : List ℕ) → Judged → Type 0
-Says bs (Refused j) = printed bs ≡ refused_line j
-Says bs (Accepted n) = (claim_refusal bs ≡ 0) × (n ≡ counts_of (claim_in bs)) × (printed bs ≡ claim_lines (claim_in bs))
+print_refused : (bs : List ℕ) (k : ℕ) → claim_told bs ≡ refused k → k ≡ claim_refusal bs → printed bs ≡ refused_line k
+unfolding printed
+print_refused bs k t e = rw (sym e, ne_eqb k 0 (refused_some bs k t)) refl
 
-judged_says : (bs : List ℕ) → Says bs (judged_claim bs)
-unfolding judged_claim
-judged_says bs = go (eqb (claim_refusal bs) 0) refl
-  where
-    go : (b : Bool) → eqb (claim_refusal bs) 0 ≡ b → Says bs (cond b (Accepted (counts_of (claim_in bs))) (Refused (claim_refusal bs)))
-    go true e = (eqb-true (claim_refusal bs) 0 e, refl, unfold printed in (rw e refl))
-    go false e = unfold printed in (rw e refl)
+print_taken : (bs : List ℕ) → claim_refusal bs ≡ 0 → printed bs ≡ claim_lines (claim_in bs)
+unfolding printed
+print_taken bs e = rw e refl
 
-module _ (bs : List ℕ) {r : Judged} {cells cells_now : List ℕ} (h : ClaimRead bs r cells cells_now) where
-  says : (x : Judged) → r ≡ x → Says bs x
-  says x e = subst (λ (y : Judged). Says bs y) (sym h.answer ∙ e) (judged_says bs)
+module _ (bs : List ℕ) {r : Result Counts Refusal} {cells cells_now : List ℕ} (h : ClaimRead bs r cells cells_now) where
+  pub refused_shows : (j : Refusal) → r ≡ Err j → (k : ℕ) → k ≡ number j → {n : ℕ} {o z : List ℕ} → page_room ≤ length o → Chain (refused_parts k) 0 n o z → Shows (printed bs) n z
+  refused_shows j e k q room c =
+      let u = judged_by bs r (Err j) h.answer e in
+      rw (print_refused bs k (u.told ∙ ap refused (sym q)) (q ∙ u.by_number)) (puts_shows (refused_puts k c) (omega (arith, refused_short k)))
 
-  pub refused_shows : (j : ℕ) → r ≡ Refused j → {n : ℕ} {o z : List ℕ} → page_room ≤ length o → Chain (refused_parts j) 0 n o z → Shows (printed bs) n z
-  refused_shows j e room c = rw (says (Refused j) e) (puts_shows (refused_puts j c) (omega (arith, refused_short j)))
-
-  module _ (n : Counts) (e : r ≡ Accepted n) where
-    pub counts_right : n ≡ counts_of (claim_in bs)
-    counts_right = (says (Accepted n) e).1
+  module _ (n : Counts) (e : r ≡ Ok n) where
+    taken : SomeClaim bs n
+    taken = judged_by bs r (Ok n) h.answer e
 
     pub claim_there : claim_cells ≤ length cells → length cells_now ≡ length cells → ClaimThere bs cells_now
-    claim_there room kept = record { taken = (says (Accepted n) e).0; roomy = omega arith; held = h.held room }
+    claim_there room kept = record { taken = taken.by_number; roomy = omega arith; held = h.held room }
 
     pub accepted_shows : {m : ℕ} {o z : List ℕ} → page_room ≤ length o → Puts 0 (claim_lines (claim_in bs)) m o z → Shows (printed bs) m z
-    accepted_shows room p = rw (says (Accepted n) e).2 (puts_shows p (omega (arith, claim_short (claim_in bs) (sound bs (says (Accepted n) e).0))))
+    accepted_shows room p = rw (print_taken bs taken.by_number) (puts_shows p (omega (arith, claim_short (claim_in bs) (sound bs taken.by_number))))

@@ -8,7 +8,7 @@ ghost use Rattle.claim.specs.Cells.{claim_cells};
 ghost use Rattle.desk.specs.Lines.{Shows};
 ghost use Rattle.claimcheck.specs.Printing.{page_room, printed};
 
-use claim::{Counts, Judged, read_claim};
+use claim::{Counts, read_claim};
 use desk::{ENOUGH, ErrorOutput};
 use page::write_claim;
 
@@ -21,8 +21,8 @@ fn show(text: &[u8], page: &mut [u8], cells: &mut [u32]) -> usize
     ensures { Shows (printed text.now) result page.new }
 {
     match read_claim(text, cells) {
-        Judged::Refused(k) => desk::write_refusal(page, k),
-        Judged::Accepted(counts) => write_claim(page, text, cells, counts),
+        Err(refusal) => desk::write_refusal(page, refusal.number()),
+        Ok(counts) => write_claim(page, text, cells, counts),
     }
 }
 

@@ -1,5 +1,5 @@
 // The lines of a claim: its counts, and its states out of the cells into which it was read.
-ghost use Rattle.std.specs.Prelude.{◌≡◌, [], ◌∷◌, ◌<◌, ◌^◌, length, get_or};
+ghost use Rattle.std.specs.Prelude.{◌≡◌, [], ◌∷◌, ◌<◌, length};
 ghost use Rattle.text.specs.Lines.{text as lines_of};
 ghost use Rattle.text.specs.Writing.{Puts};
 ghost use Rattle.model.specs.ClaimGrammar.{most_states};
@@ -10,24 +10,17 @@ ghost use Rattle.claimcheck.specs.Printing.{name_end, state_row, state_rows, cou
 use claim::Counts;
 use text::write::{write_byte, write_bytes, write_field, write_number};
 
-fn cell(cells: &[u32], i: usize) -> usize
-    requires { i < length cells.now }
-    ensures { (result ≡ get_or cells.now i 0) × (result < 2 ^ 32) }
-{
-    cells[i] as usize
-}
-
 // The name of state c, if it has one, behind a space; and the line's end.
 fn write_name(page: &mut [u8], at: usize, text: &[u8], cells: &[u32], c: usize) -> usize
     requires c_lt_most_states { c < most_states }
     requires claim_there { ClaimThere text.now cells.now }
     ensures { Puts at (name_end (state (claim_in text.now) c).name) result page.old page.new }
 {
-    let from = cell(cells, Counts::NAMES + c);
+    let from = cells[Counts::NAMES + c] as usize;
     if from == 0 {
         return write_byte(page, at, b'\n');
     }
-    let end = from + cell(cells, Counts::LENGTHS + c);
+    let end = from + cells[Counts::LENGTHS + c] as usize;
     let a = write_byte(page, at, b' ');
     let b = write_bytes(page, a, &text[from..end]);
     write_byte(page, b, b'\n')
@@ -49,10 +42,8 @@ fn write_states(page: &mut [u8], at: usize, text: &[u8], cells: &[u32], states: 
     ensures { Puts at (lines_of (state_rows 0 (claim_in text.now).states)) result page.old page.new }
 {
     let mut place = at;
-    let mut c: u32 = 0;
-    while c < states {
+    for c in 0..states {
         place = write_state(page, place, text, cells, c);
-        c += 1;
     }
     place
 }

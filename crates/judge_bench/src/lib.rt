@@ -6,7 +6,7 @@ ghost use Rattle.model.specs.CaseFile.{case_refusal};
 ghost use Rattle.model.specs.ClaimTable.{claim_refusal};
 
 use casefile::{Judged, judge};
-use claim::{Judged as Claimed, read_claim};
+use claim::{Counts, read_claim};
 
 #[unsafe(no_mangle)]
 pub extern "C" fn rezkundo_judge(text: &[u8]) -> u32
@@ -23,9 +23,9 @@ pub extern "C" fn rezkundo_judge(text: &[u8]) -> u32
 pub extern "C" fn rezkundo_judge_claim(text: &[u8]) -> u32
     ensures { result ≡ claim_refusal text.now }
 {
-    let mut cells = [0u32; 3900];
+    let mut cells = [0u32; Counts::CELLS];
     match read_claim(text, &mut cells) {
-        Claimed::Refused(k) => k,
-        Claimed::Accepted(_) => 0,
+        Err(refusal) => refusal.number(),
+        Ok(_) => 0,
     }
 }

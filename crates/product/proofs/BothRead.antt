@@ -1,5 +1,6 @@
 -- A chart and a claim read into their tables, and what is returned where one of them is refused. Assumes nothing.
 use mathlib.Core.Path.{◌≡◌, refl, sym, ap, ◌∙◌}
+use Rattle.std.specs.Prelude.{Result, Ok, Err}
 use mathlib.Core.Bool.{false, cond}
 use mathlib.Core.List.{List}
 use mathlib.Core.Logic.{◌⊎◌, inl, inr}
@@ -18,6 +19,9 @@ use Rattle.model.specs.Chart.{most_modes, most_flags, charted, combinations, nex
 use Rattle.model.specs.ChartPromise.{ChartDefinite, ChartsDefinite, ChartsSound}
 use Rattle.model.specs.BuiltEntry.{names_pair, BuiltSays}
 use Rattle.model.specs.declared.Charted.{Charted}
+use Rattle.model.specs.Refusals.{number}
+use Rattle.model.specs.declared.refusal.Refusal.{Refusal}
+use Rattle.model.specs.declared.refusal.Refusal.TheVariants.{ChartFault, CountsDiffer}
 use Rattle.model.proofs.Pairs.{pair_below}
 use Rattle.model.proofs.ClaimDefinite.{claims_definite}
 use Rattle.model.proofs.ClaimWhole.{claims_right}
@@ -26,17 +30,16 @@ use Rattle.model.proofs.ChartSound.{charts_sound}
 use Rattle.claim.specs.Cells.{ClaimHeld}
 use Rattle.claim.specs.Judging.{counts_of, judged_claim, ClaimRead}
 use Rattle.claim.specs.declared.Counts.{Counts}
-use Rattle.claim.specs.declared.Judged.{Judged}
-use Rattle.claim.specs.declared.Judged.TheVariants as J
 use Rattle.claim.proofs.EntryCode.{SomeClaim, judged_by}
 use Rattle.chart.specs.Pairs.{table_after, most_combinations, most_pairs, one_rule}
 use Rattle.chart.specs.Reading.{counts_in, returned, ChartRead}
 use Rattle.chart.specs.declared.Chart as D
-use Rattle.chart.specs.declared.Read.{Read}
-use Rattle.chart.specs.declared.Read.TheVariants.{Faulty, Bad, Accepted}
+use Rattle.chart.specs.declared.NoChart.{NoChart}
+use Rattle.chart.specs.declared.NoChart.TheVariants.{Fault, Bad}
 use Rattle.chart.proofs.Whole.{PassedRead, passed_read, bad_read, read_returns, handed_at}
 use Rattle.product.specs.Edges.{most_product, Leads, Asks}
-use Rattle.product.specs.Both.{refused_by, texts_refusal, BothAsks, BothHeld, BothRefused}
+use Rattle.product.specs.Refused.{refused_as, refused_by, refused_pair, refused_chart, built_as}
+use Rattle.product.specs.Both.{texts_refusal, BothAsks, BothHeld, BothRefused}
 
 -- WHICH REFUSAL of both texts comes first
 module _ (bs cs : List ℕ) where
@@ -59,14 +62,14 @@ module _ (bs cs : List ℕ) where
       by_none e = rw (eq-eqb (chart_says bs).refusal 0 passes, eq-eqb (claim_refusal cs) 0 taken, eq-eqb (claim_in cs).propositions (chart_in bs).flags e) refl
 
 -- WHAT IS RETURNED: with 18 and 19 the pair, else none
-pub plain_says : (k : ℕ) → eqb k 0 ≡ false → names_pair k ≡ false → (c : Charted) (t o : List ℕ) → BuiltSays k c t (refused_by k) o o
+pub plain_says : (k : ℕ) → eqb k 0 ≡ false → names_pair k ≡ false → (c : Charted) (t o : List ℕ) → BuiltSays k c t (built_as (Err (refused_as k))) o o
 plain_says k n p c t o = record { refusal = refl; mode = rw p refl; combination = rw p refl; written = rw n refl; output = rw n refl }
 
 pub unpaired : (k : ℕ) → (k ≡ 18 → ⊥) → (k ≡ 19 → ⊥) → names_pair k ≡ false
 unfolding names_pair
 unpaired k p q = rw (ne_eqb k 18 p, ne_eqb k 19 q) refl
 
-pair_says : (c : Charted) → ChartDefinite c → (c.refusal ≡ 0 → ⊥) → (t o : List ℕ) → BuiltSays c.refusal c t (record { refusal = c.refusal; mode = c.mode; combination = c.combination; written = 0 }) o o
+pair_says : (c : Charted) → ChartDefinite c → (c.refusal ≡ 0 → ⊥) → (t o : List ℕ) → BuiltSays c.refusal c t (built_as (Err (refused_pair c))) o o
 unfolding names_pair
 pair_says c d n t o =
     record { refusal = refl; mode = shown c.mode (λ z. (d.no_pair z).0) d.listed; combination = shown c.combination (λ z. (d.no_pair z).1) d.listed; written = rw (ne_eqb c.refusal 0 n) refl; output = rw (ne_eqb c.refusal 0 n) refl }
@@ -77,44 +80,43 @@ pair_says c d n t o =
     shown x z (inr (inr (inl e))) = unfold names_pair in (rw e refl)
     shown x z (inr (inr (inr e))) = unfold names_pair in (rw e refl)
 
-chart_refused : (bs cs : List ℕ) (c : Charted) → chart_says bs ≡ c → (c.refusal ≡ 0 → ⊥) → BothRefused bs cs (record { refusal = c.refusal; mode = c.mode; combination = c.combination; written = 0 })
+chart_refused : (bs cs : List ℕ) (c : Charted) → chart_says bs ≡ c → (c.refusal ≡ 0 → ⊥) → BothRefused bs cs (refused_pair c)
 unfolding ChartsDefinite
 chart_refused bs cs c e n =
     let k : texts_refusal bs cs ≡ c.refusal = by_chart bs cs (λ z. n (sym (ap (λ (x : Charted). x.refusal) e) ∙ z)) ∙ ap (λ (x : Charted). x.refusal) e in
     record { fails = λ z. n (sym k ∙ z); says = λ t o. rw (k, e) (pair_says c (rw e at (charts_definite bs)) n t o) }
 
-pub chart_faulty : (bs cs : List ℕ) {t t' : List ℕ} {r : Read} → ChartRead bs r t t' → r ≡ Faulty → BothRefused bs cs (refused_by 17)
+pub chart_no : (bs cs : List ℕ) (n : NoChart) {t t' : List ℕ} → ChartRead bs (Err n) t t' → BothRefused bs cs (refused_chart n)
 unfolding returned
-chart_faulty bs cs g q = chart_refused bs cs (charted 17 0 0) (sym (read_returns g q)) (λ z. omega arith)
-
-pub chart_bad : (bs cs : List ℕ) {t t' : List ℕ} {r : Read} {x : D.Chart} {c : Charted} → ChartRead bs r t t' → r ≡ Bad x c
-    → BothRefused bs cs (record { refusal = c.refusal; mode = c.mode; combination = c.combination; written = 0 })
-chart_bad bs cs {c = c} g q = let b = bad_read g q in chart_refused bs cs c b.said (not_zero b.refusal)
+chart_no bs cs Fault g = chart_refused bs cs (charted 17 0 0) (sym (read_returns g refl)) (λ z. omega arith)
+chart_no bs cs (Bad h c) g = let b = bad_read g refl in chart_refused bs cs c b.said (not_zero b.refusal)
   where
     not_zero : (c.refusal ≡ 18) ⊎ (c.refusal ≡ 19) → c.refusal ≡ 0 → ⊥
     not_zero (inl e) z = omega arith
     not_zero (inr e) z = omega arith
 
 -- AFTER AN ACCEPTED CHART
-module _ (bs cs : List ℕ) {t follow : List ℕ} {r : Read} {x : D.Chart} (g : ChartRead bs r t follow) (q : r ≡ Accepted x) {w cells : List ℕ} {j : Judged} (d : ClaimRead cs j w cells) where
+module _ (bs cs : List ℕ) {t follow : List ℕ} {x : D.Chart} (g : ChartRead bs (Ok x) t follow) where
   read : PassedRead bs x
-  read = passed_read g q
+  read = passed_read g refl
 
-  module _ {k : ℕ} (p : j ≡ J.Refused k) where
-    number : k ≡ claim_refusal cs
-    number = (judged_by cs j (J.Refused k) d.answer p).number
+  module _ {w cells : List ℕ} {k : Refusal} (d : ClaimRead cs (Err k) w cells) where
+    number_is : number k ≡ claim_refusal cs
+    number_is = (judged_by cs (Err k) (Err k) d.answer refl).by_number
 
     not_taken : claim_refusal cs ≡ 0 → ⊥
     unfolding judged_claim
     not_taken e =
-        let z : J.Accepted (counts_of (claim_in cs)) ≡ J.Refused k = sym (rw (eq-eqb (claim_refusal cs) 0 e) at d.answer) ∙ p in
-        let y : ◌≡◌ {A = ℕ} 0 1 = cc in
-        omega arith
+        let z : ◌≡◌ {A = Result Counts Refusal} (Err k) (Ok (counts_of (claim_in cs))) = rw (eq-eqb (claim_refusal cs) 0 e) at d.answer in
+        cc
 
     in_claim : 14 ≤ claim_refusal cs → claim_refusal cs ≤ 16 → BothRefused bs cs (refused_by k)
     in_claim u v =
-        let e : texts_refusal bs cs ≡ k = by_claim bs cs read.passes not_taken ∙ sym number in
-        record { fails = λ z. omega (arith, e, number); says = λ t o. rw e (plain_says k (ne_eqb k 0 (λ z. omega (arith, number))) (unpaired k (λ z. omega (arith, number)) (λ z. omega (arith, number))) (chart_says bs) t o) }
+        let e : texts_refusal bs cs ≡ number k = by_claim bs cs read.passes not_taken ∙ sym number_is in
+        record {
+          fails = λ z. omega (arith, e, number_is);
+          says = λ t o. rw e (plain_says (number k) (ne_eqb (number k) 0 (λ z. omega (arith, number_is))) (unpaired (number k) (λ z. omega (arith, number_is)) (λ z. omega (arith, number_is))) (chart_says bs) t o);
+        }
 
     pub claim_refused : BothRefused bs cs (refused_by k)
     unfolding ClaimsDefinite
@@ -126,9 +128,9 @@ module _ (bs cs : List ℕ) {t follow : List ℕ} {r : Read} {x : D.Chart} (g : 
         go (inr (inr (inl e))) = in_claim (omega arith) (omega arith)
         go (inr (inr (inr e))) = in_claim (omega arith) (omega arith)
 
-  module _ {c : Counts} (p : j ≡ J.Accepted c) where
+  module _ {w cells : List ℕ} {c : Counts} (d : ClaimRead cs (Ok c) w cells) where
     taken : SomeClaim cs c
-    taken = judged_by cs j (J.Accepted c) d.answer p
+    taken = judged_by cs (Ok c) (Ok c) d.answer refl
 
     flags_are : (chart_in bs).flags ≡ x.flags
     unfolding chart_in counts_in
@@ -154,10 +156,10 @@ module _ (bs cs : List ℕ) {t follow : List ℕ} {r : Read} {x : D.Chart} (g : 
     unfolding counts_of
     first_is = ap (λ (y : Counts). y.start) taken.counts
 
-    pub counts_refused : (c.propositions ≡ x.flags → ⊥) → BothRefused bs cs (refused_by 20)
+    pub counts_refused : (c.propositions ≡ x.flags → ⊥) → BothRefused bs cs (refused_by CountsDiffer)
     unfolding names_pair
     counts_refused n =
-        let k : texts_refusal bs cs ≡ 20 = by_counts bs cs read.passes taken.number (λ e. n (sym propositions_are ∙ e ∙ flags_are)) in
+        let k : texts_refusal bs cs ≡ 20 = by_counts bs cs read.passes taken.by_number (λ e. n (sym propositions_are ∙ e ∙ flags_are)) in
         record { fails = λ z. omega (arith, k); says = λ t o. rw k (plain_says 20 refl refl (chart_says bs) t o) }
 
     sound : ChartSound (chart_in bs)
@@ -166,7 +168,7 @@ module _ (bs cs : List ℕ) {t follow : List ℕ} {r : Read} {x : D.Chart} (g : 
 
     claim_sound : ClaimSound (claim_in cs)
     unfolding ClaimsRight
-    claim_sound = (claims_right cs taken.number).sound
+    claim_sound = (claims_right cs taken.by_number).sound
 
     pub few_flags : x.flags ≤ most_flags
     few_flags = omega (arith, sound.flags, flags_are)
@@ -210,9 +212,9 @@ module _ (bs cs : List ℕ) {t follow : List ℕ} {r : Read} {x : D.Chart} (g : 
       leads : (m f : ℕ) → m < x.modes → f < 2 ^ x.flags → Leads (get_or follow (m * 2 ^ x.flags + f) 0)
       leads m f u v = record { from = omega (arith, entry m f u v); below = omega (arith, entry m f u v, sound.next m f, sound.modes) }
 
-      asks : Asks x.modes c.states (2 ^ x.flags) follow cells
-      asks =
-          record {
+      asks : (n source : ℕ) → n ≡ 2 ^ x.flags → Asks (record { modes = x.modes; states = c.states; count = n; source = source }) follow cells
+      asks n source m = rw m
+          (record {
             some_states = omega (arith, claim_sound.start, states_are);
             few_states = omega (arith, claim_sound.states, states_are);
             few_modes = omega (arith, sound.modes, modes_are);
@@ -220,12 +222,12 @@ module _ (bs cs : List ℕ) {t follow : List ℕ} {r : Read} {x : D.Chart} (g : 
             pairs = omega (arith, few_pairs, a.follow_long);
             roomy = omega (arith, a.cells_long);
             leads = leads;
-          }
+          })
 
       pub both_held : c.propositions ≡ x.flags → {n : ℕ} → n ≡ 2 ^ x.flags → BothHeld bs cs (record { modes = x.modes; states = c.states; count = n; source = x.start * c.states + c.start }) follow cells
       both_held e {n} m =
           record {
-            passes = by_none bs cs read.passes taken.number (propositions_are ∙ e ∙ sym flags_are);
+            passes = by_none bs cs read.passes taken.by_number (propositions_are ∙ e ∙ sym flags_are);
             held = record {
               given = record {
                 of_modes = sym modes_are;
@@ -238,6 +240,6 @@ module _ (bs cs : List ℕ) {t follow : List ℕ} {r : Read} {x : D.Chart} (g : 
               marks = λ s u. held.marks s (omega (arith, claim_sound.states));
             };
             claim = held;
-            tables = rw m asks;
+            tables = asks n _ m;
             near = omega (arith, source_fits);
           }

@@ -1,15 +1,17 @@
 -- `build_case`, way by way: each refusal in its place, and the file where none comes. Assumes nothing.
-use mathlib.Core.Path.{◌≡◌, refl, ◌∙◌}
+use mathlib.Core.Path.{◌≡◌, refl, sym, ap, ◌∙◌}
+use Rattle.std.specs.Prelude.{Ok, Err}
 use mathlib.Core.Bool.{true, false, not}
 use mathlib.Core.List.{List, [], ◌∷◌}
 use Prim.Native.Nat.{ℕ, ◌≤◌, ◌<◌}
 use native.Mathlib.Nat.{zero-add}
 use native.Mathlib.Omega.{arith}
-use lib.Dec.{ltb, leb, eqb}
-use lib.ListN.{length, replicate, length-replicate}
-use borrow.Author.Tests.{lt-leb, le-leb, lt-ltb, le-ltb, leb-true}
+use lib.Dec.{ltb, eqb}
+use lib.ListN.{length}
+use borrow.Author.Tests.{lt-ltb, le-ltb, leb-true}
 use Rattle.text.specs.Writing.{Puts}
 use Rattle.text.proofs.Tests.{and_both}
+use Rattle.text.proofs.Chains.{puts_as}
 use Rattle.text.proofs.Writing.{put_front}
 use Rattle.model.specs.Case.{longest_file, most_edges, most_workers}
 use Rattle.model.specs.CaseFile.{refuse, first_of}
@@ -20,18 +22,22 @@ use Rattle.model.specs.Claim.{claim_in}
 use Rattle.model.specs.Chart.{chart_in, chart_says}
 use Rattle.model.specs.Product.{graph_in, built_case, product_refusal, least_case_output, build_refusal}
 use Rattle.model.specs.BuiltEntry.{names_pair, BuiltSays, BuildSays}
-use Rattle.model.specs.declared.Built.{Built}
+use Rattle.model.specs.Graph.{Edge}
+use Rattle.model.specs.declared.refusal.Refusal.{Refusal}
+use Rattle.model.specs.declared.refusal.Refusal.TheVariants.{ShortBuffer, OutOfRange}
 use Rattle.model.specs.declared.Charted.{Charted}
 use Rattle.model.proofs.Accepting.{first_one}
 use Rattle.casefile.proofs.Refusals.{first_append, first_decides}
 use Rattle.model.proofs.Products.{unrefused, right}
 use Rattle.model.proofs.BuiltKept.{accepted_short}
-use Rattle.product.specs.Both.{refused_by, texts_refusal, BothHeld, BothRefused}
-use Rattle.product.specs.Entries.{workers_right, written_by}
-use Rattle.product.specs.Written.{FileWritten, ProductIs, ProductAsks, ProductSays}
-use Rattle.product.specs.declared.build.Sizes.{Sizes}
-use Rattle.product.specs.declared.build.Product.{Product}
-use Rattle.product.specs.declared.build.Product.TheVariants.{Written, TooMany}
+use Rattle.product.specs.Refused.{refused_by, built_as}
+use Rattle.product.specs.Both.{texts_refusal, BothHeld, BothRefused}
+use Rattle.product.specs.Entries.{workers_right}
+use Rattle.product.specs.declared.refused.Refused.{Refused}
+use Rattle.product.specs.Edges.{EdgesFound}
+use Rattle.product.specs.Written.{case_by}
+use Rattle.product.specs.declared.edges.Sizes.{Sizes}
+use Rattle.product.proofs.Writing.{product_is}
 use Rattle.product.proofs.BothRead.{plain_says}
 
 -- A RESULT: a text put at the front
@@ -39,7 +45,7 @@ pub puts_says : (t : List ℕ) {n : ℕ} {o z : List ℕ} → Puts 0 t n o z →
 unfolding in_front
 puts_says t {n} {o} {z} p h = let f = p.fits (omega arith) in (f.0 ∙ zero-add (length t), f.1 ∙ put_front t o)
 
-pub done_says : (c : Charted) (t : List ℕ) {n : ℕ} {o z : List ℕ} → Puts 0 t n o z → length t ≤ length o → BuiltSays 0 c t (written_by n) o z
+pub done_says : (c : Charted) (t : List ℕ) {n : ℕ} {o z : List ℕ} → Puts 0 t n o z → length t ≤ length o → BuiltSays 0 c t (built_as (Ok n)) o z
 unfolding names_pair
 done_says c t p h = let f = puts_says t p h in record { refusal = refl; mode = refl; combination = refl; written = f.0; output = f.1 }
 
@@ -67,63 +73,53 @@ case_short bs cs p e s l =
     let u = unrefused bs cs e in
     accepted_short (case_file (built_case bs cs p)) (right (chart_in bs) (claim_in cs) p u.chart u.claim s l u.edges).accepted
 
--- THE TABLES of edges that `write_product` is lent
-pub product_asked : {bs cs : List ℕ} {z : Sizes} {follow cells : List ℕ} {p : ℕ} → BothHeld bs cs z follow cells → 1 ≤ p → p ≤ most_workers
-    → ProductAsks z p follow cells (replicate most_edges 0) (replicate most_edges 0)
-product_asked b s l = record { tables = b.tables; near = b.near; some_workers = s; few_workers = l; froms_long = length-replicate {A = ℕ} most_edges 0; tos_long = length-replicate {A = ℕ} most_edges 0 }
-
 -- BUILDING
-pub workers_range : (p : ℕ) → workers_right p ≡ true → (1 ≤ p) × (p ≤ most_workers)
+pub workers_range : (p : ℕ) → true ≡ workers_right p → (1 ≤ p) × (p ≤ most_workers)
 unfolding workers_right
-workers_range p e = let b = and_both _ _ e in (leb-true 1 p b.0, leb-true p most_workers b.1)
-
-pub workers_none : (p : ℕ) → p < 1 → false ≡ workers_right p
-unfolding workers_right
-workers_none p l = rw (lt-leb 1 p l) refl
-
-pub workers_most : (p : ℕ) → 1 ≤ p → leb p most_workers ≡ workers_right p
-unfolding workers_right
-workers_most p l = rw (le-leb 1 p l) refl
+workers_range p e = let b = and_both _ _ (sym e) in (leb-true 1 p b.0, leb-true p most_workers b.1)
 
 module _ (bs cs : List ℕ) (p : ℕ) (o : List ℕ) where
-  pub build_small : length o < least_case_output → BuildSays bs cs p (refused_by 11) o o
+  pub build_small : length o < least_case_output → BuildSays bs cs p (built_as (Err (refused_by ShortBuffer))) o o
   unfolding BuildSays build_refusal first_of refuse names_pair
   build_small l = rw (lt-ltb (length o) least_case_output l) (plain_says 11 refl refl _ _ o)
 
   module _ (room : least_case_output ≤ length o) where
-    pub build_workers : workers_right p ≡ false → BuildSays bs cs p (refused_by 5) o o
+    pub build_workers : false ≡ workers_right p → BuildSays bs cs p (built_as (Err (refused_by OutOfRange))) o o
     unfolding BuildSays build_refusal first_of refuse workers_right names_pair
-    build_workers e = rw (le-ltb (length o) least_case_output room, e) (plain_says 5 refl refl _ _ o)
+    build_workers e = rw (le-ltb (length o) least_case_output room, ← e) (plain_says 5 refl refl _ _ o)
 
-    module _ (right : workers_right p ≡ true) where
+    module _ (right : true ≡ workers_right p) where
       build_is : build_refusal bs cs p (length o) ≡ product_refusal bs cs
       unfolding build_refusal first_of refuse workers_right
-      build_is = rw (le-ltb (length o) least_case_output room, right) (first_one (product_refusal bs cs))
+      build_is = rw (le-ltb (length o) least_case_output room, ← right) (first_one (product_refusal bs cs))
 
-      pub build_refused : {b : Built} → BothRefused bs cs b → BuildSays bs cs p b o o
+      pub build_refused : {r : Refused} → BothRefused bs cs r → BuildSays bs cs p (built_as (Err r)) o o
       unfolding BuildSays
       build_refused r = rw (build_is, product_refused bs cs r.fails) (r.says _ o)
 
-      module _ {z : Sizes} {follow cells froms tos : List ℕ} {r : Product} {o' : List ℕ} (h : BothHeld bs cs z follow cells) (s : ProductSays z p follow cells r froms tos o o') where
-        pub build_many : r ≡ TooMany → BuildSays bs cs p (refused_by 21) o o'
+      module _ {z : Sizes} {follow cells : List ℕ} (h : BothHeld bs cs z follow cells) where
+        pub build_many : {k : Refusal} → EdgesFound z follow cells (Err k) → BuildSays bs cs p (built_as (Err (refused_by k))) o o
         unfolding BuildSays names_pair
-        build_many q =
-            let x : ProductIs (chart_in bs) (claim_in cs) p TooMany froms tos o o' = rw q at (s.says (chart_in bs) (claim_in cs) h.held) in
-            rw (x.1, build_is, product_many bs cs h.passes x.0) (plain_says 21 refl refl _ _ o)
+        build_many f =
+            let q = f.edges (chart_in bs) (claim_in cs) h.held.given in
+            rw (q.0, build_is, product_many bs cs h.passes q.1) (plain_says 21 refl refl _ _ o)
 
-        module _ {n m : ℕ} (q : r ≡ Written n m) where
-          file : FileWritten (chart_in bs) (claim_in cs) p n m froms tos o o'
-          file = rw q at (s.says (chart_in bs) (claim_in cs) h.held)
+        module _ {edges : List Edge} (f : EdgesFound z follow cells (Ok edges)) (few : length edges ≤ most_edges) {n : ℕ} {o' : List ℕ} (w : Puts 0 (case_file (case_by z p cells edges)) n o o') where
+          found : edges ≡ (graph_in bs cs).edges
+          found = f.edges (chart_in bs) (claim_in cs) h.held.given
 
           passes : product_refusal bs cs ≡ 0
-          passes = product_passes bs cs h.passes (rw file.count at file.few)
+          passes = product_passes bs cs h.passes (rw found at few)
+
+          file : Puts 0 (case_file (built_case bs cs p)) n o o'
+          file = puts_as (ap case_file (product_is (chart_in bs) (claim_in cs) z p edges h.held h.tables.some_states found)) w
 
           short : length (case_file (built_case bs cs p)) ≤ longest_file
           short = let w = workers_range p right in case_short bs cs p passes w.0 w.1
 
           pub build_fits : n ≤ longest_file
-          build_fits = omega (arith, (puts_says (case_file (built_case bs cs p)) file.file (omega (arith, short))).0, short)
+          build_fits = omega (arith, (puts_says (case_file (built_case bs cs p)) file (omega (arith, short))).0, short)
 
-          pub build_done : BuildSays bs cs p (written_by n) o o'
+          pub build_done : BuildSays bs cs p (built_as (Ok n)) o o'
           unfolding BuildSays
-          build_done = rw (build_is, passes) (done_says _ (case_file (built_case bs cs p)) file.file (omega (arith, short)))
+          build_done = rw (build_is, passes) (done_says _ (case_file (built_case bs cs p)) file (omega (arith, short)))

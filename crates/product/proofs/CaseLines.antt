@@ -12,10 +12,13 @@ use Rattle.text.specs.Numbers.{digits, decimal}
 use Rattle.text.specs.Writing.{Writes, Puts, Chain}
 use Rattle.text.proofs.Chains.{puts, puts_as, puts_then, Still, still_start, still_step, still_end, field_puts}
 use Rattle.text.proofs.Rows.{text_append}
+use Rattle.std.proofs.lemmas.List.{length-map}
+use Rattle.model.specs.Graph.{Edge}
 use Rattle.model.specs.Case.{known_version}
 use Rattle.model.specs.CaseFile.{head_names, vertex_names, edge_names}
 use Rattle.model.specs.CaseText.{counts_row, mark_rows, end_rows, case_file}
-use Rattle.product.specs.Tables.{ends_of, tabled, Tables, head_text}
+use Rattle.product.specs.Tables.{edge_of, edges_of, tabled, head_text}
+use Rattle.product.specs.declared.table.Ends.{Ends}
 
 -- a line as its fields, each with the byte that ends it
 two_fields : (a b : List ℕ) → (a ++ (32 ∷ [])) ++ (b ++ (10 ∷ [])) ≡ text ((a ∷ b ∷ []) ∷ [])
@@ -76,42 +79,34 @@ pub vertices_end : {at v here : ℕ} {ms os o z : List ℕ} → VerticesLeft at 
 vertices_end {v = v} {ms = ms} {os = os} l h = still_end l.still (marks_done ms os v h)
 
 -- EDGE LINES: what is left from e on
-abbrev pub ends_left : (froms tos : List ℕ) → (e : ℕ) → List ℕ
-ends_left fs ts e = text (end_rows (ends_of (drop e fs) (drop e ts)))
+abbrev pub ends_left : (edges : List Ends) → (e : ℕ) → List ℕ
+ends_left es e = text (end_rows (edges_of (drop e es)))
 
-ends_next : (fs ts : List ℕ) (e : ℕ) → e < length fs → e < length ts → ends_left fs ts e ≡ text ((decimal (get_or fs e 0) ∷ decimal (get_or ts e 0) ∷ []) ∷ []) ++ ends_left fs ts (suc e)
-unfolding ends_of end_rows
-ends_next fs ts e a b =
-    rw (drop-cons fs e 0 a, drop-cons ts e 0 b)
-    (text_append ((decimal (get_or fs e 0) ∷ decimal (get_or ts e 0) ∷ []) ∷ []) (end_rows (ends_of (drop (suc e) fs) (drop (suc e) ts))))
+ends_next : (es : List Ends) (e : ℕ) (d : Ends) → e < length es → ends_left es e ≡ text ((decimal (get_or es e d).from ∷ decimal (get_or es e d).to ∷ []) ∷ []) ++ ends_left es (suc e)
+unfolding end_rows
+ends_next es e d h = rw (drop-cons es e d h) (text_append ((decimal (get_or es e d).from ∷ decimal (get_or es e d).to ∷ []) ∷ []) (end_rows (edges_of (drop (suc e) es))))
 
-ends_done : (fs ts : List ℕ) (e : ℕ) → length fs ≤ e → ends_left fs ts e ≡ []
-unfolding ends_of end_rows text
-ends_done fs ts e h = rw (drop_of_length-le fs h) refl
+ends_done : (es : List Ends) (e : ℕ) → length es ≤ e → ends_left es e ≡ []
+unfolding end_rows text
+ends_done es e h = rw (drop_of_length-le es h) refl
 
-pub record EdgesLeft (at : ℕ) (fs ts : List ℕ) (e here : ℕ) (o z : List ℕ) : Type 0 where
-  pub still : Still at (ends_left fs ts 0) here (ends_left fs ts e) o z
+pub record EdgesLeft (at : ℕ) (es : List Ends) (e here : ℕ) (o z : List ℕ) : Type 0 where
+  pub still : Still at (ends_left es 0) here (ends_left es e) o z
 
-pub edges_start : (at : ℕ) (fs ts o : List ℕ) → EdgesLeft at fs ts 0 at o o
-edges_start at fs ts o = record { still = still_start at (ends_left fs ts 0) o }
+pub edges_start : (at : ℕ) (es : List Ends) (o : List ℕ) → EdgesLeft at es 0 at o o
+edges_start at es o = record { still = still_start at (ends_left es 0) o }
 
-pub edges_step : {at e here a r : ℕ} {fs ts o x y z : List ℕ} → EdgesLeft at fs ts e here o x → e < length fs → length ts ≡ length fs
-    → Chain (decimal (get_or fs e 0) ∷ (32 ∷ []) ∷ []) here a x y → Chain (decimal (get_or ts e 0) ∷ (10 ∷ []) ∷ []) a r y z
-    → length z ≡ length x → EdgesLeft at fs ts (e + 1) r o z
-edges_step {e = e} {fs = fs} {ts = ts} l h q f g n =
-    let line = puts_as (two_fields (decimal (get_or fs e 0)) (decimal (get_or ts e 0))) (puts_then (field_puts (get_or fs e 0) 32 f) (field_puts (get_or ts e 0) 10 g)) in
-    record { still = rw (add-one e) (still_step l.still (ends_next fs ts e h (omega arith)) line n) }
+pub edges_step : {at e here a r : ℕ} {es : List Ends} {o x y z : List ℕ} (d : Ends) → EdgesLeft at es e here o x → e < length es
+    → Chain (decimal (get_or es e d).from ∷ (32 ∷ []) ∷ []) here a x y → Chain (decimal (get_or es e d).to ∷ (10 ∷ []) ∷ []) a r y z
+    → length z ≡ length x → EdgesLeft at es (e + 1) r o z
+edges_step {e = e} {es = es} d l h f g n =
+    let line = puts_as (two_fields (decimal (get_or es e d).from) (decimal (get_or es e d).to)) (puts_then (field_puts (get_or es e d).from 32 f) (field_puts (get_or es e d).to 10 g)) in
+    record { still = rw (add-one e) (still_step l.still (ends_next es e d h) line n) }
 
-pub edges_end : {at e here : ℕ} {fs ts o z : List ℕ} → EdgesLeft at fs ts e here o z → length fs ≤ e → Puts at (ends_left fs ts 0) here o z
-edges_end {e = e} {fs = fs} {ts = ts} l h = still_end l.still (ends_done fs ts e h)
+pub edges_end : {at e here : ℕ} {es : List Ends} {o z : List ℕ} → EdgesLeft at es e here o z → length es ≤ e → Puts at (ends_left es 0) here o z
+edges_end {e = e} {es = es} l h = still_end l.still (ends_done es e h)
 
 -- THE WHOLE
-ends_length : (fs ts : List ℕ) → length ts ≡ length fs → length (ends_of fs ts) ≡ length fs
-unfolding ends_of
-ends_length [] ts e = refl
-ends_length (f ∷ fs) [] e = absurd (omega arith)
-ends_length (f ∷ fs) (t ∷ ts) e = ap suc (ends_length fs ts (omega arith))
-
 names_line : (rs : List (List (List ℕ))) → text (fields edge_names ∷ rs) ≡ ascii "from to\n" ++ text rs
 unfolding text joined fields put_first
 names_line rs = refl
@@ -119,19 +114,19 @@ names_line rs = refl
 four : (a b c d : List ℕ) → a ++ b ++ c ++ d ≡ a ++ (b ++ (c ++ d))
 four a b c d = simp append_assoc
 
-case_parts : (s p : ℕ) (ms os fs ts : List ℕ) → length ts ≡ length fs
-    → head_text (length ms) (length fs) s p ++ text (mark_rows 0 ms os) ++ ascii "from to\n" ++ text (end_rows (ends_of fs ts)) ≡ case_file (tabled s p ms os fs ts)
+case_parts : (s p : ℕ) (ms os : List ℕ) (es : List Edge)
+    → head_text (length ms) (length es) s p ++ text (mark_rows 0 ms os) ++ ascii "from to\n" ++ text (end_rows es) ≡ case_file (tabled s p ms os es)
 unfolding case_file tabled head_text counts_row
-case_parts s p ms os fs ts e =
+case_parts s p ms os es =
     let rows = mark_rows 0 ms os in
-    let ends = end_rows (ends_of fs ts) in
-    let head = fields head_names ∷ (decimal known_version ∷ decimal (length ms) ∷ decimal (length fs) ∷ decimal s ∷ decimal p ∷ []) ∷ fields vertex_names ∷ [] in
-    rw (ends_length fs ts e)
-    (four (text head) (text rows) (ascii "from to\n") (text ends)
-    ∙ sym (text_append head (rows ++ (fields edge_names ∷ ends)) ∙ ap (λ (l : List ℕ). text head ++ l) (text_append rows (fields edge_names ∷ ends) ∙ ap (λ (l : List ℕ). text rows ++ l) (names_line ends))))
+    let ends = end_rows es in
+    let head = fields head_names ∷ (decimal known_version ∷ decimal (length ms) ∷ decimal (length es) ∷ decimal s ∷ decimal p ∷ []) ∷ fields vertex_names ∷ [] in
+    four (text head) (text rows) (ascii "from to\n") (text ends)
+    ∙ sym (text_append head (rows ++ (fields edge_names ∷ ends)) ∙ ap (λ (l : List ℕ). text head ++ l) (text_append rows (fields edge_names ∷ ends) ∙ ap (λ (l : List ℕ). text rows ++ l) (names_line ends)))
 
-pub case_says : (s p : ℕ) {a b d r : ℕ} {ms os fs ts o w x y z : List ℕ} → Tables ms os fs ts → Puts 0 (head_text (length ms) (length fs) s p) a o w
-    → Puts a (text (mark_rows 0 ms os)) b w x → Writes b (ascii "from to\n") d x y → Puts d (text (end_rows (ends_of fs ts))) r y z
-    → Puts 0 (case_file (tabled s p ms os fs ts)) r o z
-case_says s p {ms = ms} {os = os} {fs = fs} {ts = ts} t f g h k =
-    puts_as (case_parts s p ms os fs ts t.ended) (puts_then (puts_then (puts_then f g) (puts h)) k)
+pub case_says : (s p : ℕ) (ms os : List ℕ) (es : List Ends) {a b d r : ℕ} {o w x y z : List ℕ} → Puts 0 (head_text (length ms) (length es) s p) a o w
+    → Puts a (text (mark_rows 0 ms os)) b w x → Writes b (ascii "from to\n") d x y → Puts d (text (end_rows (edges_of es))) r y z
+    → Puts 0 (case_file (tabled s p ms os (edges_of es))) r o z
+case_says s p ms os es f g h k =
+    let e : head_text (length ms) (length es) s p ≡ head_text (length ms) (length (edges_of es)) s p = ap (λ (m : ℕ). head_text (length ms) m s p) (sym (length-map es edge_of)) in
+    puts_as (case_parts s p ms os (edges_of es)) (puts_then (puts_then (puts_then (puts_as e f) g) (puts h)) k)

@@ -1,19 +1,20 @@
 -- `list_steps`, way by way: each refusal in its place, the answer judged against the case built, and the listing. Assumes
 -- nothing.
-use mathlib.Core.Path.{◌≡◌, refl, sym, ap, subst, ◌∙◌}
+use mathlib.Core.Path.{◌≡◌, refl, sym, ap, ◌∙◌}
+use Rattle.std.specs.Prelude.{Ok, Err}
 use mathlib.Core.Bool.{Bool, true, false, cond}
 use mathlib.Core.List.{List, [], ◌∷◌}
-use Prim.Native.Nat.{ℕ, zero, suc, ◌*◌, ◌≤◌, ◌<◌}
+use Prim.Native.Nat.{ℕ, ◌*◌, ◌≤◌, ◌<◌}
 use native.Mathlib.Omega.{arith}
-use lib.ListN.{length, get_or, take, drop}
-use lib.Seq.{take-append_seam, length-take-le}
+use lib.ListN.{length, take, drop}
+use lib.Seq.{take-append_seam}
 use borrow.Author.Tests.{ne_eqb, lt-ltb, le-ltb, eq-eqb}
-use Rattle.text.specs.Lines.{Line, lines, line_at, text}
+use Rattle.text.specs.Lines.{lines, line_at, text}
 use Rattle.text.specs.Reading.{skip}
 use Rattle.text.specs.Writing.{Puts}
 use Rattle.text.proofs.Places.{skip_lines}
 use Rattle.text.proofs.Chains.{puts_as, puts_none}
-use Rattle.model.specs.Graph.{Edge, edge}
+use Rattle.model.specs.Graph.{Edge}
 use Rattle.model.specs.Case.{longest_file, most_edges}
 use Rattle.model.specs.CaseFile.{refuse, first_of, column}
 use Rattle.model.specs.CaseText.{case_file}
@@ -26,31 +27,31 @@ use Rattle.model.specs.Product.{product, chart_automaton, claim_automaton, graph
 use Rattle.model.specs.Steps.{listing, least_steps_output, steps_refusal}
 use Rattle.model.specs.BuiltEntry.{names_pair, StepsSay}
 use Rattle.model.specs.ProductPromise.{StepsCheck, StepsFit}
-use Rattle.model.specs.declared.Built.{Built}
+use Rattle.model.specs.declared.refusal.Refusal.{Refusal}
+use Rattle.model.specs.declared.refusal.Refusal.TheVariants.{ShortBuffer, TooManyEdges}
 use Rattle.model.specs.declared.Checked.{Checked}
 use Rattle.model.proofs.Pairs.{pair_below}
 use Rattle.model.proofs.Accepting.{first_zero, first_one}
 use Rattle.casefile.proofs.Refusals.{first_decides}
 use Rattle.model.proofs.Refusals.{answer_numbers}
 use Rattle.model.proofs.Charts.{passed_right}
-use Rattle.model.proofs.Products.{Unrefused, unrefused, right}
+use Rattle.model.proofs.Products.{Unrefused, unrefused}
 use Rattle.model.proofs.StepLines.{steps_check, steps_fit, steps_silent}
-use Rattle.model.specs.ClaimGrammar.{most_states}
-use Rattle.claim.specs.Cells.{claim_cells}
-use Rattle.product.specs.Both.{refused_by, texts_refusal, BothRefused}
-use Rattle.product.specs.Entries.{written_by, ListAsks, CheckAsks}
-use Rattle.product.specs.Names.{PlacesFilled, named_row, rows_by, StepsWritten}
-use Rattle.product.specs.Tables.{ends_of}
-use Rattle.product.specs.Written.{FileWritten, ProductIs, ProductSays}
-use Rattle.product.specs.declared.build.Sizes.{Sizes}
-use Rattle.product.specs.declared.build.Product.{Product}
-use Rattle.product.specs.declared.build.Product.TheVariants.{Written, TooMany}
+use Rattle.product.specs.Refused.{refused_as, refused_by, built_as}
+use Rattle.product.specs.Both.{texts_refusal, BothRefused}
+use Rattle.product.specs.Entries.{ListAsks, CheckAsks}
+use Rattle.product.specs.declared.refused.Refused.{Refused}
+use Rattle.product.specs.Names.{PlacesFilled, row_by, rows_by, StepsWritten}
+use Rattle.product.specs.Edges.{EdgesFound}
+use Rattle.product.specs.Written.{case_by}
+use Rattle.product.specs.declared.edges.Sizes.{Sizes}
 use Rattle.product.proofs.BothRead.{plain_says, unpaired}
 use Rattle.product.proofs.Listing.{edges_single, rows_listed}
+use Rattle.product.proofs.Writing.{product_is}
 use Rattle.product.proofs.Building.{puts_says, done_says, product_refused, product_many, product_passes, case_short}
 
 module _ (bs cs ts o : List ℕ) where
-  pub steps_small : length o < least_steps_output → StepsSay bs cs ts (refused_by 11) o o
+  pub steps_small : length o < least_steps_output → StepsSay bs cs ts (built_as (Err (refused_by ShortBuffer))) o o
   unfolding StepsSay steps_refusal first_of refuse names_pair
   steps_small l = rw (lt-ltb (length o) least_steps_output l) (plain_says 11 refl refl _ _ o)
 
@@ -59,13 +60,13 @@ module _ (bs cs ts o : List ℕ) where
     unfolding steps_refusal first_of refuse
     steps_is = rw (le-ltb (length o) least_steps_output room) refl
 
-    pub steps_refused : {b : Built} → BothRefused bs cs b → StepsSay bs cs ts b o o
+    pub steps_refused : {r : Refused} → BothRefused bs cs r → StepsSay bs cs ts (built_as (Err r)) o o
     unfolding StepsSay
     steps_refused r =
         let e = product_refused bs cs r.fails in
         rw (steps_is ∙ first_decides (product_refusal bs cs) _ (λ z. r.fails (sym e ∙ z)) ∙ e) (r.says _ o)
 
-    pub steps_many : texts_refusal bs cs ≡ 0 → most_edges < length (graph_in bs cs).edges → StepsSay bs cs ts (refused_by 21) o o
+    pub steps_many : texts_refusal bs cs ≡ 0 → most_edges < length (graph_in bs cs).edges → StepsSay bs cs ts (built_as (Err (refused_by TooManyEdges))) o o
     unfolding StepsSay names_pair
     steps_many e l = rw (steps_is ∙ first_decides (product_refusal bs cs) _ (λ z. omega (arith, product_many bs cs e l)) ∙ product_many bs cs e l) (plain_says 21 refl refl _ _ o)
 
@@ -73,7 +74,7 @@ module _ (bs cs ts o : List ℕ) where
       by_answer : steps_refusal bs cs ts (length o) ≡ answer_refusal (graph_in bs cs) ts
       by_answer = steps_is ∙ (unfold first_of in (rw passes (first_one (answer_refusal (graph_in bs cs) ts))))
 
-      pub answer_refused : {k : ℕ} → k ≡ answer_refusal (graph_in bs cs) ts → (k ≡ 0 → ⊥) → StepsSay bs cs ts (refused_by k) o o
+      pub answer_refused : {k : ℕ} → k ≡ answer_refusal (graph_in bs cs) ts → (k ≡ 0 → ⊥) → StepsSay bs cs ts (built_as (Err (refused_as k))) o o
       unfolding StepsSay
       answer_refused {k} e n = rw (by_answer, ← e) (plain_says k (ne_eqb k 0 n) (unpaired k (λ z. no_pair.0 (sym e ∙ z)) (λ z. no_pair.1 (sym e ∙ z))) _ _ o)
         where
@@ -87,11 +88,11 @@ module _ (bs cs ts o : List ℕ) where
         steps_zero : steps_refusal bs cs ts (length o) ≡ 0
         steps_zero = by_answer ∙ right
 
-        pub empty_listed : answer_verdict ts ≡ empty_verdict → StepsSay bs cs ts (written_by 0) o o
+        pub empty_listed : answer_verdict ts ≡ empty_verdict → StepsSay bs cs ts (built_as (Ok 0)) o o
         unfolding StepsSay
         empty_listed v = rw (steps_zero, steps_silent (chart_in bs) (claim_in cs) ts v) (done_says _ [] (puts_none 0 o) (omega arith))
 
-        pub lasso_listed : {n : ℕ} {z : List ℕ} → Puts 0 (listing bs cs ts) n o z → (n ≤ longest_file) × StepsSay bs cs ts (written_by n) o z
+        pub lasso_listed : {n : ℕ} {z : List ℕ} → Puts 0 (listing bs cs ts) n o z → (n ≤ longest_file) × StepsSay bs cs ts (built_as (Ok n)) o z
         unfolding StepsSay StepsFit
         lasso_listed w =
             let f = steps_fit bs cs ts (length o) steps_zero in
@@ -101,18 +102,13 @@ source_below : (bs cs : List ℕ) → ChartSound (chart_in bs) → ClaimSound (c
 unfolding graph_of product chart_automaton claim_automaton
 source_below bs cs h k = pair_below (length (claim_in cs).states) (chart_in bs).start (claim_in cs).start (chart_in bs).modes k.start h.start
 
-pub steps_asked : {bs cs case tos cells : List ℕ} {states source : ℕ} {o : List ℕ} → CheckAsks bs cs case tos cells states source o → (1 ≤ states) × (states ≤ most_states) × (claim_cells ≤ length cells)
-steps_asked {bs} {cs} a =
-    let k = (unrefused bs cs a.passes).claim in
-    (omega (arith, a.of_states, k.start), omega (arith, a.of_states, k.states), a.roomy)
-
 -- THE ANSWER CHECKED against the case file built, which one worker has
-module _ {bs cs case tos cells : List ℕ} {states source : ℕ} {o : List ℕ} (a : CheckAsks bs cs case tos cells states source o) {ts : List ℕ} {r : Checked} (c : CheckSays case ts r) where
+module _ {bs cs case : List ℕ} {z : Sizes} {cells : List ℕ} {edges : List Edge} {o : List ℕ} (a : CheckAsks bs cs case z cells edges o) {ts : List ℕ} {r : Checked} (c : CheckSays case ts r) where
   judged : check_refusal case ts ≡ answer_refusal (graph_in bs cs) ts
   unfolding StepsCheck
   judged = ap (λ (x : List ℕ). check_refusal x ts) a.file ∙ steps_check bs cs ts 1 a.passes (omega arith) (omega arith)
 
-  pub checked_refused : (r.refusal ≡ 0 → ⊥) → StepsSay bs cs ts (refused_by r.refusal) o o
+  pub checked_refused : (r.refusal ≡ 0 → ⊥) → StepsSay bs cs ts (built_as (Err (refused_as r.refusal))) o o
   checked_refused n = answer_refused bs cs ts o a.room a.passes (c.refusal ∙ judged) n
 
   module _ (e : r.refusal ≡ 0) where
@@ -122,7 +118,7 @@ module _ {bs cs case tos cells : List ℕ} {states source : ℕ} {o : List ℕ} 
     verdict_is : r.verdict ≡ answer_verdict ts
     verdict_is = c.verdict ∙ rw (eq-eqb (check_refusal case ts) 0 (sym c.refusal ∙ e)) refl
 
-    pub checked_empty : r.verdict ≡ empty_verdict → StepsSay bs cs ts (written_by 0) o o
+    pub checked_empty : r.verdict ≡ empty_verdict → StepsSay bs cs ts (built_as (Ok 0)) o o
     checked_empty v = empty_listed bs cs ts o a.room a.passes right_answer (sym verdict_is ∙ v)
 
     is_lasso : (answer_verdict ts ≡ empty_verdict → ⊥) → answer_verdict ts ≡ lasso_verdict
@@ -142,7 +138,7 @@ module _ {bs cs case tos cells : List ℕ} {states source : ℕ} {o : List ℕ} 
 
     -- the edges stand from line 4 on
     module _ (n : r.verdict ≡ empty_verdict → ⊥) {at : ℕ} (past : at ≡ skip 3 ts 0) {places : List ℕ} (filled : PlacesFilled bs places) (long : length places ≡ most_modes) {m : ℕ} {o' : List ℕ}
-        (w : StepsWritten (named_row bs cs places cells states) ts at source tos m o o') where
+        (w : StepsWritten (row_by bs cs places cells z.states) ts at z.source edges m o o') where
       modes_fit : (chart_in bs).modes ≤ length places
       modes_fit = omega (arith, sound.chart.modes)
 
@@ -152,71 +148,50 @@ module _ {bs cs case tos cells : List ℕ} {states source : ℕ} {o : List ℕ} 
       place : lines (drop at ts) ≡ drop 3 (lines ts)
       place = rw past (skip_lines 3 ts 0)
 
-      rows : text (rows_by (named_row bs cs places cells states) tos source (column 0 (lines (drop at ts)))) ≡ listing bs cs ts
-      rows =
-          ap (λ (ls : List Line). text (rows_by (named_row bs cs places cells states) tos source (column 0 ls))) place
-          ∙ ap (λ (k : ℕ). text (rows_by (named_row bs cs places cells k) tos source (column 0 (drop 3 (lines ts))))) a.of_states
-          ∙ ap (λ (v : ℕ). text (rows_by (named_row bs cs places cells (length (claim_in cs).states)) tos v (column 0 (drop 3 (lines ts))))) a.of_source
-          ∙ rows_listed bs cs chart_is_right sound.claim a.claim filled modes_fit tos a.long a.ends ts right_answer lasso (source_below bs cs sound.chart sound.claim)
+      rows : text (rows_by (row_by bs cs places cells z.states) edges z.source (column 0 (lines (drop at ts)))) ≡ listing bs cs ts
+      rows = rw (place, a.of_states, a.of_source, a.ends) (rows_listed bs cs chart_is_right sound.claim a.claim filled modes_fit ts right_answer lasso (source_below bs cs sound.chart sound.claim))
 
       listed : Puts 0 (listing bs cs ts) m o o'
-      listed = puts_as rows (w.lines (rw place (edges_single bs cs chart_is_right sound.claim a.claim filled modes_fit tos a.long a.ends ts right_answer lasso)))
+      listed = puts_as rows (w.lines (rw place (edges_single bs cs chart_is_right sound.claim a.claim filled modes_fit ts right_answer lasso)))
 
       pub checked_fits : m ≤ longest_file
       checked_fits = (lasso_listed bs cs ts o a.room a.passes right_answer listed).0
 
-      pub checked_lasso : StepsSay bs cs ts (written_by m) o o'
+      pub checked_lasso : StepsSay bs cs ts (built_as (Ok m)) o o'
       checked_lasso = (lasso_listed bs cs ts o a.room a.passes right_answer listed).1
 
 -- THE LISTING of what was read and written
-ends_to : (fs ts : List ℕ) (e : ℕ) → e < length (ends_of fs ts) → (get_or (ends_of fs ts) e (record { from = 0; to = 0 })).to ≡ get_or ts e 0
-unfolding ends_of
-ends_to [] ts e h = absurd (omega arith)
-ends_to (f ∷ fs) [] e h = absurd (omega arith)
-ends_to (f ∷ fs) (t ∷ ts) zero h = refl
-ends_to (f ∷ fs) (t ∷ ts) (suc e) h = ends_to fs ts e (omega arith)
+module _ {bs cs : List ℕ} {z : Sizes} {follow cells o : List ℕ} (a : ListAsks bs cs z follow cells o) where
+  pub list_many : (ts : List ℕ) {k : Refusal} → EdgesFound z follow cells (Err k) → StepsSay bs cs ts (built_as (Err (refused_by k))) o o
+  list_many ts f = let p = f.edges (chart_in bs) (claim_in cs) a.both.held.given in rw p.0 (steps_many bs cs ts o a.room a.both.passes p.1)
 
-module _ {bs cs : List ℕ} {z : Sizes} {follow cells o : List ℕ} (a : ListAsks bs cs z follow cells o) {r : Product} {froms tos w w' : List ℕ} (s : ProductSays z 1 follow cells r froms tos w w') where
-  said : (x : Product) → r ≡ x → ProductIs (chart_in bs) (claim_in cs) 1 x froms tos w w'
-  said x q = subst (λ (y : Product). ProductIs (chart_in bs) (claim_in cs) 1 y froms tos w w') q (s.says (chart_in bs) (claim_in cs) a.both.held)
-
-  pub list_many : (ts : List ℕ) → r ≡ TooMany → StepsSay bs cs ts (refused_by 21) o o
-  list_many ts q = steps_many bs cs ts o a.room a.both.passes (said TooMany q).0
-
-  module _ {n m : ℕ} (q : r ≡ Written n m) (long : length w ≡ longest_file) where
-    file : FileWritten (chart_in bs) (claim_in cs) 1 n m froms tos w w'
-    file = said (Written n m) q
+  module _ {edges : List Edge} (f : EdgesFound z follow cells (Ok edges)) (few : length edges ≤ most_edges) where
+    found : edges ≡ (graph_in bs cs).edges
+    found = f.edges (chart_in bs) (claim_in cs) a.both.held.given
 
     passes : product_refusal bs cs ≡ 0
-    passes = product_passes bs cs a.both.passes (rw file.count at file.few)
+    passes = product_passes bs cs a.both.passes (rw found at few)
 
-    front : (n ≡ length (case_file (built_case bs cs 1))) × (w' ≡ in_front (case_file (built_case bs cs 1)) w)
-    front = puts_says (case_file (built_case bs cs 1)) file.file (omega (arith, case_short bs cs 1 passes (omega arith) (omega arith)))
+    module _ {n : ℕ} {w w' : List ℕ} (long : length w ≡ longest_file) (p : Puts 0 (case_file (case_by z 1 cells edges)) n w w') where
+      front : (n ≡ length (case_file (built_case bs cs 1))) × (w' ≡ in_front (case_file (built_case bs cs 1)) w)
+      front =
+          let e = ap case_file (product_is (chart_in bs) (claim_in cs) z 1 edges a.both.held a.both.tables.some_states found) in
+          puts_says (case_file (built_case bs cs 1)) (puts_as e p) (omega (arith, case_short bs cs 1 passes (omega arith) (omega arith)))
 
-    pub file_fits : n ≤ longest_file
-    file_fits = omega (arith, front.0, case_short bs cs 1 passes (omega arith) (omega arith))
+      pub file_fits : n ≤ longest_file
+      file_fits = omega (arith, front.0, case_short bs cs 1 passes (omega arith) (omega arith))
 
-    pub edges_fit : m ≤ most_edges
-    edges_fit = file.few
-
-    ends : (e : ℕ) → e < length (graph_in bs cs).edges → get_or (take m tos) e 0 ≡ (edge (graph_in bs cs) e).to
-    unfolding edge
-    ends e l =
-        let is : (es : List Edge) → es ≡ (graph_in bs cs).edges → (get_or es e (record { from = 0; to = 0 })).to ≡ (get_or (graph_in bs cs).edges e (record { from = 0; to = 0 })).to = λ es x. ap (λ (ds : List Edge). (get_or ds e (record { from = 0; to = 0 })).to) x in
-        sym (ends_to (take m froms) (take m tos) e (omega (arith, ap length file.ends))) ∙ is (ends_of (take m froms) (take m tos)) file.ends
-
-    pub check_asked : length tos ≡ most_edges → CheckAsks bs cs (take n w') (take m tos) cells z.states z.source o
-    unfolding in_front graph_of product chart_automaton claim_automaton
-    check_asked roomy =
-        let t = case_file (built_case bs cs 1) in
-        record {
-          passes = passes;
-          file = rw (front.1, front.0) (take-append_seam t (drop (length t) w));
-          long = length-take-le m tos (omega (arith, file.few)) ∙ file.count;
-          ends = ends;
-          claim = a.both.claim;
-          roomy = a.both.tables.roomy;
-          of_states = a.both.held.given.of_states;
-          of_source = a.both.held.source;
-          room = a.room;
-        }
+      pub check_asked : CheckAsks bs cs (take n w') z cells edges o
+      unfolding in_front graph_of product chart_automaton claim_automaton
+      check_asked =
+          let t = case_file (built_case bs cs 1) in
+          record {
+            passes = passes;
+            file = rw (front.1, front.0) (take-append_seam t (drop (length t) w));
+            ends = found;
+            claim = a.both.claim;
+            roomy = a.both.tables.roomy;
+            of_states = a.both.held.given.of_states;
+            of_source = a.both.held.source;
+            room = a.room;
+          }

@@ -5,7 +5,7 @@ use mathlib.Core.List.{List, [], ◌∷◌, ◌++◌, append_assoc}
 use Prim.Native.Nat.{ℕ, ◌+◌, ◌-◌, ◌/◌, ◌%◌, ◌≤◌, ◌<◌, min}
 use native.Mathlib.Omega.{arith}
 use lib.Dec.{leb}
-use lib.ListN.{length, get_or, set, take, drop, length-set, length-drop, drop_of_length-le}
+use lib.ListN.{length, get_or, set, take, drop, length-drop, drop_of_length-le}
 use lib.Seq.{take_all, take-length, drop-length, get_or-set_same, get_or-set_other}
 use borrow.Author.Tests.{leb-true, leb-false, eq-eqb, ne_eqb}
 use Rattle.text.specs.Ascii.{space, line_feed}
@@ -18,10 +18,13 @@ use Rattle.text.proofs.Places.{skip_none, skip_last}
 use Rattle.text.proofs.Reading.{Row, NoRow, row_rest, no_lines, some_lines, lines_here}
 use Rattle.text.proofs.Chains.{puts, puts_as, puts_then, Still, still_start, still_step, still_end}
 use Rattle.text.proofs.Rows.{text_append}
+use Rattle.model.specs.Graph.{Edge}
 use Rattle.model.specs.CaseFile.{column}
 use Rattle.claim.specs.Cells.{name_cell, length_cell}
 use Rattle.chart.specs.Reading.{name_place}
-use Rattle.product.specs.Names.{state_text, PlacesFilled, named_row, rows_by, all_single, StepsWritten}
+use Rattle.product.specs.Tables.{end_of}
+use Rattle.product.specs.Names.{state_text, PlacesFilled, row_by, named_row, rows_by, all_single, StepsWritten}
+use Rattle.product.specs.declared.steps.Names.{Names}
 
 -- A PART cut at the text's end
 by_min : (f : ℕ → List ℕ) (n k : ℕ) → (k ≤ n → f k ≡ f n) → f (min n k) ≡ f n
@@ -57,26 +60,24 @@ line_parts : (a b : List ℕ) → a ++ (space ∷ []) ++ b ++ (line_feed ∷ [])
 unfolding joined text
 line_parts a b = simp append_assoc
 
-pub step_puts : (h k ps cs : List ℕ) (states v : ℕ) {p at a b d r : ℕ} {m o x y w z : List ℕ} → p ≡ get_or ps (v / states) 0 → m ≡ field_here h p
-    → Writes at m a o x → Writes a (space ∷ []) b x y → Puts b (state_text k cs (v % states)) d y w → Writes d (line_feed ∷ []) r w z
-    → Puts at (text (named_row h k ps cs states v ∷ [])) r o z
-unfolding named_row
-step_puts h k ps cs states v {p} q n f g l c =
-    rw (← q) (puts_as (line_parts (field_here h p) (state_text k cs (v % states))) (puts_then (puts_then (puts_then (puts_as n (puts f)) (puts g)) l) (puts c)))
+pub step_puts : (n : Names) (v : ℕ) {p at a b d r : ℕ} {m o x y w z : List ℕ} → p ≡ get_or n.places.now (v / n.states) 0 → m ≡ field_here n.chart.now p
+    → Writes at m a o x → Writes a (space ∷ []) b x y → Puts b (state_text n.claim.now n.cells.now (v % n.states)) d y w → Writes d (line_feed ∷ []) r w z
+    → Puts at (text (named_row n v ∷ [])) r o z
+unfolding row_by
+step_puts n v {p} q e f g l c =
+    rw (← q) (puts_as (line_parts (field_here n.chart.now p) (state_text n.claim.now n.cells.now (v % n.states))) (puts_then (puts_then (puts_then (puts_as e (puts f)) (puts g)) l) (puts c)))
 
 -- THE PLACES of the names below q
-pub record Placing (s ps now : List ℕ) (at q : ℕ) : Type 0 where
-  pub kept : length now ≡ length ps
+pub record Placing (s now : List ℕ) (at q : ℕ) : Type 0 where
   pub here : at ≡ name_place s q
   pub done : (i : ℕ) → i < q → get_or now i 0 ≡ name_place s i
 
-pub placing_start : (s ps : List ℕ) {at : ℕ} → at ≡ skip 3 s 0 → Placing s ps ps at 0
-placing_start s ps e = record { kept = refl; here = e ∙ sym (skip_none s (skip 3 s 0)); done = λ i l. absurd (omega arith) }
+pub placing_start : (s ps : List ℕ) {at : ℕ} → at ≡ skip 3 s 0 → Placing s ps at 0
+placing_start s ps e = record { here = e ∙ sym (skip_none s (skip 3 s 0)); done = λ i l. absurd (omega arith) }
 
-pub placing_next : {s ps now : List ℕ} {at next q : ℕ} → Placing s ps now at q → q < length now → next ≡ past_line s at → Placing s ps (set now q at) next (q + 1)
-placing_next {s} {ps} {now} {at} {next} {q} d l e =
+pub placing_next : {s now : List ℕ} {at next q : ℕ} → Placing s now at q → q < length now → next ≡ past_line s at → Placing s (set now q at) next (q + 1)
+placing_next {s} {now} {at} {next} {q} d l e =
     record {
-      kept = length-set now q at ∙ d.kept;
       here = e ∙ ap (past_line s) d.here ∙ sym (skip_last q s (skip 3 s 0));
       done = λ i h. go i h (same? i q);
     }
@@ -85,25 +86,25 @@ placing_next {s} {ps} {now} {at} {next} {q} d l e =
     go i h (same x) = ap (λ (j : ℕ). get_or (set now q at) j 0) x ∙ get_or-set_same now q at 0 l ∙ d.here ∙ ap (name_place s) (sym x)
     go i h (other n) = get_or-set_other now q i at 0 n ∙ d.done i (omega (arith, n))
 
-pub placing_end : {s ps now : List ℕ} {at q : ℕ} → Placing s ps now at q → length now ≤ q → PlacesFilled s now
+pub placing_end : {s now : List ℕ} {at q : ℕ} → Placing s now at q → length now ≤ q → PlacesFilled s now
 placing_end d h = record { at = λ i l. d.done i (omega arith) }
 
 -- THE LINES: what is left of them from place `here` of the answer on
-abbrev rows_from : (row : ℕ → List (List ℕ)) → (answer tos : List ℕ) → (here v : ℕ) → List ℕ
-rows_from row s tos here v = text (rows_by row tos v (column 0 (lines (drop here s))))
+abbrev rows_from : (row : ℕ → List (List ℕ)) → (answer : List ℕ) (ds : List Edge) → (here v : ℕ) → List ℕ
+rows_from row s ds here v = text (rows_by row ds v (column 0 (lines (drop here s))))
 
-pub record StepsLeft (row : ℕ → List (List ℕ)) (s : List ℕ) (at v : ℕ) (tos : List ℕ) (here place w : ℕ) (o z : List ℕ) : Type 0 where
+pub record StepsLeft (row : ℕ → List (List ℕ)) (s : List ℕ) (at v : ℕ) (ds : List Edge) (here place w : ℕ) (o z : List ℕ) : Type 0 where
   pub kept : length z ≡ length o
-  pub left : all_single (lines (drop at s)) ≡ true → (all_single (lines (drop here s)) ≡ true) × Still 0 (rows_from row s tos at v) place (rows_from row s tos here w) o z
+  pub left : all_single (lines (drop at s)) ≡ true → (all_single (lines (drop here s)) ≡ true) × Still 0 (rows_from row s ds at v) place (rows_from row s ds here w) o z
 
-pub steps_start : (row : ℕ → List (List ℕ)) (s : List ℕ) (at v : ℕ) (tos o : List ℕ) → StepsLeft row s at v tos at 0 v o o
-steps_start row s at v tos o = record { kept = refl; left = λ h. (h, still_start 0 (rows_from row s tos at v) o) }
+pub steps_start : (row : ℕ → List (List ℕ)) (s : List ℕ) (at v : ℕ) (ds : List Edge) (o : List ℕ) → StepsLeft row s at v ds at 0 v o o
+steps_start row s at v ds o = record { kept = refl; left = λ h. (h, still_start 0 (rows_from row s ds at v) o) }
 
 pub steps_less : {s : List ℕ} {here e next : ℕ} → here < length s → Row s here (e ∷ []) next → length (lines (drop next s)) < length (lines (drop here s))
 steps_less {s} {here} h g = omega (arith, ap length (row_rest g), length-drop 1 (lines (drop here s)), some_lines s here h)
 
-module _ {row : ℕ → List (List ℕ)} {s : List ℕ} {at v : ℕ} {tos : List ℕ} {here place w : ℕ} {o z : List ℕ} (d : StepsLeft row s at v tos here place w o z) where
-  pub steps_end : length s ≤ here → StepsWritten row s at v tos place o z
+module _ {row : ℕ → List (List ℕ)} {s : List ℕ} {at v : ℕ} {ds : List Edge} {here place w : ℕ} {o z : List ℕ} (d : StepsLeft row s at v ds here place w o z) where
+  pub steps_end : length s ≤ here → StepsWritten row s at v ds place o z
   unfolding text rows_by column
   steps_end h = record { lines = λ a. still_end (d.left a).1 (rw (no_lines s here h) refl) }
 
@@ -112,15 +113,15 @@ module _ {row : ℕ → List (List ℕ)} {s : List ℕ} {at v : ℕ} {tos : List
     unfolding all_single
     right a = and_both (numbers_line 1 (line_here s here)) (all_single (drop 1 (lines (drop here s)))) (rw (lines_here s here h) at (d.left a).0)
 
-    pub steps_torn : NoRow 1 s here → StepsWritten row s at v tos place o z
+    pub steps_torn : NoRow 1 s here → StepsWritten row s at v ds place o z
     steps_torn n = record { lines = λ a. clash (numbers_line 1 (line_here s here)) (right a).0 n.none }
 
-    pub steps_on : {e next r u : ℕ} {y : List ℕ} → Row s here (e ∷ []) next → Puts place (text (row w ∷ [])) r z y → length y ≡ length z → u ≡ get_or tos e w
-        → StepsLeft row s at v tos next r u o y
+    pub steps_on : {e next r u : ℕ} {y : List ℕ} → Row s here (e ∷ []) next → Puts place (text (row w ∷ [])) r z y → length y ≡ length z → u ≡ end_of ds e w
+        → StepsLeft row s at v ds next r u o y
     steps_on {e} {next} {r} {u} {y} g p n q = record { kept = n ∙ d.kept; left = λ a. (rw (row_rest g) (right a).1, still_step (d.left a).1 line p n) }
       where
         walk : column 0 (lines (drop here s)) ≡ e ∷ column 0 (lines (drop next s))
         walk = unfold column in (rw (lines_here s here h, g.are 0 (omega arith), row_rest g) refl)
 
-        line : rows_from row s tos here w ≡ text (row w ∷ []) ++ rows_from row s tos next u
-        line = unfold rows_by in (ap (λ (es : List ℕ). text (rows_by row tos w es)) walk ∙ rw q (text_append (row w ∷ []) (rows_by row tos (get_or tos e w) (column 0 (lines (drop next s))))))
+        line : rows_from row s ds here w ≡ text (row w ∷ []) ++ rows_from row s ds next u
+        line = unfold rows_by in (ap (λ (es : List ℕ). text (rows_by row ds w es)) walk ∙ rw q (text_append (row w ∷ []) (rows_by row ds (end_of ds e w) (column 0 (lines (drop next s))))))

@@ -1,6 +1,6 @@
 -- The product's edges in tables, found from the tables into which a chart and a claim were read. Assumes nothing: these are
 -- definitions.
-use Rattle.std.specs.Prelude.{◌≡◌, List, ◌++◌, ℕ, ◌+◌, ◌*◌, ◌≤◌, ◌<◌, length, get_or, take, replicate}
+use Rattle.std.specs.Prelude.{◌≡◌, List, ℕ, ◌+◌, ◌*◌, ◌≤◌, ◌<◌, length, get_or, replicate, Result, Ok, Err}
 use Rattle.model.specs.Graph.{Edge}
 use Rattle.model.specs.Case.{most_edges}
 use Rattle.model.specs.ClaimLabels.{bit}
@@ -11,7 +11,10 @@ use Rattle.model.specs.Product.{Automaton, product, chart_automaton, claim_autom
 use Rattle.claim.specs.LabelSays.{most_values}
 use Rattle.claim.specs.Cells.{move_cell, claim_cells}
 use Rattle.chart.specs.Pairs.{one_rule}
-use Rattle.product.specs.Tables.{ends_of}
+use Rattle.model.specs.declared.refusal.Refusal.{Refusal}
+use Rattle.model.specs.declared.refusal.Refusal.TheVariants.{TooManyEdges}
+use Rattle.product.specs.Tables.{Added}
+use Rattle.product.specs.declared.edges.Sizes.{Sizes}
 
 abbrev pub both_of : Chart → Claim → Automaton
 both_of h k = product (chart_automaton h) (claim_automaton k)
@@ -30,43 +33,33 @@ pub record Leads (entry : ℕ) : Type 0 where
   pub below : entry < most_modes + one_rule
 
 -- THE TABLES of a chart and a claim, by their counts
-pub record Given (h : Chart) (k : Claim) (modes states count : ℕ) (follow cells : List ℕ) : Type 0 where
-  pub of_modes : modes ≡ h.modes
-  pub of_states : states ≡ length k.states
-  pub of_flags : count ≡ combinations h
-  pub next : (q f : ℕ) → q < modes → f < count → get_or follow (q * count + f) 0 ≡ next_mode h q f + one_rule
-  pub goes : (s f : ℕ) → s < states → f < count → Goes k f s (get_or cells (move_cell s f) 0)
+pub record Given (h : Chart) (k : Claim) (z : Sizes) (follow cells : List ℕ) : Type 0 where
+  pub of_modes : z.modes ≡ h.modes
+  pub of_states : z.states ≡ length k.states
+  pub of_flags : z.count ≡ combinations h
+  pub next : (q f : ℕ) → q < z.modes → f < z.count → get_or follow (q * z.count + f) 0 ≡ next_mode h q f + one_rule
+  pub goes : (s f : ℕ) → s < z.states → f < z.count → Goes k f s (get_or cells (move_cell s f) 0)
 
 -- what is asked of any such tables
-pub record Asks (modes states count : ℕ) (follow cells : List ℕ) : Type 0 where
-  pub some_states : 1 ≤ states
-  pub few_states : states ≤ most_states
-  pub few_modes : modes ≤ most_modes
-  pub few_values : count ≤ most_values
-  pub pairs : modes * count ≤ length follow
+pub record Asks (z : Sizes) (follow cells : List ℕ) : Type 0 where
+  pub some_states : 1 ≤ z.states
+  pub few_states : z.states ≤ most_states
+  pub few_modes : z.modes ≤ most_modes
+  pub few_values : z.count ≤ most_values
+  pub pairs : z.modes * z.count ≤ length follow
   pub roomy : claim_cells ≤ length cells
-  pub leads : (q f : ℕ) → q < modes → f < count → Leads (get_or follow (q * count + f) 0)
-
--- TABLES OF EDGES: how many there are, and their ends in front if both tables have room for all
-pub record Listed (es : List Edge) (n : ℕ) (froms tos : List ℕ) : Type 0 where
-  pub count : n ≡ length es
-  pub ends : n ≤ length froms → n ≤ length tos → ends_of (take n froms) (take n tos) ≡ es
-
--- some edges more: n, fs and ts before, r, gs and us after
-pub record Adds (es : List Edge) (n r : ℕ) (fs gs ts us : List ℕ) : Type 0 where
-  pub adds : (ds : List Edge) → Listed ds n fs ts → Listed (ds ++ es) r gs us
+  pub leads : (q f : ℕ) → q < z.modes → f < z.count → Leads (get_or follow (q * z.count + f) 0)
 
 -- A MASK: the edges from v to the states of one mode, the first of which makes vertex w
-pub record MaskAdds (mask v w states n r : ℕ) (fs gs ts us : List ℕ) : Type 0 where
-  pub few : r ≤ n + states
-  pub edges : (a : Automaton) → ((t : ℕ) → t < states → bit mask t ≡ has_edge a v (w + t)) → Adds (edges_to states w a v) n r fs gs ts us
+pub record MaskAdds (mask v w states : ℕ) (before : List Edge) (r : Result (Unit {0}) Refusal) (after : List Edge) : Type 0 where
+  pub edges : (a : Automaton) → ((t : ℕ) → t < states → bit mask t ≡ has_edge a v (w + t)) → Added (edges_to states w a v) before r after
 
 -- A ROW of masks, one for each mode: the edges that leave v
 pub record Holds (a : Automaton) (v states : ℕ) (row : List ℕ) : Type 0 where
   pub bits : (r t : ℕ) → r < length row → t < states → bit (get_or row r 0) t ≡ has_edge a v (r * states + t)
 
-pub record RowAdds (row : List ℕ) (v modes states n r : ℕ) (fs gs ts us : List ℕ) : Type 0 where
-  pub edges : (a : Automaton) → Holds a v states row → Adds (edges_to (modes * states) 0 a v) n r fs gs ts us
+pub record RowAdds (row : List ℕ) (v states : ℕ) (before : List Edge) (r : Result (Unit {0}) Refusal) (after : List Edge) : Type 0 where
+  pub edges : (a : Automaton) → Holds a v states row → Added (edges_to (length row * states) 0 a v) before r after
 
 -- the entries of one mode start at `at`, those of one state at `from`
 pub record RowAsks (at from count : ℕ) (row follow cells : List ℕ) : Type 0 where
@@ -76,15 +69,17 @@ pub record RowAsks (at from count : ℕ) (row follow cells : List ℕ) : Type 0 
   pub leads : (f : ℕ) → f < count → Leads (get_or follow (at + f) 0)
 
 pub record RowFilled (at from count : ℕ) (follow cells row : List ℕ) : Type 0 where
-  pub long : length row ≡ most_modes
   pub holds : (h : Chart) (k : Claim) (q s : ℕ) → s < length k.states → count ≡ combinations h
       → ((f : ℕ) → f < count → get_or follow (at + f) 0 ≡ next_mode h q f + one_rule) → ((f : ℕ) → f < count → Goes k f s (get_or cells (from + f) 0))
       → Holds (both_of h k) (q * length k.states + s) (length k.states) row
 
 -- THE WHOLE: the edges that leave one vertex, and all of them, if there are not too many
-pub record VertexAdds (v modes states count : ℕ) (follow cells : List ℕ) (n r : ℕ) (fs gs ts us : List ℕ) : Type 0 where
-  pub edges : (h : Chart) (k : Claim) → Given h k modes states count follow cells → Adds (edges_to (modes * states) 0 (both_of h k) v) n r fs gs ts us
+pub record VertexAdds (v : ℕ) (z : Sizes) (follow cells : List ℕ) (before : List Edge) (r : Result (Unit {0}) Refusal) (after : List Edge) : Type 0 where
+  pub edges : (h : Chart) (k : Claim) → Given h k z follow cells → Added (edges_to (z.modes * z.states) 0 (both_of h k) v) before r after
 
-pub record EdgesFound (modes states count : ℕ) (follow cells : List ℕ) (r : ℕ) (froms tos : List ℕ) : Type 0 where
-  pub edges : (h : Chart) (k : Claim) → Given h k modes states count follow cells → r ≤ most_edges → Listed (graph_of (both_of h k)).edges r froms tos
-  pub many : (h : Chart) (k : Claim) → Given h k modes states count follow cells → most_edges < r → most_edges < length (graph_of (both_of h k)).edges
+abbrev pub AllFound : (edges : List Edge) → Result (List Edge) Refusal → Type 0
+AllFound es (Ok ds) = ds ≡ es
+AllFound es (Err k) = (k ≡ TooManyEdges) × (most_edges < length es)
+
+pub record EdgesFound (z : Sizes) (follow cells : List ℕ) (r : Result (List Edge) Refusal) : Type 0 where
+  pub edges : (h : Chart) (k : Claim) → Given h k z follow cells → AllFound (graph_of (both_of h k)).edges r

@@ -3,5 +3,6 @@ pub mod Tables
 pub mod Edges
 pub mod Names
 pub mod Written
+pub mod Refused
 pub mod Both
 pub mod Entries

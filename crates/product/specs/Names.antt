@@ -6,9 +6,12 @@ use Rattle.text.specs.Lines.{Line, lines, text}
 use Rattle.text.specs.Numbers.{decimal, numbers_line}
 use Rattle.text.specs.Reading.{field_here, Part}
 use Rattle.text.specs.Writing.{Puts}
+use Rattle.model.specs.Graph.{Edge}
 use Rattle.model.specs.CaseFile.{column}
 use Rattle.claim.specs.Cells.{name_cell, length_cell}
 use Rattle.chart.specs.Reading.{name_place}
+use Rattle.product.specs.Tables.{end_of}
+use Rattle.product.specs.declared.steps.Names.{Names}
 use Rattle.product.specs.declared.names.Place.{Place}
 use Rattle.product.specs.declared.names.Place.TheVariants.{Mode, State}
 
@@ -34,20 +37,22 @@ state_text k cs s =
 pub record PlacesFilled (chart places : List ℕ) : Type 0 where
   pub at : (q : ℕ) → q < length places → get_or places q 0 ≡ name_place chart q
 
--- A LINE OF THE LISTING, by the texts, these places and the claim's cells
-unfoldable pub named_row : (chart claim places cells : List ℕ) → (states vertex : ℕ) → List (List ℕ)
-named_row h k ps cs n v = field_here h (get_or ps (v / n) 0) ∷ state_text k cs (v % n) ∷ []
+-- A LINE OF THE LISTING, by these texts, places and cells
+unfoldable pub row_by : (chart claim places cells : List ℕ) → (states vertex : ℕ) → List (List ℕ)
+row_by h k ps cs n v = field_here h (get_or ps (v / n) 0) ∷ state_text k cs (v % n) ∷ []
 
--- one line for each edge of a walk from v on, by the vertex that each leads to; an edge past the table is a rest loop, which
--- stays where it is
-unfoldable pub rows_by : (row : ℕ → List (List ℕ)) → (tos : List ℕ) → (v : ℕ) → (walk : List ℕ) → List (List (List ℕ))
-rows_by row tos v [] = []
-rows_by row tos v (e ∷ es) = row v ∷ rows_by row tos (get_or tos e v) es
+abbrev pub named_row : Names → (vertex : ℕ) → List (List ℕ)
+named_row n v = row_by n.chart.now n.claim.now n.places.now n.cells.now n.states v
+
+-- one line for each edge of a walk from v on, by the vertex that each leads to
+unfoldable pub rows_by : (row : ℕ → List (List ℕ)) → (edges : List Edge) → (v : ℕ) → (walk : List ℕ) → List (List (List ℕ))
+rows_by row ds v [] = []
+rows_by row ds v (e ∷ es) = row v ∷ rows_by row ds (end_of ds e v) es
 
 unfoldable pub all_single : List Line → Bool
 all_single [] = true
 all_single (l ∷ ls) = numbers_line 1 l && all_single ls
 
 -- the lines of all edges that stand in an answer from a place on, if nothing else stands there
-pub record StepsWritten (row : ℕ → List (List ℕ)) (answer : List ℕ) (at v : ℕ) (tos : List ℕ) (r : ℕ) (o z : List ℕ) : Type 0 where
-  pub lines : all_single (lines (drop at answer)) ≡ true → Puts 0 (text (rows_by row tos v (column 0 (lines (drop at answer))))) r o z
+pub record StepsWritten (row : ℕ → List (List ℕ)) (answer : List ℕ) (at v : ℕ) (edges : List Edge) (r : ℕ) (o z : List ℕ) : Type 0 where
+  pub lines : all_single (lines (drop at answer)) ≡ true → Puts 0 (text (rows_by row edges v (column 0 (lines (drop at answer))))) r o z

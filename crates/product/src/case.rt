@@ -4,8 +4,9 @@ ghost use Rattle.text.specs.Lines.{text};
 ghost use Rattle.text.specs.Writing.{Puts};
 ghost use Rattle.model.specs.Case.{most_vertices};
 ghost use Rattle.model.specs.CaseText.{mark_rows, end_rows, case_file};
-ghost use Rattle.product.specs.Tables.{ends_of, tabled, Tables, head_text};
+ghost use Rattle.product.specs.Tables.{edges_of, tabled, Tables, head_text};
 
+use crate::table::Ends;
 use text::write::{write_bytes, write_field};
 
 // Lines 1 to 3: names; version, counts, source and workers; names.
@@ -26,27 +27,22 @@ fn write_vertices(output: &mut [u8], at: usize, marks: &[u32], owners: &[u32]) -
     ensures { Puts at (text (mark_rows 0 marks.now owners.now)) result output.old output.new }
 {
     let mut here = at;
-    let mut v: usize = 0;
-    while v < marks.len() {
+    for v in 0..marks.len() {
         here = write_field(output, here, v as u32, b' ');
         here = write_field(output, here, marks[v], b' ');
         here = write_field(output, here, owners[v], b'\n');
-        v += 1;
     }
     here
 }
 
 // The line of each edge: its two ends.
-fn write_edges(output: &mut [u8], at: usize, froms: &[u32], tos: &[u32]) -> usize
-    requires { length tos.now ≡ length froms.now }
-    ensures { Puts at (text (end_rows (ends_of froms.now tos.now))) result output.old output.new }
+fn write_edges(output: &mut [u8], at: usize, edges: &[Ends]) -> usize
+    ensures { Puts at (text (end_rows (edges_of edges.now))) result output.old output.new }
 {
     let mut here = at;
-    let mut e: usize = 0;
-    while e < froms.len() {
-        here = write_field(output, here, froms[e], b' ');
-        here = write_field(output, here, tos[e], b'\n');
-        e += 1;
+    for edge in edges {
+        here = write_field(output, here, edge.from, b' ');
+        here = write_field(output, here, edge.to, b'\n');
     }
     here
 }
@@ -58,16 +54,15 @@ pub(crate) fn write_case(
     workers: u32,
     marks: &[u32],
     owners: &[u32],
-    froms: &[u32],
-    tos: &[u32],
+    edges: &[Ends],
 ) -> usize
-    requires { Tables marks.now owners.now froms.now tos.now }
-    ensures { Puts 0 (case_file (tabled source workers marks.now owners.now froms.now tos.now)) result output.old output.new }
+    requires { Tables marks.now owners.now edges.now }
+    ensures { Puts 0 (case_file (tabled source workers marks.now owners.now (edges_of edges.now))) result output.old output.new }
 {
     let n = marks.len() as u32;
-    let m = froms.len() as u32;
+    let m = edges.len() as u32;
     let mut at = write_head(output, n, m, source, workers);
     at = write_vertices(output, at, marks, owners);
     at = write_bytes(output, at, b"from to\n");
-    write_edges(output, at, froms, tos)
+    write_edges(output, at, edges)
 }

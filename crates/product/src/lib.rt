@@ -2,20 +2,22 @@
 // specs/Entries.antt.
 #![tactic(auto)]
 
-ghost use Rattle.std.specs.Prelude.{◌≡◌, ◌≤◌};
-ghost use Rattle.model.specs.Case.{longest_file};
+ghost use Rattle.std.specs.Prelude.{◌≡◌};
 ghost use Rattle.model.specs.BuiltEntry.{BuildSays, StepsSay};
-ghost use Rattle.product.specs.Entries.{workers_right, written_by, ListAsks, CheckAsks};
+ghost use Rattle.product.specs.Refused.{built_as};
+ghost use Rattle.product.specs.Entries.{workers_right, ListAsks, CheckAsks};
 
-use both::{Both, read_both, refused};
-use build::{Product, Sizes, write_product};
+use both::read_both;
 use casefile::Case;
 use chart::Chart;
 use checker::check_answer;
 use claim::Counts;
-use model::{Built, Outcome};
+use edges::Product;
+use model::{Built, Outcome, Refusal};
 use names::fill_places;
-use steps::write_steps;
+use refused::{Refused, built};
+use steps::Names;
+use table::Edges;
 use text::read::past_head;
 
 mod both;
@@ -23,145 +25,122 @@ mod build;
 mod case;
 mod edges;
 mod names;
+mod refused;
 mod steps;
-
-// "It and the listing each need an output of 65,536 bytes, else number 11"
-const SMALL_OUTPUT: u32 = 11;
-
-// "A worker count outside 01's range gets 5"
-const OUT_OF_RANGE: u32 = 5;
-
-// So many bytes are written.
-fn written(n: usize) -> Built
-    requires { n ≤ longest_file }
-    ensures { result ≡ written_by n }
-{
-    Built {
-        refusal: 0,
-        mode: 0,
-        combination: 0,
-        written: n as u32,
-    }
-}
+mod table;
 
 // Whether a case file may have so many workers.
+#[tactic(auto, unfolding(crate::specs::Entries::workers_right))]
 pub fn workers_right(workers: u32) -> bool
     ensures { result ≡ workers_right workers }
 {
-    if workers < 1 {
-        return false;
+    1 <= workers && workers as usize <= Case::MOST_WORKERS
+}
+
+// The case file of the product of a chart and a claim, at the output's front: its length. "It and the listing each need an
+// output of 65,536 bytes, else number 11", "a worker count outside 01's range gets 5".
+fn try_build(chart: &[u8], claim: &[u8], workers: u32, output: &mut [u8]) -> Result<u32, Refused>
+    ensures { BuildSays chart.now claim.now workers (built_as result) output.old output.new }
+{
+    if output.len() < Built::LEAST_CASE_OUTPUT {
+        return Err(Refused::from(Refusal::ShortBuffer));
     }
-    workers as usize <= Case::MOST_WORKERS
+    if !workers_right(workers) {
+        return Err(Refused::from(Refusal::OutOfRange));
+    }
+    let mut follow = [0u8; Chart::MOST_PAIRS];
+    let mut cells = [0u32; Counts::CELLS];
+    let product = Product {
+        sizes: read_both(chart, claim, &mut follow, &mut cells)?,
+        follow: &follow,
+        cells: &cells,
+    };
+    let edges = product.edges()?;
+    Ok(product.write(output, workers as usize, &edges) as u32)
 }
 
 // The case file of the product of a chart and a claim, at the output's front.
 pub fn build_case(chart: &[u8], claim: &[u8], workers: u32, output: &mut [u8]) -> Built
     ensures { BuildSays chart.now claim.now workers result output.old output.new }
 {
-    if output.len() < Built::LEAST_CASE_OUTPUT {
-        return refused(SMALL_OUTPUT);
-    }
-    if !workers_right(workers) {
-        return refused(OUT_OF_RANGE);
-    }
-    let mut follow = [0u8; Chart::MOST_PAIRS];
-    let mut cells = [0u32; Counts::CELLS];
-    match read_both(chart, claim, &mut follow, &mut cells) {
-        Both::Refused(said) => said,
-        Both::Read(sizes) => {
-            let mut froms = [0u32; Case::MOST_EDGES];
-            let mut tos = [0u32; Case::MOST_EDGES];
-            match write_product(
-                output,
-                &follow,
-                &cells,
-                sizes,
-                workers as usize,
-                &mut froms,
-                &mut tos,
-            ) {
-                Product::TooMany => refused(Built::TOO_MANY_EDGES),
-                Product::Written(n, _) => written(n),
-            }
-        }
-    }
+    built(try_build(chart, claim, workers, output))
 }
 
 // The listing of an answer to the case file built, at the output's front: what the checker says of it, and a passing lasso's
 // steps. Its edges stand from line 4 to its end.
-fn list_checked<'a>(
-    chart: &'a [u8],
-    claim: &'a [u8],
+fn list_checked(
+    chart: &[u8],
+    claim: &[u8],
     answer: &[u8],
     case: &[u8],
-    tos: &[u32],
-    cells: &[u32],
-    states: usize,
-    source: usize,
+    product: &Product,
+    edges: &Edges,
     output: &mut [u8],
-) -> Built
-    requires { CheckAsks chart.now claim.now case.now tos.now cells.now states source output.old }
-    ensures { StepsSay chart.now claim.now answer.now result output.old output.new }
+) -> Result<u32, Refused>
+    requires { CheckAsks chart.now claim.now case.now product.now.sizes product.now.cells.now edges.now output.old }
+    ensures { StepsSay chart.now claim.now answer.now (built_as result) output.old output.new }
 {
     let checked = check_answer(case, answer);
     if checked.refusal != 0 {
-        return refused(checked.refusal);
+        return Err(Refused {
+            refusal: checked.refusal,
+            mode: 0,
+            combination: 0,
+        });
     }
     if checked.verdict == Outcome::EMPTY {
-        return written(0);
+        return Ok(0);
     }
-    let edges = past_head(answer);
     let mut places = [0usize; Chart::MOST_MODES];
     fill_places(chart, &mut places);
-    let n = write_steps(
-        output, answer, edges, source, tos, chart, claim, &places, cells, states,
-    );
-    written(n)
+    let names = Names {
+        chart,
+        claim,
+        places: &places,
+        cells: product.cells,
+        states: product.sizes.states,
+    };
+    let steps = past_head(answer);
+    Ok(names.write_steps(output, answer, steps, product.sizes.source, edges) as u32)
 }
 
 // The listing for a chart and a claim that are read. The workers of the case file built change nothing.
-fn list_read<'a>(
-    chart: &'a [u8],
-    claim: &'a [u8],
+fn list_read(
+    chart: &[u8],
+    claim: &[u8],
     answer: &[u8],
-    follow: &[u8],
-    cells: &[u32],
-    sizes: Sizes,
+    product: &Product,
     output: &mut [u8],
-) -> Built
-    requires { ListAsks chart.now claim.now sizes follow.now cells.now output.old }
-    ensures { StepsSay chart.now claim.now answer.now result output.old output.new }
+) -> Result<u32, Refused>
+    requires { ListAsks chart.now claim.now product.now.sizes product.now.follow.now product.now.cells.now output.old }
+    ensures { StepsSay chart.now claim.now answer.now (built_as result) output.old output.new }
 {
+    let edges = product.edges()?;
     let mut case = [0u8; Case::LONGEST_FILE];
-    let mut froms = [0u32; Case::MOST_EDGES];
-    let mut tos = [0u32; Case::MOST_EDGES];
-    match write_product(&mut case, follow, cells, sizes, 1, &mut froms, &mut tos) {
-        Product::TooMany => refused(Built::TOO_MANY_EDGES),
-        Product::Written(n, m) => list_checked(
-            chart,
-            claim,
-            answer,
-            &case[..n],
-            &tos[..m],
-            cells,
-            sizes.states,
-            sizes.source,
-            output,
-        ),
-    }
+    let n = product.write(&mut case, 1, &edges);
+    list_checked(chart, claim, answer, &case[..n], product, &edges, output)
 }
 
-// The steps of a lasso that the checker passes, each by the names of its mode and its claim state, at the output's front.
-pub fn list_steps<'a>(chart: &'a [u8], claim: &'a [u8], answer: &[u8], output: &mut [u8]) -> Built
-    ensures { StepsSay chart.now claim.now answer.now result output.old output.new }
+// The listing at the output's front: its length.
+fn try_list(chart: &[u8], claim: &[u8], answer: &[u8], output: &mut [u8]) -> Result<u32, Refused>
+    ensures { StepsSay chart.now claim.now answer.now (built_as result) output.old output.new }
 {
     if output.len() < Built::LEAST_STEPS_OUTPUT {
-        return refused(SMALL_OUTPUT);
+        return Err(Refused::from(Refusal::ShortBuffer));
     }
     let mut follow = [0u8; Chart::MOST_PAIRS];
     let mut cells = [0u32; Counts::CELLS];
-    match read_both(chart, claim, &mut follow, &mut cells) {
-        Both::Refused(said) => said,
-        Both::Read(sizes) => list_read(chart, claim, answer, &follow, &cells, sizes, output),
-    }
+    let product = Product {
+        sizes: read_both(chart, claim, &mut follow, &mut cells)?,
+        follow: &follow,
+        cells: &cells,
+    };
+    list_read(chart, claim, answer, &product, output)
+}
+
+// The steps of a lasso that the checker passes, each by the names of its mode and its claim state, at the output's front.
+pub fn list_steps(chart: &[u8], claim: &[u8], answer: &[u8], output: &mut [u8]) -> Built
+    ensures { StepsSay chart.now claim.now answer.now result output.old output.new }
+{
+    built(try_list(chart, claim, answer, output))
 }

@@ -1,5 +1,4 @@
 // Names of modes and of claim states, as parts of the lent texts. Contracts cite specs/Names.antt.
-ghost use Rattle.std.specs.Prelude.{◌≡◌, min, get_or};
 ghost use Rattle.product.specs.Names.{Piece, NameIs, PlacesFilled};
 
 use text::read::{field, next_line, past_head};
@@ -11,21 +10,12 @@ pub(crate) enum Place {
     State(usize, usize),
 }
 
-fn least(a: usize, b: usize) -> usize
-    ensures { result ≡ min a b }
-{
-    if a < b {
-        return a;
-    }
-    b
-}
-
 // So many bytes from a place on: that very part of the text, cut at its end.
 fn part(text: &[u8], at: usize, many: usize) -> &[u8]
     ensures { Piece text.entry at many result }
 {
-    let start = least(at, text.len());
-    let end = start + least(many, text.len() - start);
+    let start = at.min(text.len());
+    let end = start + many.min(text.len() - start);
     &text[start..end]
 }
 
@@ -44,20 +34,8 @@ pub(crate) fn fill_places(chart: &[u8], places: &mut [usize])
     ensures { PlacesFilled chart.now places.new }
 {
     let mut at = past_head(chart);
-    let mut q: usize = 0;
-    while q < places.len() {
-        places[q] = at;
+    for place in places.iter_mut() {
+        *place = at;
         at = next_line(chart, at);
-        q += 1;
     }
-}
-
-// A place of those, 0 past their end.
-pub(crate) fn place_of(places: &[usize], q: usize) -> usize
-    ensures { result ≡ get_or places.now q 0 }
-{
-    if q < places.len() {
-        return places[q];
-    }
-    0
 }

@@ -4,7 +4,7 @@ use Rattle.claim.proofs.JudgeCode.{text_opens, text_unopened}
 use Rattle.claim.proofs.read_text.Goals as goal
 
 pub read_opened-requires : goal.read_opened-requires
-read_opened-requires c = record { text_value = text_opens c.args.text.now c.opening.result c.opening.ensures _ c.in-To.is; claim_cells_in_bounds = c.requires }
+read_opened-requires c = record { text_value = text_opens c.args.text.now _ c.in-Ok.ensures; claim_cells_in_bounds = c.requires }
 
-pub returns-in-Fault : goal.returns-in-Fault
-returns-in-Fault c = text_unopened c.args.text.now c.opening.result c.opening.ensures _ c.in-Fault.is [] []
+pub returns-in-Err : goal.returns-in-Err
+returns-in-Err c = text_unopened c.args.text.now _ c.in-Err.ensures [] []

@@ -1,18 +1,14 @@
 -- `show`: the line of the refusal, or the lines of the claim.
-use Rattle.claimcheck.proofs.Printing.{refused_shows, counts_right, claim_there, accepted_shows}
+use Rattle.claim.proofs.EntryCode.{judged_by}
+use Rattle.claimcheck.proofs.Printing.{refused_shows, claim_there, accepted_shows}
 use Rattle.claimcheck.proofs.show.Goals as goal
 
 pub write_claim-requires : goal.write_claim-requires
 write_claim-requires c =
-    let s = c.requires in
-    record { counts_value = counts_right _ c.read_claim.ensures _ c.in-Accepted.is; claim_there = claim_there _ c.read_claim.ensures _ c.in-Accepted.is s.1 c.read_claim.auto.cells }
+    record { counts_value = (judged_by _ _ _ c.read_claim.ensures.answer c.in-Ok.is).counts; claim_there = claim_there _ c.read_claim.ensures _ c.in-Ok.is c.requires.1 c.read_claim.auto.cells }
 
-pub returns-in-Refused : goal.returns-in-Refused
-returns-in-Refused c =
-    let s = c.requires in
-    refused_shows _ c.read_claim.ensures _ c.in-Refused.is s.0 c.write_refusal.ensures
+pub returns-in-Err : goal.returns-in-Err
+returns-in-Err c = refused_shows _ c.read_claim.ensures _ c.in-Err.is _ c.number.ensures c.requires.0 c.write_refusal.ensures
 
-pub returns-in-Accepted : goal.returns-in-Accepted
-returns-in-Accepted c =
-    let s = c.requires in
-    accepted_shows _ c.read_claim.ensures _ c.in-Accepted.is s.0 c.write_claim.ensures
+pub returns-in-Ok : goal.returns-in-Ok
+returns-in-Ok c = accepted_shows _ c.read_claim.ensures _ c.in-Ok.is c.requires.0 c.write_claim.ensures

@@ -1,5 +1,5 @@
 -- `header::item` meets its contract. Assumes nothing.
-use Rattle.claim.proofs.HeaderLoop.{kind_bad, states_first, states_again, start_first, start_again, propositions_first, propositions_again, acceptance_first, acceptance_again, skipped_read}
+use Rattle.claim.proofs.HeaderLoop.{states_first, states_again, start_first, start_again, propositions_first, propositions_again, acceptance_first, acceptance_again, skipped_read}
 use Rattle.claim.proofs.header.item.Goals as goal
 
 pub returns-then-g-gt0 : goal.returns-then-g-gt0
@@ -13,9 +13,6 @@ returns-then-g c = propositions_again c.args.text.now c.args.kind c.args.at c.ar
 
 pub returns-then-g-2 : goal.returns-then-g-2
 returns-then-g-2 c = acceptance_again c.args.text.now c.args.kind c.args.at c.args.g c.in-Acceptance.is c.if-g-2.true
-
-pub returns-in-Fault : goal.returns-in-Fault
-returns-in-Fault c = kind_bad c.args.text.now c.args.kind c.args.at c.args.g _ c.in-Fault.is
 
 pub returns-else-g-gt0 : goal.returns-else-g-gt0
 returns-else-g-gt0 c = states_first c.args.text.now c.args.kind c.args.at c.args.g c.in-States.is c.if-g-gt0.false c.states_item.result c.states_item.ensures

@@ -1,7 +1,8 @@
 -- `header::kind_of` meets its contract. Assumes nothing.
-use mathlib.Core.Path.{refl, sym, ◌∙◌}
+use mathlib.Core.Path.{refl, sym, ap, ◌∙◌}
 use Rattle.model.specs.ClaimTokens.{is_small}
 use Rattle.claim.proofs.HeaderLoop.{small_skipped}
+use Rattle.std.specs.Prelude.{Err}
 use Rattle.claim.proofs.header.kind_of.Goals as goal
 
 pub returns-then-b : goal.returns-then-b
@@ -24,4 +25,4 @@ returns-then-word-5 c = sym (rw (sym c.word.ensures ∙ c.if-word.false, sym c.w
 
 pub returns : goal.returns
 unfolding is_small
-returns c = c.kind_by.ensures ∙ sym (rw (sym c.word.ensures ∙ c.if-word.false, sym c.word-2.ensures ∙ c.if-word-2.false, sym c.word-3.ensures ∙ c.if-word-3.false, sym c.word-4.ensures ∙ c.if-word-4.false, sym c.word-5.ensures ∙ c.if-word-5.false, sym c.first_byte-b.ensures, c.if-b.false) refl)
+returns c = ap Err c.no_kind.ensures ∙ sym (rw (sym c.word.ensures ∙ c.if-word.false, sym c.word-2.ensures ∙ c.if-word-2.false, sym c.word-3.ensures ∙ c.if-word-3.false, sym c.word-4.ensures ∙ c.if-word-4.false, sym c.word-5.ensures ∙ c.if-word-5.false, sym c.first_byte-b.ensures, c.if-b.false) refl)

@@ -1,15 +1,19 @@
 -- `header::names_on` meets its contract: so many names are left. Assumes nothing.
+use Prim.Native.Nat.{◌+◌, ◌-◌}
+use native.Mathlib.Nat.{sub-zero}
+use native.Mathlib.Omega.{arith}
+use Rattle.claim.proofs.Variants.{handed_on}
 use Rattle.claim.proofs.HeaderItems.{names_begun, names_again, names_torn, names_read}
 use Rattle.claim.proofs.header.names_on.Goals as goal
 
-pub loop-left-init : goal.loop-left-init
-loop-left-init c = names_begun _ _ _
+pub loop-init : goal.loop-init
+loop-init c = rw (sub-zero c.args.count) (names_begun _ _ _)
 
-pub returns-in-Fault : goal.returns-in-Fault
-returns-in-Fault c = names_torn c.loop-left.invariant c.loop-left-test.true c.args.g c.string_at-past.result _ c.in-Fault.is c.string_at-past.ensures
+pub returns-in_err-here : goal.returns-in_err-here
+returns-in_err-here c = rw (handed_on c.from_residual.ensures) (names_torn c.loop.invariant (c.args.count - (c.loop.counter + 1)) (omega arith) c.args.g _ c.in_err-here.ensures)
 
-pub loop-left-preserved : goal.loop-left-preserved
-loop-left-preserved c = names_again c.loop-left.invariant c.loop-left-test.true c.string_at-past.result _ c.in-To.is c.string_at-past.ensures
+pub loop-preserved : goal.loop-preserved
+loop-preserved c = names_again c.loop.invariant _ (omega arith) _ c.in_ok-here.ensures
 
 pub returns : goal.returns
-returns c = names_read c.loop-left.invariant c.loop-left-test.false c.args.g c.requires.named_value c.requires.count_le_most_propositions
+returns c = names_read c.loop.invariant (omega arith) c.args.g c.requires.named_value c.requires.count_le_most_propositions

@@ -5,13 +5,13 @@ use borrow.Enum.Refused.{opened}
 use Rattle.claim.proofs.header.set_on.Goals as goal
 
 pub returns-then-v-eq0 : goal.returns-then-v-eq0
-returns-then-v-eq0 c = set_is c.claim_token-seen.ensures _ c.in-Number.is c.if-v-eq0.true c.close_on.result c.close_on.ensures
+returns-then-v-eq0 c = set_is c.claim_token-token.ensures _ c.in-Number.is c.if-v-eq0.true c.close_on.result c.close_on.ensures
 
 pub returns-then-is_symbol : goal.returns-then-is_symbol
-returns-then-is_symbol c = set_negated c.claim_token-seen.ensures (sym c.is_symbol.ensures ∙ c.if-is_symbol.true)
+returns-then-is_symbol c = set_negated c.claim_token-token.ensures (sym c.is_symbol.ensures ∙ c.if-is_symbol.true)
 
 pub returns-else-v-eq0 : goal.returns-else-v-eq0
-returns-else-v-eq0 c = set_other c.claim_token-seen.ensures _ c.in-Number.is c.if-v-eq0.false
+returns-else-v-eq0 c = set_other c.claim_token-token.ensures _ c.in-Number.is c.if-v-eq0.false
 
 pub returns-else-is_symbol : goal.returns-else-is_symbol
-returns-else-is_symbol c = set_not c.claim_token-seen.ensures (opened c.in_default.in_default-own.keys2) (sym c.is_symbol.ensures ∙ c.if-is_symbol.false) _ c.fault.ensures
+returns-else-is_symbol c = set_not c.claim_token-token.ensures (opened c.in_default.in_default-own.keys2) (sym c.is_symbol.ensures ∙ c.if-is_symbol.false) _ c.fault.ensures

@@ -4,22 +4,23 @@ use native.Mathlib.Omega.{arith}
 use Rattle.model.specs.ClaimLabels.{not_byte, open_byte}
 use Rattle.claim.proofs.Signs.{not_sign, open_sign, close_sign, sign_inside, sign_not}
 use Rattle.claim.proofs.LabelCode.{nots_none, nots_more, nots_carried, nots_deep, atom_closed, and_first_due, and_broken, and_ended, and_again, and_ahead, or_first_due, or_broken, or_ended, or_again, or_ahead}
+use Rattle.claim.proofs.Variants.{handed_on}
 use Rattle.claim.proofs.labels.+and_level_atom_or_level.Goals as goal
 
 pub and_level-loop-w-init : goal.and_level-loop-w-init
 and_level-loop-w-init t c = and_first_due _ _ _ _ _ c.repeated-values.ensures
 
-pub and_level-returns-in_default : goal.and_level-returns-in_default
-and_level-returns-in_default t c = and_broken _ c.loop-w.invariant c.atom-more.result c.in_default.in_default-own.keys2 c.atom-more.ensures
+pub and_level-returns-in_err-w : goal.and_level-returns-in_err-w
+and_level-returns-in_err-w t c = rw (handed_on c.from_residual.ensures) (and_broken _ c.loop-w.invariant _ c.in_err-w.ensures)
 
 pub and_level-returns-then-byte_at-ne38 : goal.and_level-returns-then-byte_at-ne38
-and_level-returns-then-byte_at-ne38 t c = and_ended _ c.loop-w.invariant c.atom-more.result _ _ c.in-Is.is c.atom-more.ensures _ c.intersection-values.ensures (λ q. c.if-byte_at-ne38.true (c.byte_at.ensures ∙ q))
+and_level-returns-then-byte_at-ne38 t c = and_ended _ c.loop-w.invariant _ _ c.in_ok-w.ensures _ c.intersection-values.ensures (λ q. c.if-byte_at-ne38.true (c.byte_at.ensures ∙ q))
 
 pub and_level-loop-w-smaller : goal.and_level-loop-w-smaller
-and_level-loop-w-smaller t c = let h = and_ahead _ c.loop-w.invariant c.atom-more.result _ _ c.in-Is.is c.atom-more.ensures _ c.intersection-values.ensures (sym c.byte_at.ensures ∙ c.if-byte_at-ne38.false) in omega (arith, h.more, h.inside)
+and_level-loop-w-smaller t c = let h = and_ahead _ c.loop-w.invariant _ _ c.in_ok-w.ensures _ c.intersection-values.ensures (sym c.byte_at.ensures ∙ c.if-byte_at-ne38.false) in omega (arith, h.more, h.inside)
 
 pub and_level-loop-w-preserved : goal.and_level-loop-w-preserved
-and_level-loop-w-preserved t c = and_again _ c.loop-w.invariant c.atom-more.result _ _ c.in-Is.is c.atom-more.ensures _ c.intersection-values.ensures (sym c.byte_at.ensures ∙ c.if-byte_at-ne38.false)
+and_level-loop-w-preserved t c = and_again _ c.loop-w.invariant _ _ c.in_ok-w.ensures _ c.intersection-values.ensures (sym c.byte_at.ensures ∙ c.if-byte_at-ne38.false)
 
 pub atom-loop-at-init : goal.atom-loop-at-init
 atom-loop-at-init t c = nots_none _ _ _ _ _ c.past_blanks-here.ensures
@@ -60,14 +61,14 @@ atom-returns t c = nots_carried c.loop-at.invariant c.closed.result c.negated-2.
 pub or_level-loop-w-init : goal.or_level-loop-w-init
 or_level-loop-w-init t c = or_first_due _ _ _ _ _ c.repeated-values.ensures
 
-pub or_level-returns-in_default : goal.or_level-returns-in_default
-or_level-returns-in_default t c = or_broken _ c.loop-w.invariant c.and_level-more.result c.in_default.in_default-own.keys2 c.and_level-more.ensures
+pub or_level-returns-in_err-w : goal.or_level-returns-in_err-w
+or_level-returns-in_err-w t c = rw (handed_on c.from_residual.ensures) (or_broken _ c.loop-w.invariant _ c.in_err-w.ensures)
 
 pub or_level-returns-then-byte_at-ne124 : goal.or_level-returns-then-byte_at-ne124
-or_level-returns-then-byte_at-ne124 t c = or_ended _ c.loop-w.invariant c.and_level-more.result _ _ c.in-Is.is c.and_level-more.ensures _ c.union-values.ensures (λ q. c.if-byte_at-ne124.true (c.byte_at.ensures ∙ q))
+or_level-returns-then-byte_at-ne124 t c = or_ended _ c.loop-w.invariant _ _ c.in_ok-w.ensures _ c.union-values.ensures (λ q. c.if-byte_at-ne124.true (c.byte_at.ensures ∙ q))
 
 pub or_level-loop-w-smaller : goal.or_level-loop-w-smaller
-or_level-loop-w-smaller t c = let h = or_ahead _ c.loop-w.invariant c.and_level-more.result _ _ c.in-Is.is c.and_level-more.ensures _ c.union-values.ensures (sym c.byte_at.ensures ∙ c.if-byte_at-ne124.false) in omega (arith, h.more, h.inside)
+or_level-loop-w-smaller t c = let h = or_ahead _ c.loop-w.invariant _ _ c.in_ok-w.ensures _ c.union-values.ensures (sym c.byte_at.ensures ∙ c.if-byte_at-ne124.false) in omega (arith, h.more, h.inside)
 
 pub or_level-loop-w-preserved : goal.or_level-loop-w-preserved
-or_level-loop-w-preserved t c = or_again _ c.loop-w.invariant c.and_level-more.result _ _ c.in-Is.is c.and_level-more.ensures _ c.union-values.ensures (sym c.byte_at.ensures ∙ c.if-byte_at-ne124.false)
+or_level-loop-w-preserved t c = or_again _ c.loop-w.invariant _ _ c.in_ok-w.ensures _ c.union-values.ensures (sym c.byte_at.ensures ∙ c.if-byte_at-ne124.false)

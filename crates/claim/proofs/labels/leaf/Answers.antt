@@ -7,22 +7,22 @@ use borrow.Enum.Refused.{opened}
 use Rattle.claim.proofs.labels.leaf.Goals as goal
 
 pub overflow_add-at : goal.overflow_add-at
-overflow_add-at c = let h = (c.lone_digit-v.ensures c.if-v-lt10.true).1 in omega (arith, h.inside)
+overflow_add-at c = let h = c.in-Some.ensures.1 in omega (arith, h.inside)
 
-pub returns-then-v-lt10 : goal.returns-then-v-lt10
-returns-then-v-lt10 c = λ d. leaf_number _ c.args.count d _ _ _ _ (c.lone_digit-v.ensures c.if-v-lt10.true) c.past_blanks.ensures c.proposition.result c.proposition.ensures
+pub returns-in-Some : goal.returns-in-Some
+returns-in-Some c = λ d. leaf_number _ c.args.count d _ _ _ _ c.in-Some.ensures c.past_blanks.ensures c.proposition.result c.proposition.ensures
 
-pub overflow_add-at-then-b-ne0 : goal.overflow_add-at-then-b-ne0
-overflow_add-at-then-b-ne0 c = let h = (c.lone_letter-b.ensures c.if-b-ne0.true).1 in omega (arith, h.inside)
+pub overflow_add-at-in-Some-lone_letter : goal.overflow_add-at-in-Some-lone_letter
+overflow_add-at-in-Some-lone_letter c = let h = c.in-Some-lone_letter.ensures.1 in omega (arith, h.inside)
 
-pub returns-then-b-ne0 : goal.returns-then-b-ne0
-returns-then-b-ne0 c = λ d. leaf_name _ _ d _ _ _ _ (c.lone_letter-b.ensures c.if-b-ne0.true) c.past_blanks-then-b-ne0.ensures _ _ (letter_is _ _) (letter_is _ _) _ c.constant.ensures
+pub returns-in-Some-lone_letter : goal.returns-in-Some-lone_letter
+returns-in-Some-lone_letter c = λ d. leaf_name _ _ d _ _ _ _ c.in-Some-lone_letter.ensures c.past_blanks-in-Some-lone_letter.ensures _ _ (letter_is _ _) (letter_is _ _) _ c.constant.ensures
 
 pub returns-in-Name : goal.returns-in-Name
-returns-in-Name c = λ d. leaf_name _ _ d _ _ _ _ (name_is c.claim_token-seen.ensures _ _ c.in-Name.is) c.past_blanks-past.ensures _ _ (sym c.word.ensures) (sym c.word-in-Name.ensures) _ c.constant-in-Name.ensures
+returns-in-Name c = λ d. leaf_name _ _ d _ _ _ _ (name_is c.claim_token-token.ensures _ _ c.in-Name.is) c.past_blanks-past.ensures _ _ (sym c.word.ensures) (sym c.word-in-Name.ensures) _ c.constant-in-Name.ensures
 
 pub returns-in-Number : goal.returns-in-Number
-returns-in-Number c = λ d. leaf_number _ c.args.count d _ _ _ _ (number_is c.claim_token-seen.ensures _ c.in-Number.is) c.past_blanks-past.ensures c.proposition-in-Number.result c.proposition-in-Number.ensures
+returns-in-Number c = λ d. leaf_number _ c.args.count d _ _ _ _ (number_is c.claim_token-token.ensures _ c.in-Number.is) c.past_blanks-past.ensures c.proposition-in-Number.result c.proposition-in-Number.ensures
 
-pub returns-in_default : goal.returns-in_default
-returns-in_default c = λ d. leaf_refused c.claim_token-seen.ensures _ d (opened c.in_default.in_default-own.keys3) c.requires.at_value c.requires.at_value_2 _ c.no_atom.ensures
+pub returns-in_default-token : goal.returns-in_default-token
+returns-in_default-token c = λ d. leaf_refused c.claim_token-token.ensures _ d (opened c.in_default-token.in_default-token-own.keys3) c.requires.at_value c.requires.at_value_2 _ c.no_atom.ensures

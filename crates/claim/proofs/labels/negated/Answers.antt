@@ -1,12 +1,12 @@
 -- `labels::negated` meets its contract. Assumes nothing.
-use mathlib.Core.Path.{sym}
+use Rattle.claim.proofs.Variants.{handed_on}
 use Rattle.claim.proofs.labels.negated.Goals as goal
 
+pub returns-in_err-w : goal.returns-in_err-w
+returns-in_err-w c = rw c.in_err-w.was (handed_on c.from_residual.ensures)
+
 pub returns-then-odd : goal.returns-then-odd
-returns-then-odd c = sym (rw (c.in-Is.is, c.complement.ensures, c.if-odd.true))
+returns-then-odd c = rw (c.in_ok-w.was, c.if-odd.true, c.complement.ensures)
 
-pub returns-in-Fault : goal.returns-in-Fault
-returns-in-Fault c = sym (rw c.in-Fault.is)
-
-pub returns-else-odd : goal.returns-else-odd
-returns-else-odd c = sym (rw (c.in-Is.is, c.if-odd.false))
+pub returns : goal.returns
+returns c = rw (c.in_ok-w.was, c.if-odd.false)

@@ -11,13 +11,13 @@ use Rattle.std.proofs.lemmas.Bool.{not_from_true}
 use Rattle.claim.proofs.tokens.lone_digit.Goals as goal
 
 pub returns-then-not-digit : goal.returns-then-not-digit
-returns-then-not-digit c = λ h. absurd (omega (arith, h))
+returns-then-not-digit c = tt
 
 pub overflow_add-at : goal.overflow_add-at
 overflow_add-at c = omega (arith, (byte_inside _ _ _ refl (digit_some _ (ap is_digit (sym c.byte_at-b.ensures) ∙ (sym c.digit.ensures ∙ not-false _ (not_from_true _ c.if-not-digit.false))))).0)
 
 pub returns-then-next-digit : goal.returns-then-next-digit
-returns-then-next-digit c = λ h. absurd (omega (arith, h))
+returns-then-next-digit c = tt
 
 pub overflow_sub-result : goal.overflow_sub-result
 overflow_sub-result c = digit_low _ (sym c.digit.ensures ∙ not-false _ (not_from_true _ c.if-not-digit.false))

@@ -9,13 +9,13 @@ use Rattle.std.proofs.lemmas.Bool.{not_from_true}
 use Rattle.claim.proofs.tokens.lone_letter.Goals as goal
 
 pub returns-then-not-letter : goal.returns-then-not-letter
-returns-then-not-letter c = λ n. absurd (n refl)
+returns-then-not-letter c = tt
 
 pub overflow_add-at : goal.overflow_add-at
 overflow_add-at c = omega (arith, (byte_inside _ _ _ refl (letter_some _ (ap is_letter (sym c.byte_at-b.ensures) ∙ (sym c.letter.ensures ∙ not-false _ (not_from_true _ c.if-not-letter.false))))).0)
 
 pub returns-then-next-name_byte : goal.returns-then-next-name_byte
-returns-then-next-name_byte c = λ n. absurd (n refl)
+returns-then-next-name_byte c = tt
 
 pub returns : goal.returns
 returns c =

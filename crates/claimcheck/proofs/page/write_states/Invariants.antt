@@ -1,11 +1,7 @@
 -- `page::write_states`: after c turns the lines of the first c states are written.
-use Prim.Native.Nat.{◌-◌}
 use Rattle.model.specs.Claim.{claim_in}
 use Rattle.claimcheck.proofs.Printing.{Listed}
 use Rattle.claimcheck.proofs.page.write_states.Given as goal
 
 abbrev pub invariant-loop-c : goal.invariant-loop-c
 invariant-loop-c l = Listed (claim_in l.text) l.at l.c l.place l.initial.page l.page
-
-abbrev pub decreases-loop-c : goal.decreases-loop-c
-decreases-loop-c l = l.states - l.c

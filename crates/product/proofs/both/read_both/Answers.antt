@@ -1,25 +1,29 @@
 -- `read_both` meets its contract: the chart, then the claim, then their counts.
 use native.Mathlib.Omega.{arith}
-use Rattle.product.proofs.BothRead.{chart_faulty, chart_bad, claim_refused, counts_refused, few_flags, source_fits, both_held}
+use Rattle.std.proofs.lemmas.Result.{err_from_is_err_and}
+use Rattle.product.proofs.BothRead.{chart_no, claim_refused, counts_refused, few_flags, source_fits, both_held}
 use Rattle.product.proofs.both.read_both.Goals as goal
 
-pub returns-then-c-counts : goal.returns-then-c-counts
-returns-then-c-counts c = rw c.refused-then-c-counts.ensures (counts_refused _ _ c.read_chart.ensures c.in-Accepted.is c.read_claim.ensures c.in-Accepted-read_claim.is c.if-c-counts.true)
+pub returns-in_err-chart : goal.returns-in_err-chart
+returns-in_err-chart c =
+    let p = err_from_is_err_and c.from_residual.result c.from_residual.ensures.1 in
+    rw (p.1, p.2) (chart_no _ _ _ (c.in_err-chart.ensures {u = tt}))
+
+pub returns-in_err-claim : goal.returns-in_err-claim
+returns-in_err-claim c =
+    let p = err_from_is_err_and c.from_residual-in_err-claim.result c.from_residual-in_err-claim.ensures.1 in
+    rw (p.1, p.2) (claim_refused _ _ (c.in_ok-chart.ensures {u = tt}) (c.in_err-claim.ensures {u = tt}))
+
+pub returns-then-claim-chart : goal.returns-then-claim-chart
+returns-then-claim-chart c = rw c.from.ensures (counts_refused _ _ (c.in_ok-chart.ensures {u = tt}) (c.in_ok-claim.ensures {u = tt}) c.if-claim-chart.true)
 
 pub overflow_mul-result : goal.overflow_mul-result
-overflow_mul-result c = omega (arith, source_fits _ _ c.read_chart.ensures c.in-Accepted.is c.read_claim.ensures c.in-Accepted-read_claim.is)
+overflow_mul-result c = omega (arith, source_fits _ _ (c.in_ok-chart.ensures {u = tt}) (c.in_ok-claim.ensures {u = tt}))
 
 pub overflow_add-result : goal.overflow_add-result
-overflow_add-result c = omega (arith, source_fits _ _ c.read_chart.ensures c.in-Accepted.is c.read_claim.ensures c.in-Accepted-read_claim.is)
+overflow_add-result c = omega (arith, source_fits _ _ (c.in_ok-chart.ensures {u = tt}) (c.in_ok-claim.ensures {u = tt}))
 
-pub returns-in-Faulty : goal.returns-in-Faulty
-returns-in-Faulty c = rw c.refused.ensures (chart_faulty _ _ c.read_chart.ensures c.in-Faulty.is)
-
-pub returns-in-Bad : goal.returns-in-Bad
-returns-in-Bad c = rw c.refused_pair.ensures (chart_bad _ _ c.read_chart.ensures c.in-Bad.is)
-
-pub returns-in-Refused : goal.returns-in-Refused
-returns-in-Refused c = rw c.refused-in-Refused.ensures (claim_refused _ _ c.read_chart.ensures c.in-Accepted.is c.read_claim.ensures c.in-Refused.is)
-
-pub returns-else-c-counts : goal.returns-else-c-counts
-returns-else-c-counts c = both_held _ _ c.read_chart.ensures c.in-Accepted.is c.read_claim.ensures c.in-Accepted-read_claim.is c.requires c.read_chart.auto.table c.read_claim.auto.cells c.if-c-counts.false (c.combinations.ensures.0 (few_flags _ _ c.read_chart.ensures c.in-Accepted.is c.read_claim.ensures c.in-Accepted-read_claim.is))
+pub returns : goal.returns
+returns c =
+    let few = few_flags _ _ (c.in_ok-chart.ensures {u = tt}) (c.in_ok-claim.ensures {u = tt}) in
+    both_held _ _ (c.in_ok-chart.ensures {u = tt}) (c.in_ok-claim.ensures {u = tt}) c.requires c.read_chart.auto.table c.read_claim.auto.cells c.if-claim-chart.false (c.combinations.ensures.0 few)

@@ -3,4 +3,4 @@ use Rattle.product.proofs.CaseLines.{case_says}
 use Rattle.product.proofs.case.write_case.Goals as goal
 
 pub returns : goal.returns
-returns c = case_says _ _ c.requires c.write_head-at.ensures c.write_vertices-at.ensures c.write_bytes-at.ensures c.write_edges.ensures
+returns c = case_says _ _ _ _ _ c.write_head-at.ensures c.write_vertices-at.ensures c.write_bytes-at.ensures c.write_edges.ensures

@@ -1,11 +1,6 @@
--- `write_edges` meets its contract: at each turn the lines from e on are left.
-use Prim.Native.Nat.{◌-◌}
-use lib.ListN.{length}
+-- `write_edges` meets its contract: at each turn so many lines are written.
 use Rattle.product.proofs.CaseLines.{EdgesLeft}
 use Rattle.product.proofs.case.write_edges.Given as goal
 
-abbrev pub invariant-loop-e : goal.invariant-loop-e
-invariant-loop-e l = EdgesLeft l.at l.froms l.tos l.e l.here l.initial.output l.output
-
-abbrev pub decreases-loop-e : goal.decreases-loop-e
-decreases-loop-e l = length l.froms - l.e
+abbrev pub invariant-loop-edge : goal.invariant-loop-edge
+invariant-loop-edge l = EdgesLeft l.at l.edges l.edge-index l.here l.initial.output l.output

@@ -12,8 +12,5 @@ loop-v-preserved c =
     vertices_step c.loop-v.invariant c.loop-v-test.true c.requires.0 c.write_field-here.ensures c.write_field-here-in-loop-v.ensures c.write_field-here-in-loop-v-2.ensures
     (c.write_field-here-in-loop-v-2.auto.output ∙ c.write_field-here-in-loop-v.auto.output ∙ c.write_field-here.auto.output)
 
-pub shape_of-output : goal.shape_of-output
-shape_of-output c = c.loop-v.invariant.still.kept
-
 pub returns : goal.returns
 returns c = vertices_end c.loop-v.invariant (omega arith)

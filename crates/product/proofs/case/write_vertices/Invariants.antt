@@ -1,11 +1,6 @@
 -- `write_vertices` meets its contract: at each turn the lines from v on are left.
-use Prim.Native.Nat.{◌-◌}
-use lib.ListN.{length}
 use Rattle.product.proofs.CaseLines.{VerticesLeft}
 use Rattle.product.proofs.case.write_vertices.Given as goal
 
 abbrev pub invariant-loop-v : goal.invariant-loop-v
 invariant-loop-v l = VerticesLeft l.at l.marks l.owners l.v l.here l.initial.output l.output
-
-abbrev pub decreases-loop-v : goal.decreases-loop-v
-decreases-loop-v l = length l.marks - l.v

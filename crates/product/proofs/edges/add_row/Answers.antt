@@ -1,22 +1,15 @@
--- `add_row` meets its contract: at each turn r masks are read.
-use native.Mathlib.Omega.{arith}
-use Rattle.product.proofs.EdgeTables.{row_first, row_next, row_last}
+-- `add_row` meets its contract: at each turn so many masks are read.
+use Rattle.std.proofs.lemmas.Result.{err_from_is_err_and}
+use Rattle.product.proofs.EdgeTables.{row_first, row_next, row_full}
 use Rattle.product.proofs.edges.add_row.Goals as goal
 
-pub loop-r-init : goal.loop-r-init
-loop-r-init c = row_first _ _ _ _ _ _ _
+pub loop-mask-init : goal.loop-mask-init
+loop-mask-init c = row_first _ _ _ _
 
-pub add_mask-m-requires : goal.add_mask-m-requires
-add_mask-m-requires c = (omega arith, omega arith, omega arith)
+pub returns-in_err-add_mask : goal.returns-in_err-add_mask
+returns-in_err-add_mask c =
+    let p = err_from_is_err_and c.from_residual.result c.from_residual.ensures.1 in
+    rw (p.1, p.2) (row_full c.loop-mask.invariant c.loop-mask-test.true (c.in_err-add_mask.ensures {u = tt}))
 
-pub loop-r-preserved : goal.loop-r-preserved
-loop-r-preserved c = row_next c.loop-r.invariant c.loop-r-test.true c.requires.0 c.requires.2 c.add_mask-m.ensures c.add_mask-m.auto.froms c.add_mask-m.auto.tos
-
-pub shape_of-froms : goal.shape_of-froms
-shape_of-froms c = c.loop-r.invariant.kept_froms
-
-pub shape_of-tos : goal.shape_of-tos
-shape_of-tos c = c.loop-r.invariant.kept_tos
-
-pub returns : goal.returns
-returns c = row_last c.loop-r.invariant (omega arith)
+pub loop-mask-preserved : goal.loop-mask-preserved
+loop-mask-preserved c = row_next c.loop-mask.invariant c.loop-mask-test.true c.requires.1 (c.in_ok-add_mask.ensures {u = tt})

@@ -1,10 +1,6 @@
 -- `fill_row` meets its contract: at each turn f combinations are done.
-use Prim.Native.Nat.{◌-◌}
 use Rattle.product.proofs.EdgeTables.{Filling}
 use Rattle.product.proofs.edges.fill_row.Given as goal
 
 abbrev pub invariant-loop-f : goal.invariant-loop-f
 invariant-loop-f l = Filling l.at l.from l.count l.f l.follow l.cells l.row
-
-abbrev pub decreases-loop-f : goal.decreases-loop-f
-decreases-loop-f l = l.count - l.f

@@ -5,4 +5,4 @@ use Rattle.product.proofs.StepRows.{cut}
 use Rattle.product.proofs.names.part.Goals as goal
 
 pub returns : goal.returns
-returns c = record { bytes = cut _ _ _ _ _ c.least-start.ensures c.least.ensures; block = refl; offset = omega (arith, c.least-start.ensures) }
+returns c = record { bytes = cut _ _ _ _ _ c.min-start.ensures c.min.ensures; block = refl; offset = omega (arith, c.min-start.ensures) }

@@ -3,10 +3,10 @@ use lib.ListN.{length, drop}
 use Rattle.text.specs.Lines.{lines}
 use Rattle.product.specs.Names.{named_row}
 use Rattle.product.proofs.StepRows.{StepsLeft}
-use Rattle.product.proofs.steps.write_steps.Given as goal
+use Rattle.product.proofs.steps.Names.write_steps.Given as goal
 
 abbrev pub invariant-loop-here : goal.invariant-loop-here
-invariant-loop-here l = StepsLeft (named_row l.chart l.claim l.places l.cells l.states) l.answer l.at l.v l.tos l.here l.place l.w l.initial.output l.output
+invariant-loop-here l = StepsLeft (named_row l.self) l.answer l.at l.v l.edges l.here l.place l.w l.initial.output l.output
 
 abbrev pub decreases-loop-here : goal.decreases-loop-here
 decreases-loop-here l = length (lines (drop l.here l.answer))

@@ -1,0 +1,10 @@
+-- `write_step` meets its contract: four writers, one after the other.
+use Rattle.std.proofs.Common.{◌≡◌, ◌/◌, get_or, rules}
+use Rattle.product.proofs.StepRows.{step_puts}
+use Rattle.product.proofs.steps.Names.write_step.Goals as goal
+
+pub returns : goal.returns
+returns c =
+    let n = c.args.self.now in
+    let place : c.unwrap_or-place.result ≡ get_or n.places.now (c.args.v / n.states) 0 = search rules in
+    step_puts n c.args.v place c.name_at-mode.ensures.bytes c.write_bytes-next.ensures c.write_byte-next.ensures c.write_state-next.ensures c.write_byte.ensures
