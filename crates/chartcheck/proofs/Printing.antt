@@ -1,5 +1,6 @@
 -- From what the chart's reader says to what is printed. Assumes nothing.
 use mathlib.Core.Path.{◌≡◌, refl, sym, ap, ◌∙◌}
+use Rattle.std.specs.Prelude.{Result}
 use mathlib.Core.Bool.{Bool, true, false, cond}
 use mathlib.Core.List.{List, [], ◌∷◌, ◌++◌}
 use mathlib.Core.Logic.{◌⊎◌, inl, inr}
@@ -18,7 +19,7 @@ use Rattle.desk.proofs.Writing.{puts_shows, all_puts, all_short}
 use Rattle.text.specs.Reading.{field_here}
 use Rattle.chart.specs.Reading.{name_place, returned, ChartRead}
 use Rattle.chart.specs.declared.Chart.{Chart}
-use Rattle.chart.specs.declared.Read.{Read}
+use Rattle.chart.specs.declared.NoChart.{NoChart}
 use Rattle.chart.proofs.Whole.{read_returns, BadRead, bad_mode, bad_flags, name_part, name_short}
 use Rattle.chartcheck.specs.Printing.{charted_lines, printed, bit_digit, bits, fault_words, pair_words, told, page_room}
 
@@ -102,7 +103,7 @@ module _ {bs : List ℕ} {h : Chart} {c : Charted} (g : BadRead bs h c) where
       let short : length w ≤ longest_name = rw n (name_short bs g.right c.mode (bad_mode g)) in
       rw (g.said, lt-ltb 17 c.refusal above, (bad_flags g).0, ← n) (puts_shows p (omega (arith, pair_short w h.flags c short (bad_flags g).1)))
 
-pub tells_nothing : {bs t t' : List ℕ} {r x : Read} → ChartRead bs r t t' → r ≡ x → (returned x).refusal ≤ 17 → told bs ≡ []
+pub tells_nothing : {bs t t' : List ℕ} {r x : Result Chart NoChart} → ChartRead bs r t t' → r ≡ x → (returned x).refusal ≤ 17 → told bs ≡ []
 unfolding told
 tells_nothing {bs} {x = x} g e l =
     let k : (chart_says bs).refusal ≤ 17 = rw (← read_returns g e) l in

@@ -7,7 +7,7 @@ mod page;
 ghost use Rattle.std.specs.Prelude.{◌≡◌, ◌≤◌, length};
 ghost use Rattle.chartcheck.specs.Printing.{page_room, printed, told};
 
-use chart::{Read, check_chart, mode_name, read_chart};
+use chart::{NoChart, check_chart, mode_name, read_chart};
 use desk::{ENOUGH, ErrorOutput};
 use page::{write_charted, write_pair};
 
@@ -32,9 +32,9 @@ fn tell<'a>(text: &[u8], page: &'a mut [u8]) -> &'a [u8]
     ensures { result.now ≡ told text.now }
 {
     match read_chart(text, &mut []) {
-        Read::Faulty => &[],
-        Read::Accepted(_) => &[],
-        Read::Bad(chart, said) => {
+        Ok(_) => &[],
+        Err(NoChart::Fault) => &[],
+        Err(NoChart::Bad(chart, said)) => {
             let name = mode_name(text, said.mode as usize);
             let n = write_pair(page, name, chart.flags, said);
             &page[..n]

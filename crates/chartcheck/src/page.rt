@@ -8,7 +8,7 @@ use desk::write_refused;
 use model::Charted;
 use text::write::{write_byte, write_bytes};
 
-// `pass`; or the refusal, and the pair where there is one.
+// `pass`; or the refusal, a number as in the C interface's `Charted`, and the pair where there is one.
 pub(crate) fn write_charted(page: &mut [u8], said: Charted) -> usize
     ensures { Puts 0 (charted_lines said) result page.old page.new }
 {
@@ -45,10 +45,10 @@ fn write_bits(page: &mut [u8], at: usize, many: usize, flags: u32) -> usize
 fn write_fault(page: &mut [u8], at: usize, refusal: u32) -> usize
     ensures { Puts at (fault_words refusal) result page.old page.new }
 {
-    if refusal == Charted::GAP {
-        return write_bytes(page, at, b": no rule\n");
+    match refusal {
+        Charted::GAP => write_bytes(page, at, b": no rule\n"),
+        _ => write_bytes(page, at, b": more than one rule\n"),
     }
-    write_bytes(page, at, b": more than one rule\n")
 }
 
 // The bad pair: its mode by name, its flags bit by bit.

@@ -25,9 +25,9 @@ same_lines k q f = go (names_pair k)
     go false = refl
 
 module _ {k : ℕ} {pair : Charted} {t : List ℕ} {b : Built} {o y : List ℕ} (s : BuiltSays k pair t b o y) {r : ℕ} {z : List ℕ} (f : Finishes b r y z) (room : 52 ≤ length o) where
-  text_shows : b.refusal ≡ 0 → Shows (cond (eqb k 0) t (refused_lines k pair.mode pair.combination)) r z
+  built_shows : b.refusal ≡ 0 → Shows (cond (eqb k 0) t (refused_lines k pair.mode pair.combination)) r z
   unfolding in_front
-  text_shows e =
+  built_shows e =
       let n : k ≡ 0 = sym s.refusal ∙ e in
       let out : z ≡ t ++ drop (length t) o = (f.built e).1 ∙ (rw n at s.output) in
       let long : r ≡ length t = (f.built e).0 ∙ (rw n at s.written) in
@@ -44,5 +44,5 @@ module _ {k : ℕ} {pair : Charted} {t : List ℕ} {b : Built} {o y : List ℕ} 
   page_shows = go b.refusal refl
     where
       go : (j : ℕ) → b.refusal ≡ j → Shows (cond (eqb k 0) t (refused_lines k pair.mode pair.combination)) r z
-      go zero e = text_shows e
+      go zero e = built_shows e
       go (suc j) e = refusal_shows (λ n. omega (arith, e, n))

@@ -10,7 +10,8 @@ use crate::{ErrorOutput, fail};
 use model::{Built, Charted};
 use text::write::{write_bytes, write_number};
 
-// Prints the bytes; if standard output does not take them, standard error says why.
+// Prints the bytes; if standard output does not take them, standard error says why. Each program fills a page of its own for
+// it: a function that had this done by a closure would be public with a `requires`.
 pub fn print<R: Print + ErrorOutput>(rt: &R, bytes: &[u8])
     ensures { Offered standard_output bytes.now }
 {
@@ -61,7 +62,8 @@ pub fn write_refused(buffer: &mut [u8], said: Charted) -> usize
     write_between(buffer, b, b"flags ", said.combination, b"\n")
 }
 
-// The length of what was built at the page's front; or of the lines of its refusal, written over it, or no room.
+// The length of what was built at the page's front; or of the lines of its refusal, written over it, or no room. Refusals are
+// numbers here, as in the C interface's `Built` and `Charted`.
 pub fn finish_page(page: &mut [u8], built: Built) -> usize
     ensures { Finishes built result page.old page.new }
 {

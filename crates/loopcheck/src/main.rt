@@ -21,7 +21,7 @@ const CASE: usize = 1;
 
 const ANSWER: usize = 2;
 
-// The line of a check at the buffer's front; its length.
+// The line of a check at the buffer's front; its length. Refusal and verdict are numbers, as in the C interface's `Checked`.
 fn write_checked(line: &mut [u8], checked: Checked) -> usize
     ensures { Puts 0 (checked_line checked.refusal checked.verdict) result line.old line.new }
 {

@@ -9,7 +9,7 @@ use casefile::Case;
 use desk::{ENOUGH, ErrorOutput};
 use search::run_rounds;
 
-// What is to be printed of a case, at the output's front.
+// What is to be printed of a case, at the output's front. The refusal is a number, as in the C interface's `Outcome`.
 fn find<'a>(case: &[u8], output: &'a mut [u8], work: &mut [i32]) -> &'a [u8]
     requires { (least_output ≤ length output.old) × (least_work ≤ length work.old) }
     ensures { result.now ≡ printed case.now }

@@ -40,9 +40,9 @@ lasso_line : (v : ℕ) → v ≡ 1 → ascii "verdict lasso" ++ (10 ∷ []) ≡ 
 unfolding verdict_line verdict_word text joined
 lasso_line v e = sym (rw e refl)
 
-empty_line : (v : ℕ) → (v ≡ 1 → ⊥) → v ≡ 2 → ascii "verdict empty" ++ (10 ∷ []) ≡ verdict_line v
+empty_line : (v : ℕ) → v ≡ 2 → ascii "verdict empty" ++ (10 ∷ []) ≡ verdict_line v
 unfolding verdict_line verdict_word text joined
-empty_line v n e = sym (rw e refl)
+empty_line v e = sym (rw e refl)
 
 none_line : (v : ℕ) → (v ≡ 1 → ⊥) → (v ≡ 2 → ⊥) → ascii "verdict none" ++ (10 ∷ []) ≡ verdict_line v
 unfolding verdict_line verdict_word text joined
@@ -52,8 +52,8 @@ module _ (v : ℕ) {at r : ℕ} {o z : List ℕ} where
   pub writes_lasso : v ≡ 1 → Writes at (ascii "verdict lasso" ++ (10 ∷ [])) r o z → Puts at (verdict_line v) r o z
   writes_lasso e w = puts_as (lasso_line v e) (puts w)
 
-  pub writes_empty : (v ≡ 1 → ⊥) → v ≡ 2 → Writes at (ascii "verdict empty" ++ (10 ∷ [])) r o z → Puts at (verdict_line v) r o z
-  writes_empty n e w = puts_as (empty_line v n e) (puts w)
+  pub writes_empty : v ≡ 2 → Writes at (ascii "verdict empty" ++ (10 ∷ [])) r o z → Puts at (verdict_line v) r o z
+  writes_empty e w = puts_as (empty_line v e) (puts w)
 
   pub writes_none : (v ≡ 1 → ⊥) → (v ≡ 2 → ⊥) → Writes at (ascii "verdict none" ++ (10 ∷ [])) r o z → Puts at (verdict_line v) r o z
   writes_none n m w = puts_as (none_line v n m) (puts w)

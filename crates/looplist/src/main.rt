@@ -69,7 +69,7 @@ fn replay_text<R: Env + Print + ErrorOutput>(rt: &R, case: &[u8], text: &[u8]) {
     }
 }
 
-// The list is read once the case has been.
+// The list is read once the case has been, in a function of its own: beside that buffer the check counts the bytes of this one.
 fn replay_file<R: Env + Files + Print + ErrorOutput>(rt: &R, case: &[u8]) {
     let mut text = [0u8; TEXT];
     if let Ok(text) = desk::read_argument(rt, ACTS, &mut text) {

@@ -16,16 +16,15 @@ fn write_count(page: &mut [u8], at: usize, name: &[u8], count: u32) -> usize
     write_between(page, at, name, count, b"\n")
 }
 
+// The verdict is a number, as in the C interface's `Outcome`.
 fn write_verdict(page: &mut [u8], at: usize, verdict: u32) -> usize
     ensures { Puts at (verdict_line verdict) result page.old page.new }
 {
-    if verdict == Outcome::LASSO {
-        return write_bytes(page, at, b"verdict lasso\n");
+    match verdict {
+        Outcome::LASSO => write_bytes(page, at, b"verdict lasso\n"),
+        Outcome::EMPTY => write_bytes(page, at, b"verdict empty\n"),
+        _ => write_bytes(page, at, b"verdict none\n"),
     }
-    if verdict == Outcome::EMPTY {
-        return write_bytes(page, at, b"verdict empty\n");
-    }
-    write_bytes(page, at, b"verdict none\n")
 }
 
 fn write_tallies(page: &mut [u8], at: usize, outcome: Outcome) -> usize

@@ -1,9 +1,10 @@
 -- `page::write_fault`: by the refusal.
+use native.Mathlib.Omega.{arith}
 use Rattle.chartcheck.proofs.Printing.{writes_gap, writes_overlap}
 use Rattle.chartcheck.proofs.page.write_fault.Goals as goal
 
-pub returns-then-refusal-eq-GAP : goal.returns-then-refusal-eq-GAP
-returns-then-refusal-eq-GAP c = writes_gap _ c.if-refusal-eq-GAP.true c.write_bytes.ensures
+pub returns-in-18 : goal.returns-in-18
+returns-in-18 c = writes_gap _ c.in-18.is c.write_bytes.ensures
 
-pub returns : goal.returns
-returns c = writes_overlap _ c.if-refusal-eq-GAP.false c.write_bytes-2.ensures
+pub returns-in_default : goal.returns-in_default
+returns-in_default c = writes_overlap _ (λ e. omega arith) c.write_bytes-in_default.ensures

@@ -1,12 +1,13 @@
 -- `page::write_verdict`: the word of each verdict.
+use native.Mathlib.Omega.{arith}
 use Rattle.looplist.proofs.Printing.{writes_lasso, writes_empty, writes_none}
 use Rattle.looplist.proofs.page.write_verdict.Goals as goal
 
-pub returns-then-verdict-eq-LASSO : goal.returns-then-verdict-eq-LASSO
-returns-then-verdict-eq-LASSO c = writes_lasso _ c.if-verdict-eq-LASSO.true c.write_bytes.ensures
+pub returns-in-1 : goal.returns-in-1
+returns-in-1 c = writes_lasso _ c.in-1.is c.write_bytes.ensures
 
-pub returns-then-verdict-eq-EMPTY : goal.returns-then-verdict-eq-EMPTY
-returns-then-verdict-eq-EMPTY c = writes_empty _ c.if-verdict-eq-LASSO.false c.if-verdict-eq-EMPTY.true c.write_bytes-then-verdict-eq-EMPTY.ensures
+pub returns-in-2 : goal.returns-in-2
+returns-in-2 c = writes_empty _ c.in-2.is c.write_bytes-in-2.ensures
 
-pub returns : goal.returns
-returns c = writes_none _ c.if-verdict-eq-LASSO.false c.if-verdict-eq-EMPTY.false c.write_bytes-2.ensures
+pub returns-in_default : goal.returns-in_default
+returns-in_default c = writes_none _ (λ e. omega arith) (λ e. omega arith) c.write_bytes-in_default.ensures
