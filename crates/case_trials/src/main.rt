@@ -4,7 +4,8 @@
 
 use bench_kit::case;
 use bench_kit::graph::{Graph, padded};
-use casefile::{Judged, judge, read_case};
+use casefile::{Case, CaseTables, judge, read_case};
+use model::Refusal;
 use std::io;
 
 const K1: &str = case!(
@@ -12,11 +13,8 @@ const K1: &str = case!(
 );
 
 // Prints what was tried and the refusal.
-fn show_judged(rt: &impl Print, name: &str, judged: Judged) -> io::Result<()> {
-    let refusal = match judged {
-        Judged::Refused(k) => k,
-        Judged::Accepted(_) => 0,
-    };
+fn show_judged(rt: &impl Print, name: &str, judged: Result<Case, Refusal>) -> io::Result<()> {
+    let refusal = judged.err().map_or(0, Refusal::number);
     println!(rt; "{name}: {refusal}")
 }
 
@@ -191,13 +189,13 @@ fn show_tables(rt: &impl Print, name: &str, text: &str) -> io::Result<()> {
     let mut owners = [9; 4];
     let mut froms = [9; 2];
     let mut tos = [9; 4];
-    let judged = read_case(
-        text.as_bytes(),
-        &mut marks,
-        &mut owners,
-        &mut froms,
-        &mut tos,
-    );
+    let mut tables = CaseTables {
+        marks: &mut marks,
+        owners: &mut owners,
+        froms: &mut froms,
+        tos: &mut tos,
+    };
+    let judged = read_case(text.as_bytes(), &mut tables);
     show_judged(rt, name, judged)?;
     show_table(rt, "accepting", &marks)?;
     show_table(rt, "owner", &owners)?;
