@@ -3,17 +3,11 @@ use native.Mathlib.Omega.{arith}
 use Rattle.text.proofs.Decimals.{written_start, written_step, written_end}
 use Rattle.text.proofs.write.write_digits.Goals as goal
 
-pub overflow_add-end : goal.overflow_add-end
-overflow_add-end c = omega (arith, c.requires.size_in_bounds)
-
 pub loop-i-init : goal.loop-i-init
 loop-i-init c = written_start _ _ _ _ c.requires.width c.requires.size_in_bounds
 
 pub loop-i-preserved : goal.loop-i-preserved
 loop-i-preserved c = written_step _ _ _ _ _ _ c.loop-i.invariant (omega arith)
-
-pub shape_of-output : goal.shape_of-output
-shape_of-output c = c.loop-i.invariant.kept
 
 pub returns : goal.returns
 returns c = written_end _ _ _ _ _ _ _ c.requires.width c.loop-i.invariant (omega arith)

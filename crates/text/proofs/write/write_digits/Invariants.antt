@@ -1,9 +1,6 @@
--- `write_digits` meets its contract: at each turn the digits from place i on are written, and w holds those before them.
+-- `write_digits` meets its contract: the digits from place i on are written, and w holds those before them.
 use Rattle.text.proofs.Decimals.{Written}
 use Rattle.text.proofs.write.write_digits.Given as goal
 
 abbrev pub invariant-loop-i : goal.invariant-loop-i
 invariant-loop-i l = Written l.at l.v l.w l.i l.initial.output l.output
-
-abbrev pub decreases-loop-i : goal.decreases-loop-i
-decreases-loop-i l = l.i
