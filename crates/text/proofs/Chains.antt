@@ -6,7 +6,7 @@ use native.Mathlib.Nat.{add-zero}
 use native.Mathlib.Omega.{arith}
 use lib.ListN.{length, length-append}
 use borrow.Author.Tests.{le-leb}
-use Rattle.std.specs.Prelude.{Option, Some, None}
+use Rattle.std.specs.Prelude.{Option, Some}
 use Rattle.text.specs.Numbers.{decimal}
 use Rattle.text.specs.declared.write.Writer.{Writer}
 use Rattle.text.specs.Writing.{put, end_after, output_after, Writes, Puts, chain_end, chain_output, Chain}

@@ -7,15 +7,15 @@ use mathlib.Core.Logic.{◌⊎◌, inl, inr}
 use Prim.Native.Nat.{ℕ, zero, suc, ◌+◌, ◌*◌, ◌-◌, ◌/◌, ◌%◌, ◌^◌, ◌≤◌, ◌<◌}
 use native.Mathlib.Nat.{pow-succ'}
 use native.Mathlib.Omega.{arith}
-use lib.Dec.{T, ltb, leb, eqb}
-use lib.IntN.{ℤ, pos, negsuc, ◌-ℤ◌, nat_abs}
-use lib.ListN.{length, get_or, set, length-append, length-set, get_or-append}
+use lib.Dec.{ltb, leb, eqb}
+use lib.IntN.{ℤ, pos, negsuc, nat_abs}
+use lib.ListN.{length, get_or, set, length-append, get_or-append}
 use lib.Seq.{append_snoc}
-use lib.Signed.{le_z, non_neg}
+use lib.Signed.{le_z}
 use mir.Syntax.{w32}
-use mir.Val.{SFits, Fits, to_z, of_z}
-use mir.Facts.{Fits-nat_abs, to_z-of_z}
-use borrow.Author.Tests.{ltb-true, ltb-false, le-ltb, leb-true, leb-false, le-leb, eq-eqb, ne_eqb}
+use mir.Val.{SFits, to_z, of_z}
+use mir.Facts.{to_z-of_z}
+use borrow.Author.Tests.{ltb-true, ltb-false, leb-true, leb-false, le-leb, eq-eqb, ne_eqb}
 use Rattle.text.specs.Numbers.{is_digit, all_digits, no_leading_zero, is_number, value_from, value, has_minus, without_minus, is_signed, signed_value, digits, decimal, signed_decimal, sign_length, Width}
 use Rattle.text.specs.Promise.{NumbersShortest, OneLength}
 use Rattle.text.specs.Writing.{put}
@@ -172,7 +172,6 @@ counted_end v w n r h l =
 pub record Written (at v w i : ℕ) (o z : List ℕ) : Type 0 where
   pub room : at + length (decimal v) ≤ length o
   pub within : i ≤ at + length (decimal v)
-  pub kept : length z ≡ length o
   pub fuel : ℕ
   pub done : List ℕ
   pub whole : digits fuel w ++ done ≡ decimal v
@@ -186,7 +185,6 @@ written_start at size v o k h =
     record {
       room = omega arith;
       within = omega arith;
-      kept = refl;
       fuel = 10;
       done = [];
       whole = append-nil (digits 10 v);
@@ -211,7 +209,6 @@ written_step at v w i o z r h = go r.fuel r.whole r.place
             record {
               room = r.room;
               within = omega (arith, r.within);
-              kept = length-set z (i - 1) (48 + w % 10) ∙ r.kept;
               fuel = j;
               done = (48 + w % 10) ∷ r.done;
               whole = b;
@@ -351,17 +348,3 @@ signed_from_zero z m f e h = from_zero z (rw (to_z-of_z f) at h) ∙ ap decimal 
 
 pub signed_below_zero : (z : ℤ) (m : ℕ) → SFits w32 z → m ≡ nat_abs (to_z w32 (of_z w32 z)) → le_z (pos 0) (to_z w32 (of_z w32 z)) ≡ false → signed_decimal z ≡ 45 ∷ decimal m
 signed_below_zero z m f e h = below_zero z (rw (to_z-of_z f) at h) ∙ ap (λ (n : ℕ). 45 ∷ decimal n) (sym (rw (to_z-of_z f) at e))
-
-pub from_zero_casts : (z : ℤ) → SFits w32 z → le_z (pos 0) z ≡ true → T (non_neg z) × Fits w32 (nat_abs z)
-from_zero_casts (pos v) f h = (tt, Fits-nat_abs tt f)
-from_zero_casts (negsuc v) f h = let e : ◌≡◌ {A = ℕ} 0 1 = cc in absurd (omega arith)
-
--- how far a number below zero is below -1
-pub record Below (z : ℤ) : Type 0 where
-  pub some : 1 ≤ nat_abs z
-  pub most : nat_abs z ≤ 2 ^ 31
-  pub is : negsuc 0 -ℤ z ≡ pos (nat_abs z - 1)
-
-pub below : (z : ℤ) → SFits w32 z → le_z (pos 0) z ≡ false → Below z
-below (pos v) f h = absurd (omega (arith, leb-false 0 v h))
-below (negsuc v) f h = record { some = omega arith; most = omega (arith, f.sfits); is = rw (le-ltb (suc v) 1 (omega arith)) refl }

@@ -2,7 +2,9 @@
 use mathlib.Core.Path.{◌≡◌, refl, sym, ap, ◌∙◌}
 use mathlib.Core.Bool.{Bool, true, false, ◌&&◌, cond, and-false, or-true}
 use mathlib.Core.List.{List, [], ◌∷◌, ◌++◌, append-nil}
-use Prim.Native.Nat.{ℕ, zero, suc, ◌+◌, ◌*◌, ◌-◌, ◌^◌, ◌≤◌, ◌<◌, min}
+use Rattle.std.specs.Prelude.{Option, Some, None}
+use Rattle.std.specs.Char.{is_ascii_digit}
+use Prim.Native.Nat.{ℕ, zero, suc, ◌+◌, ◌*◌, ◌-◌, ◌^◌, ◌≤◌, ◌<◌, min, max}
 use native.Mathlib.Omega.{arith}
 use native.Mathlib.Numerals.{add-one}
 use native.Mathlib.Nat.{pow-succ', pow-le-pow_right}
@@ -12,11 +14,9 @@ use lib.Seq.{drop-cons, drop-drop, get_or-drop}
 use borrow.Author.Tests.{le-leb, lt-leb, eq-eqb, ne_eqb, leb-true, leb-false}
 use Rattle.text.specs.Ascii.{digit_0, digit_9}
 use Rattle.text.specs.Numbers.{most_digits, is_digit, all_digits, no_leading_zero, is_number, value, value_from}
-use Rattle.text.specs.Reading.{field_here, run, run_here, DigitsRead, digits_here, is_separator, number_in, number_before}
-use Rattle.text.specs.declared.read.Number.TheVariants.{Is, Not}
-use Rattle.text.specs.declared.read.Row1.{Row1}
-use Rattle.text.specs.declared.read.Row1.TheVariants.{Read as Read1, Fault as Fault1}
-use Rattle.text.proofs.Tests.{and_both, clash}
+use Rattle.text.specs.Reading.{field_here, run, run_here, DigitsRead, one_number, digits_here, is_separator, number_in, number_before}
+use Rattle.text.specs.declared.read.Row.{Row}
+use Rattle.text.proofs.Tests.{and_both, clash, some_if, none_if}
 use Rattle.text.proofs.Lines.{field_in, field_nil, field_stop, field_byte, ended}
 
 -- THE RUN of digits, k at most
@@ -27,6 +27,11 @@ digit_low b h = leb-true digit_0 b (and_both (leb digit_0 b) (leb b digit_9) h).
 pub digit_high : (b : ℕ) → is_digit b ≡ true → b ≤ digit_9
 unfolding is_digit
 digit_high b h = leb-true b digit_9 (and_both (leb digit_0 b) (leb b digit_9) h).1
+
+-- as std has it
+pub is_digit_ascii : (b : ℕ) → is_digit b ≡ is_ascii_digit b
+unfolding is_digit
+is_digit_ascii b = refl
 
 -- a digit is no separator
 digit_inside : (b : ℕ) → is_digit b ≡ true → is_separator b ≡ false
@@ -166,12 +171,20 @@ module _ {s : List ℕ} {at v e : ℕ} (g : ReadingDigits s at v e) where
   pub digits_stop : e < min (at + most_digits) (length s) → is_digit (get_or s e 0) ≡ false → DigitsRead s at e v
   digits_stop l d = digits_end (run_stops (omega arith) (omega arith) d)
 
-  pub digits_last : min (at + most_digits) (length s) ≤ e → DigitsRead s at e v
-  digits_last l = digits_end (go (leb (length s) e) refl)
+  digits_past : min (at + most_digits) (length s) ≤ e → DigitsRead s at e v
+  digits_past l = digits_end (go (leb (length s) e) refl)
     where
       go : (t : Bool) → leb (length s) e ≡ t → run (at + most_digits - e) (drop e s) ≡ []
       go true h = rw (drop_of_length-le s (leb-true (length s) e h)) (run_nil (at + most_digits - e))
       go false h = let z : at + most_digits - e ≡ 0 = omega (arith, leb-false (length s) e h) in rw z (run_zero (drop e s))
+
+  pub digits_last : {last : ℕ} → last ≡ min (at + most_digits) (length s) → (at ≤ last → e ≤ last) → last ≤ e → DigitsRead s at (max at last) v
+  digits_last {last} h near far = rw (go (leb at (length s)) refl) (digits_past (omega arith))
+    where
+      go : (t : Bool) → leb at (length s) ≡ t → max at last ≡ e
+      go true k = let l = leb-true at (length s) k in omega (arith, near (omega arith))
+      go false k =
+          omega (arith, leb-false at (length s) k, g.start, g.ends, (run_laws most_digits (drop at s)).within, length-drop at s)
 
   -- nine digits fit
   pub digits_fit : e < min (at + most_digits) (length s) → v < 100000000
@@ -185,15 +198,15 @@ module _ {s : List ℕ} {at e v : ℕ} (g : DigitsRead s at e v) where
   pub whole_within : at < e → at < length s
   whole_within h = omega (arith, g.ends, (run_laws most_digits (drop at s)).within, length-drop at s)
 
-  pub whole_none : e ≡ at → Fault1 ≡ digits_here s at
+  pub whole_none : e ≡ at → None ≡ digits_here s at
   unfolding digits_here is_number
   whole_none h = sym (rw (lt-leb 1 (length (run_here s at)) (omega (arith, g.ends))))
 
-  whole_read : is_number (run_here s at) ≡ true → Read1 v e ≡ digits_here s at
+  whole_read : is_number (run_here s at) ≡ true → Some (one_number v e) ≡ digits_here s at
   unfolding digits_here
   whole_read h = sym (rw (h, g.worth, g.ends))
 
-  pub whole_one : e - at ≡ 1 → Read1 v e ≡ digits_here s at
+  pub whole_one : e - at ≡ 1 → Some (one_number v e) ≡ digits_here s at
   unfolding is_number no_leading_zero
   whole_one h =
       let n : length (run_here s at) ≡ 1 = omega (arith, g.ends) in
@@ -202,13 +215,13 @@ module _ {s : List ℕ} {at e v : ℕ} (g : DigitsRead s at e v) where
   whole_first : (e ≡ at → ⊥) → get_or (run_here s at) 0 0 ≡ get_or s at 0
   whole_first h = (run_laws most_digits (drop at s)).starts (omega (arith, g.ends)) ∙ get_or-drop at s 0 0 ∙ ap (λ (i : ℕ). get_or s i 0) (omega arith)
 
-  pub whole_padded : (e ≡ at → ⊥) → (e - at ≡ 1 → ⊥) → get_or s at 0 ≡ digit_0 → Fault1 ≡ digits_here s at
+  pub whole_padded : (e ≡ at → ⊥) → (e - at ≡ 1 → ⊥) → get_or s at 0 ≡ digit_0 → None ≡ digits_here s at
   unfolding digits_here is_number no_leading_zero
   whole_padded h m z =
       let n : eqb (length (run_here s at)) 1 ≡ false = ne_eqb (length (run_here s at)) 1 (λ q. m (omega (arith, g.ends))) in
       sym (rw (n, whole_first h, z, and-false, and-false))
 
-  pub whole_many : (e ≡ at → ⊥) → (get_or s at 0 ≡ digit_0 → ⊥) → Read1 v e ≡ digits_here s at
+  pub whole_many : (e ≡ at → ⊥) → (get_or s at 0 ≡ digit_0 → ⊥) → Some (one_number v e) ≡ digits_here s at
   unfolding is_number no_leading_zero
   whole_many h z =
       let r = run_laws most_digits (drop at s) in
@@ -225,28 +238,23 @@ pub record RunRead (s : List ℕ) (at v e : ℕ) : Type 0 where
   pub worth : value (run_here s at) ≡ v
   pub ends : at + length (run_here s at) ≡ e
 
--- what a number that was read, or a fault, tells of the test
-pub read_go : (t : Bool) (x y v e : ℕ) → cond t (Read1 x y) Fault1 ≡ Read1 v e → (t ≡ true) × (x ≡ v) × (y ≡ e)
-read_go true x y v e h = (refl, cc, cc)
-read_go false x y v e h = (cc, cc, cc)
+-- of a row of one number: the number
+abbrev pub lone : Row 1 → ℕ
+lone r = get_or r.numbers 0 0
 
-pub fault_go : (t : Bool) (x y : ℕ) → cond t (Read1 x y) Fault1 ≡ Fault1 → t ≡ false
-fault_go true x y h = cc
-fault_go false x y h = refl
-
-pub run_read : {s : List ℕ} {at v e : ℕ} {r : Row1} → r ≡ digits_here s at → r ≡ Read1 v e → RunRead s at v e
+pub run_read : {s : List ℕ} {at : ℕ} {r : Option (Row 1)} {x : Row 1} → r ≡ digits_here s at → r ≡ Some x → RunRead s at (lone x) x.next
 unfolding digits_here
-run_read {s} {at} {v} {e} p q =
-    let g = read_go (is_number (run_here s at)) (value (run_here s at)) (at + length (run_here s at)) v e (sym p ∙ q) in
-    record { number = g.0; worth = g.1; ends = g.2 }
+run_read {s} {at} p q =
+    let g = some_if (is_number (run_here s at)) (sym p ∙ q) in
+    record { number = g.0; worth = ap lone g.1; ends = ap (λ (x : Row 1). x.next) g.1 }
 
 -- where the digits are no number, the field is none
-module _ (s : List ℕ) (at : ℕ) {r : Row1} (p : r ≡ digits_here s at) (q : r ≡ Fault1) where
+module _ (s : List ℕ) (at : ℕ) {r : Option (Row 1)} (p : r ≡ digits_here s at) (q : r ≡ None) where
   run_fault : is_number (field_here s at) ≡ false
   unfolding digits_here
-  run_fault = run_no_number (drop at s) (fault_go (is_number (run_here s at)) (value (run_here s at)) (at + length (run_here s at)) (sym p ∙ q))
+  run_fault = run_no_number (drop at s) (none_if (is_number (run_here s at)) _ (sym p ∙ q))
 
-  pub before_none : (stop : ℕ) → Fault1 ≡ number_before s at stop
+  pub before_none : (stop : ℕ) → None ≡ number_before s at stop
   unfolding number_before
   before_none stop = sym (rw run_fault)
 
@@ -265,21 +273,21 @@ module _ {s : List ℕ} {at v e : ℕ} (g : RunRead s at v e) where
   run_no_field : ended (drop e s) ≡ false → is_number (field_here s at) ≡ false
   run_no_field h = run_other (drop at s) (ap ended run_rest ∙ h)
 
-  pub before_is : (stop : ℕ) → e < length s → is_separator stop ≡ true → get_or s e 0 ≡ stop → Read1 v (e + 1) ≡ number_before s at stop
+  pub before_is : (stop : ℕ) → e < length s → is_separator stop ≡ true → get_or s e 0 ≡ stop → Some (one_number v (e + 1)) ≡ number_before s at stop
   unfolding number_before
   before_is stop l h q =
       let f = run_is_field (ended_at s e l ∙ rw q h) in
-      sym (rw (f, g.number, g.ends, eq-eqb (get_or s e 0) stop q, g.worth) (ap (Read1 v) (omega (arith, g.ends))))
+      sym (rw (f, g.number, g.ends, eq-eqb (get_or s e 0) stop q, g.worth) (ap (λ (z : ℕ). Some (one_number v z)) (omega (arith, g.ends))))
 
-  before_go : (stop : ℕ) (t : Bool) → ended (drop e s) ≡ t → eqb (get_or s e 0) stop ≡ false → Fault1 ≡ number_before s at stop
+  before_go : (stop : ℕ) (t : Bool) → ended (drop e s) ≡ t → eqb (get_or s e 0) stop ≡ false → None ≡ number_before s at stop
   unfolding number_before
   before_go stop true h q = sym (rw (run_is_field h, g.ends, q, and-false))
   before_go stop false h q = sym (rw (run_no_field h))
 
-  pub before_other : (stop : ℕ) → (get_or s e 0 ≡ stop → ⊥) → Fault1 ≡ number_before s at stop
+  pub before_other : (stop : ℕ) → (get_or s e 0 ≡ stop → ⊥) → None ≡ number_before s at stop
   before_other stop q = before_go stop (ended (drop e s)) refl (ne_eqb (get_or s e 0) stop q)
 
-  pub before_end : (stop : ℕ) → is_separator stop ≡ true → length s ≤ e → Fault1 ≡ number_before s at stop
+  pub before_end : (stop : ℕ) → is_separator stop ≡ true → length s ≤ e → None ≡ number_before s at stop
   before_end stop h l = before_other stop (λ q. no_separator stop (sym (get_or-eq_default s 0 l) ∙ q) h)
 
 -- A WHOLE PART is a number where the digits in front are one and nothing follows them
@@ -310,22 +318,22 @@ number_run w h =
     let few = (and_both (leb 1 (length w)) (leb (length w) most_digits) p.0).1 in
     run_whole most_digits w (and_both (all_digits w) (no_leading_zero w) p.1).0 (leb-true (length w) most_digits few)
 
-no_number : (w : List ℕ) → (is_number w ≡ true → ⊥) → Not ≡ number_in w
+no_number : (w : List ℕ) → (is_number w ≡ true → ⊥) → None ≡ number_in w
 unfolding number_in
 no_number w h = go (is_number w) refl
   where
-    go : (t : Bool) → is_number w ≡ t → Not ≡ cond t (Is (value w)) Not
+    go : (t : Bool) → is_number w ≡ t → None ≡ cond t (Some (value w)) None
     go true e = absurd (h e)
     go false e = refl
 
-pub part_none : (w : List ℕ) {r : Row1} → r ≡ digits_here w 0 → r ≡ Fault1 → Not ≡ number_in w
+pub part_none : (w : List ℕ) {r : Option (Row 1)} → r ≡ digits_here w 0 → r ≡ None → None ≡ number_in w
 unfolding digits_here
-part_none w p q = no_number w (λ h. clash _ (ap is_number (number_run w h) ∙ h) (fault_go (is_number (run_here w 0)) (value (run_here w 0)) (0 + length (run_here w 0)) (sym p ∙ q)))
+part_none w p q = no_number w (λ h. clash _ (ap is_number (number_run w h) ∙ h) (none_if (is_number (run_here w 0)) _ (sym p ∙ q)))
 
 module _ {w : List ℕ} {v e : ℕ} (g : RunRead w 0 v e) where
-  pub part_longer : e < length w → Not ≡ number_in w
+  pub part_longer : e < length w → None ≡ number_in w
   part_longer l = no_number w (λ h. omega (arith, g.ends, ap length (number_run w h)))
 
-  pub part_number : length w ≤ e → Is v ≡ number_in w
+  pub part_number : length w ≤ e → Some v ≡ number_in w
   unfolding number_in
   part_number l = let f = run_full most_digits w (omega (arith, g.ends)) in sym (rw (rw f at g.number, rw f at g.worth))

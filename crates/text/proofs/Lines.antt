@@ -1,18 +1,20 @@
 -- Laws of the first line and the first field of a text, over plain lists. Assumes nothing.
 use mathlib.Core.Path.{◌≡◌, refl, sym, ap, ◌∙◌}
-use mathlib.Core.Bool.{Bool, true, false, ◌||◌, cond, and-false}
+use mathlib.Core.Bool.{Bool, true, false, ◌&&◌, ◌||◌, cond}
 use mathlib.Core.List.{List, [], ◌∷◌, ◌++◌, append-nil}
-use Prim.Native.Nat.{ℕ, suc, ◌+◌, ◌≤◌}
+use Prim.Native.Nat.{ℕ, suc, ◌+◌, ◌-◌, ◌≤◌, min}
 use native.Mathlib.Omega.{arith}
 use native.Mathlib.Nat.{suc-add, zero-add}
 use lib.Dec.{eqb}
-use lib.ListN.{length, get_or, take, drop}
-use lib.Seq.{take-length}
+use lib.ListN.{length, get_or, take, drop, length-drop}
+use lib.Pointwise.{pointwise}
+use Rattle.std.specs.List.{starts_with}
+use Rattle.std.proofs.lemmas.List.{take_all, drop_min}
 use borrow.Author.Tests.{eqb-true, eq-eqb}
 use Rattle.text.specs.Ascii.{line_feed, space}
 use Rattle.text.specs.Lines.{Line, lines, line_at, put_byte, put_first, fields, field, open_line, closed_line, equal, begins}
 use Rattle.text.specs.Reading.{is_separator}
-use Rattle.text.proofs.Tests.{and_both, clash}
+use Rattle.text.proofs.Tests.{and_both, clash, eqb_swap}
 
 -- LINES: the first line of a text, and how many bytes it has with its line feed
 abbrev pub first : List ℕ → Line
@@ -216,17 +218,6 @@ module _ (bs : List ℕ) where
   end_closed h = (field_first bs).closed ∙ rw (h, first_nil)
 
 -- EQUAL BYTES are the same
-pub equal_long : (a b : List ℕ) → (length a ≡ length b → ⊥) → equal a b ≡ false
-unfolding equal
-equal_long [] [] n = absurd (n refl)
-equal_long [] (y ∷ b) n = refl
-equal_long (x ∷ a) [] n = refl
-equal_long (x ∷ a) (y ∷ b) n = rw (equal_long a b (λ e. n (omega arith)), and-false) refl
-
-pub begins_whole : (a b : List ℕ) → length a ≡ length b → begins b a ≡ equal a b
-unfolding begins
-begins_whole a b e = rw (← e, take-length a) refl
-
 pub equal_true : (a b : List ℕ) → equal a b ≡ true → a ≡ b
 unfolding equal
 equal_true [] [] e = refl
@@ -238,3 +229,32 @@ pub equal_same : (a : List ℕ) → equal a a ≡ true
 unfolding equal
 equal_same [] = refl
 equal_same (x ∷ a) = rw (eq-eqb x x refl) (equal_same a)
+
+-- AS STD COMPARES
+eqb_turn : (a b : ℕ) → eqb a b ≡ eqb b a
+eqb_turn a b = go (eqb b a) refl
+  where
+    go : (t : Bool) → eqb b a ≡ t → eqb a b ≡ t
+    go true e = eq-eqb a b (sym (eqb-true b a e))
+    go false e = eqb_swap b a e
+
+pub pointwise_equal : (a b : List ℕ) → pointwise eqb a b ≡ equal a b
+unfolding equal
+pointwise_equal [] [] = refl
+pointwise_equal [] (y ∷ ys) = refl
+pointwise_equal (x ∷ xs) [] = refl
+pointwise_equal (x ∷ xs) (y ∷ ys) = ap (λ (t : Bool). eqb x y && t) (pointwise_equal xs ys)
+
+equal_turn : (a b : List ℕ) → equal a b ≡ equal b a
+unfolding equal
+equal_turn [] [] = refl
+equal_turn [] (y ∷ ys) = refl
+equal_turn (x ∷ xs) [] = refl
+equal_turn (x ∷ xs) (y ∷ ys) = rw (eqb_turn x y, equal_turn xs ys)
+
+pub starts_begins : (s f : List ℕ) (at : ℕ) {m : ℕ} → m ≡ min at (length s) → starts_with eqb (take (length s - m) (drop m s)) f ≡ begins f (drop at s)
+unfolding begins
+starts_begins s f at {m} e =
+    let d : take (length s - m) (drop m s) ≡ drop at s =
+    take_all (length s - m) (drop m s) (omega (arith, length-drop m s)) ∙ ap (λ (i : ℕ). drop i s) e ∙ drop_min at s in
+    rw d (pointwise_equal f (take (length f) (drop at s)) ∙ equal_turn f (take (length f) (drop at s)))

@@ -1,34 +1,27 @@
 -- What the readers' answers mean for a caller that walks a text line by line. Assumes nothing.
 use mathlib.Core.Path.{◌≡◌, refl, sym, ap, ◌∙◌}
 use mathlib.Core.Bool.{Bool, true, false, ◌&&◌, not, cond, and-false}
-use mathlib.Core.List.{List, [], ◌∷◌, ◌++◌}
-use Prim.Native.Nat.{ℕ, zero, suc, ◌+◌, ◌≤◌, ◌<◌}
+use mathlib.Core.List.{List, [], ◌∷◌, ◌++◌, append_assoc}
+use Rattle.std.specs.Prelude.{Option, Some, None, map}
+use Prim.Native.Nat.{ℕ, zero, suc, ◌+◌, ◌-◌, ◌≤◌, ◌<◌}
+use native.Mathlib.Numerals.{add-one}
+use native.Mathlib.Nat.{sub-zero}
 use native.Mathlib.Omega.{arith}
-use lib.Dec.{ltb, eqb, eqb-suc-suc, lit<}
-use lib.ListN.{length, get_or, drop, drop_of_length-le, length-drop}
-use lib.Seq.{drop-drop}
+use lib.Dec.{ltb, eqb, eqb-suc-suc}
+use lib.ListN.{length, get_or, get_or-map, set, length-set, take, drop, drop_of_length-le, length-drop}
+use lib.Seq.{drop-drop, take-suc-set}
+use Rattle.std.proofs.lemmas.List.{take_all}
 use borrow.Author.Tests.{eqb-true, eqb-false, ne_eqb, not-true}
 use Rattle.text.specs.Ascii.{line_feed}
 use Rattle.text.specs.Lines.{Line, lines, line_at, put_byte, fields, field, equal, begins, line_is}
-use Rattle.text.specs.Numbers.{is_number, value, all_numbers, numbers_line, number_at}
-use Rattle.text.specs.Reading.{line_here, past_line, field_here, named_here, number_in, leading_here, row1_here, row2_here, row3_here, row5_here}
-use Rattle.text.specs.declared.read.Number.{Number}
-use Rattle.text.specs.declared.read.Number.TheVariants.{Is, Not}
-use Rattle.text.specs.declared.read.Named.{Named}
-use Rattle.text.specs.declared.read.Named.TheVariants.{Past, Other}
-use Rattle.text.specs.declared.read.Row1.{Row1}
-use Rattle.text.specs.declared.read.Row1.TheVariants.{Read as Read1, Fault as Fault1}
-use Rattle.text.specs.declared.read.Row2.{Row2}
-use Rattle.text.specs.declared.read.Row2.TheVariants.{Read as Read2, Fault as Fault2}
-use Rattle.text.specs.declared.read.Row3.{Row3}
-use Rattle.text.specs.declared.read.Row3.TheVariants.{Read as Read3, Fault as Fault3}
-use Rattle.text.specs.declared.read.Row5.{Row5}
-use Rattle.text.specs.declared.read.Row5.TheVariants.{Read as Read5, Fault as Fault5}
-use Rattle.text.proofs.Tests.{and_both}
+use Rattle.text.specs.Numbers.{is_number, value, value_from, all_numbers, numbers_line, number_at}
+use Rattle.text.specs.Reading.{line_here, past_line, field_here, named_here, number_in, number_before, leading_here, values, row_here}
+use Rattle.text.specs.declared.read.Row.{Row as Numbers}
+use Rattle.text.proofs.Tests.{and_both, some_if, none_if}
 use Rattle.text.proofs.Lines.{size, first, first_nil, first_feed, first_byte, rest_lines, equal_true}
-use Rattle.text.proofs.Digits.{read_go, fault_go}
+use Rattle.text.proofs.Digits.{lone}
 use Rattle.text.proofs.ReadingSteps.{past_size}
-use Rattle.text.proofs.ReadingRows.{Parted, NotParted, numbers_more, leading_number, parted}
+use Rattle.text.proofs.ReadingRows.{Parted, NotParted, no_numbers, numbers_more, row_number, leading_number, parted}
 
 -- THE NEXT LINE: past a line come the lines after it
 pub past_lines : (s : List ℕ) (at : ℕ) → lines (drop (past_line s at) s) ≡ drop 1 (lines (drop at s))
@@ -114,25 +107,17 @@ pub record LineNamed (s : List ℕ) (at : ℕ) (names : List ℕ) (z : ℕ) : Ty
   pub line : line_is names (line_here s at) ≡ true
   pub past : past_line s at ≡ z
 
-pub named_go : (t : Bool) (x z : ℕ) → cond t (Past x) Other ≡ Past z → (t ≡ true) × (x ≡ z)
-named_go true x z h = (refl, cc)
-named_go false x z h = (cc, cc)
-
-pub other_go : (t : Bool) (x : ℕ) → cond t (Past x) Other ≡ Other → t ≡ false
-other_go true x h = cc
-other_go false x h = refl
-
-pub named_read : {s : List ℕ} {at : ℕ} {names : List ℕ} {z : ℕ} {r : Named} → without_feed names ≡ true → r ≡ named_here s at names → r ≡ Past z → LineNamed s at names z
-unfolding named_here line_is
-named_read {s} {at} {names} {z} h p q =
-    let g = named_go (begins (names ++ line_feed ∷ []) (drop at s)) (at + suc (length names)) z (sym p ∙ q) in
+pub named_read : {s : List ℕ} {at : ℕ} {names : List ℕ} {z : ℕ} {r : Option ℕ} → without_feed names ≡ true → r ≡ named_here s at names → r ≡ Some z → LineNamed s at names z
+unfolding named_here
+named_read {s} {at} {names} h p q =
+    let g = some_if (begins (names ++ line_feed ∷ []) (drop at s)) (sym p ∙ q) in
     let l : line_is names (line_here s at) ≡ true = sym (named_line names s at h) ∙ g.0 in
     record { line = l; past = sym (named_past names s at l) ∙ g.1 }
 
-pub named_other : (names : List ℕ) (s : List ℕ) (at : ℕ) {r : Named} → without_feed names ≡ true → r ≡ named_here s at names → r ≡ Other → line_is names (line_here s at) ≡ false
+pub named_other : (names : List ℕ) (s : List ℕ) (at : ℕ) {r : Option ℕ} → without_feed names ≡ true → r ≡ named_here s at names → r ≡ None → line_is names (line_here s at) ≡ false
 unfolding named_here
 named_other names s at h p q =
-    sym (named_line names s at h) ∙ other_go (begins (names ++ line_feed ∷ []) (drop at s)) (at + suc (length names)) (sym p ∙ q)
+    sym (named_line names s at h) ∙ none_if (begins (names ++ line_feed ∷ []) (drop at s)) _ (sym p ∙ q)
 
 -- ROWS: the line at a place has these numbers and no other field, and z is past it
 pub record Row (s : List ℕ) (at : ℕ) (vs : List ℕ) (z : ℕ) : Type 0 where
@@ -178,140 +163,129 @@ no_row_here k {s} {at} g = record { none = numbers_more s at k ∙ rw g.none }
 pub no_row_later : {k : ℕ} {s : List ℕ} {at v p : ℕ} → Parted s at v p → NoRow k s p → NoRow (suc k) s at
 no_row_later {k} g n = record { none = parted_more g k ∙ n.none }
 
--- the readers' answers as rows
-are1 : (s : List ℕ) (at a : ℕ) → number_at (line_here s at) 0 ≡ a → (i : ℕ) → i < 1 → number_at (line_here s at) i ≡ get_or (a ∷ []) i 0
-are1 s at a h0 zero l = h0
-are1 s at a h0 (suc i) l = absurd (omega arith)
+-- THE READER'S ANSWER as a row: the first so many of a list, one by one
+abbrev pub from : (i many : ℕ) → List ℕ → List ℕ
+from i zero xs = []
+from i (suc k) xs = get_or xs i 0 ∷ from (suc i) k xs
 
-pub row1_read : {s : List ℕ} {at a z : ℕ} {r : Row1} → r ≡ row1_here s at → r ≡ Read1 a z → Row s at (a ∷ []) z
-unfolding row1_here
-row1_read {s} {at} {a} {z} p q =
-    let g = read_go (numbers_line 1 (line_here s at)) (number_at (line_here s at) 0) (past_line s at) a z (sym p ∙ q) in
-    record { line = g.0; are = are1 s at a g.1; past = g.2 }
+abbrev pub firsts : (many : ℕ) → List ℕ → List ℕ
+firsts k xs = from 0 k xs
 
-pub row1_fault : (s : List ℕ) (at : ℕ) {r : Row1} → r ≡ row1_here s at → r ≡ Fault1 → NoRow 1 s at
-unfolding row1_here
-row1_fault s at p q = record { none = fault_go (numbers_line 1 (line_here s at)) (number_at (line_here s at) 0) (past_line s at) (sym p ∙ q) }
+length_from : (i k : ℕ) (xs : List ℕ) → length (from i k xs) ≡ k
+length_from i zero xs = refl
+length_from i (suc k) xs = ap suc (length_from (suc i) k xs)
 
-are2 : (s : List ℕ) (at a b : ℕ) → number_at (line_here s at) 0 ≡ a → number_at (line_here s at) 1 ≡ b → (i : ℕ) → i < 2 → number_at (line_here s at) i ≡ get_or (a ∷ b ∷ []) i 0
-are2 s at a b h0 h1 zero l = h0
-are2 s at a b h0 h1 (suc zero) l = h1
-are2 s at a b h0 h1 (suc (suc i)) l = absurd (omega arith)
+get_from : (i k : ℕ) (xs : List ℕ) (j : ℕ) → j < k → get_or (from i k xs) j 0 ≡ get_or xs (i + j) 0
+get_from i zero xs j h = absurd (omega arith)
+get_from i (suc k) xs zero h = ap (λ (n : ℕ). get_or xs n 0) (omega arith)
+get_from i (suc k) xs (suc j) h = get_from (suc i) k xs j (omega arith) ∙ ap (λ (n : ℕ). get_or xs n 0) (omega arith)
 
-row2_go : (t : Bool) (x y o a b z : ℕ) → cond t (Read2 x y o) Fault2 ≡ Read2 a b z → (t ≡ true) × (x ≡ a) × (y ≡ b) × (o ≡ z)
-row2_go true x y o a b z h = (refl, cc, cc, cc)
-row2_go false x y o a b z h = (cc, cc, cc, cc)
+pub values_at : (l : Line) (i : ℕ) → get_or (values l) i 0 ≡ number_at l i
+unfolding number_at field value value_from
+values_at l i = get_or-map value (fields l.text) i []
 
-fault2_go : (t : Bool) (x y o : ℕ) → cond t (Read2 x y o) Fault2 ≡ Fault2 → t ≡ false
-fault2_go true x y o h = cc
-fault2_go false x y o h = refl
+pub row_read : (k : ℕ) {s : List ℕ} {at : ℕ} {r : Option (Numbers k)} {x : Numbers k} → r ≡ row_here k s at → r ≡ Some x → Row s at (firsts k x.numbers) x.next
+unfolding row_here
+row_read k {s} {at} {r} {x} p q =
+    let l = line_here s at in
+    let g = some_if (numbers_line k l) (sym p ∙ q) in
+    record { line = rw (length_from 0 k x.numbers) g.0; are = are; past = ap (λ (y : Numbers k). y.next) g.1 }
+  where
+    are : (i : ℕ) → i < length (firsts k x.numbers) → number_at (line_here s at) i ≡ get_or (firsts k x.numbers) i 0
+    are i h =
+        let g = some_if (numbers_line k (line_here s at)) (sym p ∙ q) in
+        sym (get_from 0 k x.numbers i (omega (arith, length_from 0 k x.numbers)) ∙ ap (λ (n : ℕ). get_or x.numbers n 0) (omega arith) ∙ ap (λ (y : Numbers k). get_or y.numbers i 0) (sym g.1) ∙ values_at (line_here s at) i)
 
-pub row2_read : {s : List ℕ} {at a b z : ℕ} {r : Row2} → r ≡ row2_here s at → r ≡ Read2 a b z → Row s at (a ∷ b ∷ []) z
-unfolding row2_here
-row2_read {s} {at} {a} {b} {z} p q =
-    let g = row2_go (numbers_line 2 (line_here s at)) (number_at (line_here s at) 0) (number_at (line_here s at) 1) (past_line s at) a b z (sym p ∙ q) in
-    record { line = g.0; are = are2 s at a b g.1 g.2; past = g.3 }
+pub row_fault : (k : ℕ) (s : List ℕ) (at : ℕ) {r : Option (Numbers k)} → r ≡ row_here k s at → r ≡ None → NoRow k s at
+unfolding row_here
+row_fault k s at p q = record { none = none_if (numbers_line k (line_here s at)) _ (sym p ∙ q) }
 
-pub row2_fault : (s : List ℕ) (at : ℕ) {r : Row2} → r ≡ row2_here s at → r ≡ Fault2 → NoRow 2 s at
-unfolding row2_here
-row2_fault s at p q = record { none = fault2_go (numbers_line 2 (line_here s at)) (number_at (line_here s at) 0) (number_at (line_here s at) 1) (past_line s at) (sym p ∙ q) }
+-- A ROW UNDER WAY: i of its numbers are read, not yet the last, and the rest of the line begins at p
+pub record Under (many : ℕ) (s : List ℕ) (at i : ℕ) (numbers : List ℕ) (p : ℕ) : Type 0 where
+  pub long : length numbers ≡ many
+  pub left : i < many
+  pub line : numbers_line many (line_here s at) ≡ numbers_line (many - i) (line_here s p)
+  pub are : values (line_here s at) ≡ take i numbers ++ values (line_here s p)
+  pub past : past_line s at ≡ past_line s p
 
-pub row2_is : {s : List ℕ} {at a b z : ℕ} → Row s at (a ∷ b ∷ []) z → Read2 a b z ≡ row2_here s at
-unfolding row2_here
-row2_is r = sym (rw (r.line, r.are 0 (lit< tt), r.are 1 (lit< tt), r.past))
+pub under_start : (k : ℕ) (s : List ℕ) (at : ℕ) (numbers : List ℕ) → length numbers ≡ k → 1 ≤ k → Under k s at 0 numbers at
+under_start k s at numbers n h = record { long = n; left = omega arith; line = rw (sub-zero k) refl; are = refl; past = refl }
 
-pub row2_none : {s : List ℕ} {at : ℕ} → NoRow 2 s at → Fault2 ≡ row2_here s at
-unfolding row2_here
-row2_none r = sym (rw r.none)
+-- a row of no numbers is no line
+pub no_row_of_none : (k : ℕ) (s : List ℕ) (at : ℕ) → (1 ≤ k → ⊥) → None ≡ row_here k s at
+unfolding row_here
+no_row_of_none zero s at h = sym (rw (no_numbers (line_here s at)))
+no_row_of_none (suc k) s at h = absurd (h (omega arith))
 
-are3 : (s : List ℕ) (at a b c : ℕ) → number_at (line_here s at) 0 ≡ a → number_at (line_here s at) 1 ≡ b → number_at (line_here s at) 2 ≡ c → (i : ℕ) → i < 3 → number_at (line_here s at) i ≡ get_or (a ∷ b ∷ c ∷ []) i 0
-are3 s at a b c h0 h1 h2 zero l = h0
-are3 s at a b c h0 h1 h2 (suc zero) l = h1
-are3 s at a b c h0 h1 h2 (suc (suc zero)) l = h2
-are3 s at a b c h0 h1 h2 (suc (suc (suc i))) l = absurd (omega arith)
+parted_values : {s : List ℕ} {at v p : ℕ} → Parted s at v p → values (line_here s at) ≡ v ∷ values (line_here s p)
+parted_values {s} {at} {v} {p} g = ap (λ (fs : List (List ℕ)). map value fs) g.pieces ∙ ap (λ (w : ℕ). w ∷ values (line_here s p)) g.worth
 
-row3_go : (t : Bool) (x y u o a b c z : ℕ) → cond t (Read3 x y u o) Fault3 ≡ Read3 a b c z → (t ≡ true) × (x ≡ a) × (y ≡ b) × (u ≡ c) × (o ≡ z)
-row3_go true x y u o a b c z h = (refl, cc, cc, cc, cc)
-row3_go false x y u o a b c z h = (cc, cc, cc, cc, cc)
+-- a number alone, in the reader's answer
+lone_before : (s : List ℕ) (at stop : ℕ) {r : Option (Numbers 1)} {x : Numbers 1} → r ≡ number_before s at stop → r ≡ Some x → x.numbers ≡ lone x ∷ []
+unfolding number_before
+lone_before s at stop p q =
+    let g = some_if (is_number (field_here s at) && eqb (get_or s (at + length (field_here s at)) 0) stop) (sym p ∙ q) in
+    ap (λ (y : Numbers 1). y.numbers) (sym g.1) ∙ ap (λ (y : Numbers 1). lone y ∷ []) g.1
 
-fault3_go : (t : Bool) (x y u o : ℕ) → cond t (Read3 x y u o) Fault3 ≡ Fault3 → t ≡ false
-fault3_go true x y u o h = cc
-fault3_go false x y u o h = refl
+module _ {k : ℕ} {s : List ℕ} {at i : ℕ} {numbers : List ℕ} {p : ℕ} (u : Under k s at i numbers p) where
+  under_line : {j : ℕ} → k - i ≡ j → numbers_line k (line_here s at) ≡ numbers_line j (line_here s p)
+  under_line e = u.line ∙ ap (λ (n : ℕ). numbers_line n (line_here s p)) e
 
-pub row3_read : {s : List ℕ} {at a b c z : ℕ} {r : Row3} → r ≡ row3_here s at → r ≡ Read3 a b c z → Row s at (a ∷ b ∷ c ∷ []) z
-unfolding row3_here
-row3_read {s} {at} {a} {b} {c} {z} p q =
-    let g = row3_go (numbers_line 3 (line_here s at)) (number_at (line_here s at) 0) (number_at (line_here s at) 1) (number_at (line_here s at) 2) (past_line s at) a b c z (sym p ∙ q) in
-    record { line = g.0; are = are3 s at a b c g.1 g.2 g.3; past = g.4 }
+  -- one number more
+  pub under_more : {v z : ℕ} → suc i < k → Parted s p v z → Under k s at (i + 1) (set numbers i v) z
+  under_more {v} {z} h g =
+      let t : take (i + 1) (set numbers i v) ≡ take i numbers ++ v ∷ [] = rw (add-one i) (take-suc-set numbers i v (omega (arith, u.long))) in
+      record {
+        long = length-set numbers i v ∙ u.long;
+        left = omega arith;
+        line = under_line (omega arith) ∙ parted_more g (k - (i + 1));
+        are = u.are ∙ rw (t, parted_values g) (sym (append_assoc (take i numbers) (v ∷ []) (values (line_here s z))));
+        past = u.past ∙ g.past;
+      }
 
-pub row3_fault : (s : List ℕ) (at : ℕ) {r : Row3} → r ≡ row3_here s at → r ≡ Fault3 → NoRow 3 s at
-unfolding row3_here
-row3_fault s at p q = record { none = fault3_go (numbers_line 3 (line_here s at)) (number_at (line_here s at) 0) (number_at (line_here s at) 1) (number_at (line_here s at) 2) (past_line s at) (sym p ∙ q) }
+  -- none more
+  pub under_fault : suc i < k → NotParted s p → None ≡ row_here k s at
+  unfolding row_here
+  under_fault h g = sym (rw (under_line (omega arith) ∙ (no_row_here (k - i - 2) g).none))
 
-pub row3_is : {s : List ℕ} {at a b c z : ℕ} → Row s at (a ∷ b ∷ c ∷ []) z → Read3 a b c z ≡ row3_here s at
-unfolding row3_here
-row3_is r = sym (rw (r.line, r.are 0 (lit< tt), r.are 1 (lit< tt), r.are 2 (lit< tt), r.past))
+  -- the last
+  last_value : {v : ℕ} → suc i ≡ k → values (line_here s p) ≡ v ∷ [] → values (line_here s at) ≡ set numbers i v
+  last_value {v} e h =
+      u.are
+      ∙ rw h refl
+      ∙ sym (take-suc-set numbers i v (omega (arith, u.long)))
+      ∙ take_all (suc i) (set numbers i v) (omega (arith, length-set numbers i v, u.long))
 
-pub row3_none : {s : List ℕ} {at : ℕ} → NoRow 3 s at → Fault3 ≡ row3_here s at
-unfolding row3_here
-row3_none r = sym (rw r.none)
+  pub under_last : {m : ℕ} {r : Option (Numbers 1)} {x : Numbers 1} → i ≡ m → suc i ≡ k → r ≡ number_before s p line_feed → r ≡ Some x
+      → Some (record { numbers = set numbers m (lone x); next = x.next }) ≡ row_here k s at
+  unfolding row_here
+  under_last {m} {r} {x} j e q d =
+      let g = some_if (numbers_line 1 (line_here s p)) (sym (row_number s p) ∙ sym q ∙ d) in
+      let l : numbers_line k (line_here s at) ≡ true = under_line (omega arith) ∙ g.0 in
+      let v : values (line_here s at) ≡ set numbers m (lone x) =
+      last_value e (ap (λ (y : Numbers 1). y.numbers) g.1 ∙ lone_before s p line_feed q d) ∙ ap (λ (n : ℕ). set numbers n (lone x)) j in
+      let z : past_line s at ≡ x.next = u.past ∙ ap (λ (y : Numbers 1). y.next) g.1 in
+      sym (rw (l, v, z) refl)
 
-are5 : (s : List ℕ) (at a b c d e : ℕ) → number_at (line_here s at) 0 ≡ a → number_at (line_here s at) 1 ≡ b → number_at (line_here s at) 2 ≡ c → number_at (line_here s at) 3 ≡ d → number_at (line_here s at) 4 ≡ e → (i : ℕ) → i < 5 → number_at (line_here s at) i ≡ get_or (a ∷ b ∷ c ∷ d ∷ e ∷ []) i 0
-are5 s at a b c d e h0 h1 h2 h3 h4 zero l = h0
-are5 s at a b c d e h0 h1 h2 h3 h4 (suc zero) l = h1
-are5 s at a b c d e h0 h1 h2 h3 h4 (suc (suc zero)) l = h2
-are5 s at a b c d e h0 h1 h2 h3 h4 (suc (suc (suc zero))) l = h3
-are5 s at a b c d e h0 h1 h2 h3 h4 (suc (suc (suc (suc zero)))) l = h4
-are5 s at a b c d e h0 h1 h2 h3 h4 (suc (suc (suc (suc (suc i))))) l = absurd (omega arith)
-
-row5_go : (t : Bool) (x y u v w o a b c d e z : ℕ) → cond t (Read5 x y u v w o) Fault5 ≡ Read5 a b c d e z → (t ≡ true) × (x ≡ a) × (y ≡ b) × (u ≡ c) × (v ≡ d) × (w ≡ e) × (o ≡ z)
-row5_go true x y u v w o a b c d e z h = (refl, cc, cc, cc, cc, cc, cc)
-row5_go false x y u v w o a b c d e z h = (cc, cc, cc, cc, cc, cc, cc)
-
-fault5_go : (t : Bool) (x y u v w o : ℕ) → cond t (Read5 x y u v w o) Fault5 ≡ Fault5 → t ≡ false
-fault5_go true x y u v w o h = cc
-fault5_go false x y u v w o h = refl
-
-pub row5_read : {s : List ℕ} {at a b c d e z : ℕ} {r : Row5} → r ≡ row5_here s at → r ≡ Read5 a b c d e z → Row s at (a ∷ b ∷ c ∷ d ∷ e ∷ []) z
-unfolding row5_here
-row5_read {s} {at} {a} {b} {c} {d} {e} {z} p q =
-    let g = row5_go (numbers_line 5 (line_here s at)) (number_at (line_here s at) 0) (number_at (line_here s at) 1) (number_at (line_here s at) 2) (number_at (line_here s at) 3) (number_at (line_here s at) 4) (past_line s at) a b c d e z (sym p ∙ q) in
-    record { line = g.0; are = are5 s at a b c d e g.1 g.2 g.3 g.4 g.5; past = g.6 }
-
-pub row5_fault : (s : List ℕ) (at : ℕ) {r : Row5} → r ≡ row5_here s at → r ≡ Fault5 → NoRow 5 s at
-unfolding row5_here
-row5_fault s at p q = record { none = fault5_go (numbers_line 5 (line_here s at)) (number_at (line_here s at) 0) (number_at (line_here s at) 1) (number_at (line_here s at) 2) (number_at (line_here s at) 3) (number_at (line_here s at) 4) (past_line s at) (sym p ∙ q) }
-
-pub row5_is : {s : List ℕ} {at a b c d e z : ℕ} → Row s at (a ∷ b ∷ c ∷ d ∷ e ∷ []) z → Read5 a b c d e z ≡ row5_here s at
-unfolding row5_here
-row5_is r = sym (rw (r.line, r.are 0 (lit< tt), r.are 1 (lit< tt), r.are 2 (lit< tt), r.are 3 (lit< tt), r.are 4 (lit< tt), r.past))
-
-pub row5_none : {s : List ℕ} {at : ℕ} → NoRow 5 s at → Fault5 ≡ row5_here s at
-unfolding row5_here
-row5_none r = sym (rw r.none)
+  pub under_no_last : {r : Option (Numbers 1)} → suc i ≡ k → r ≡ number_before s p line_feed → r ≡ None → None ≡ row_here k s at
+  unfolding row_here
+  under_no_last e q d =
+      let f : numbers_line 1 (line_here s p) ≡ false = none_if (numbers_line 1 (line_here s p)) _ (sym (row_number s p) ∙ sym q ∙ d) in
+      sym (rw (under_line (omega arith) ∙ f))
 
 -- A PART AS A NUMBER
-is_go : (t : Bool) (x v : ℕ) → cond t (Is x) Not ≡ Is v → (t ≡ true) × (x ≡ v)
-is_go true x v h = (refl, cc)
-is_go false x v h = (cc, cc)
-
-not_go : (t : Bool) (x : ℕ) → cond t (Is x) Not ≡ Not → t ≡ false
-not_go true x h = cc
-not_go false x h = refl
-
-pub number_is : (w : List ℕ) {v : ℕ} {r : Number} → r ≡ number_in w → r ≡ Is v → (is_number w ≡ true) × (value w ≡ v)
+pub number_is : (w : List ℕ) {v : ℕ} {r : Option ℕ} → r ≡ number_in w → r ≡ Some v → (is_number w ≡ true) × (value w ≡ v)
 unfolding number_in
-number_is w {v} p q = is_go (is_number w) (value w) v (sym p ∙ q)
+number_is w p q = some_if (is_number w) (sym p ∙ q)
 
-pub number_not : (w : List ℕ) {r : Number} → r ≡ number_in w → r ≡ Not → is_number w ≡ false
+pub number_not : (w : List ℕ) {r : Option ℕ} → r ≡ number_in w → r ≡ None → is_number w ≡ false
 unfolding number_in
-number_not w p q = not_go (is_number w) (value w) (sym p ∙ q)
+number_not w p q = none_if (is_number w) _ (sym p ∙ q)
 
 -- THE FIRST NUMBER OF A LONGER LINE: the fields that follow it are those at p, and the line ends where the one at p does
-pub leading_read : {s : List ℕ} {at v p : ℕ} {r : Row1} → r ≡ leading_here s at → r ≡ Read1 v p → Parted s at v p
+pub leading_read : {s : List ℕ} {at : ℕ} {r : Option (Numbers 1)} {x : Numbers 1} → r ≡ leading_here s at → r ≡ Some x → Parted s at (lone x) x.next
 leading_read {s} {at} e q = parted (e ∙ sym (leading_number s at)) q
 
-pub leading_fault : (s : List ℕ) (at : ℕ) {r : Row1} → r ≡ leading_here s at → r ≡ Fault1 → (is_number (field_here s at) && ltb 1 (length (fields (line_here s at).text))) ≡ false
+pub leading_fault : (s : List ℕ) (at : ℕ) {r : Option (Numbers 1)} → r ≡ leading_here s at → r ≡ None → (is_number (field_here s at) && ltb 1 (length (fields (line_here s at).text))) ≡ false
 unfolding leading_here
-leading_fault s at p q =
-    fault_go (is_number (field_here s at) && ltb 1 (length (fields (line_here s at).text))) (value (field_here s at)) (at + suc (length (field_here s at))) (sym p ∙ q)
+leading_fault s at p q = none_if (is_number (field_here s at) && ltb 1 (length (fields (line_here s at).text))) _ (sym p ∙ q)

@@ -2,6 +2,7 @@
 use mathlib.Core.Path.{◌≡◌, refl, sym, ap, ◌∙◌}
 use mathlib.Core.Bool.{Bool, true, false, ◌&&◌, ◌||◌, cond, and-false, and-true}
 use mathlib.Core.List.{List, [], ◌∷◌}
+use Rattle.std.specs.Prelude.{Option, Some, None, map}
 use Prim.Native.Nat.{ℕ, suc, ◌+◌}
 use native.Mathlib.Omega.{arith}
 use lib.Dec.{ltb, eqb, eqb-suc-suc, eqb-zero-suc, eqb-suc-zero}
@@ -10,13 +11,12 @@ use lib.Seq.{drop-drop, get_or-drop}
 use borrow.Author.Tests.{eqb-true, lt-ltb}
 use Rattle.text.specs.Ascii.{line_feed, space}
 use Rattle.text.specs.Lines.{Line, fields}
-use Rattle.text.specs.Numbers.{is_number, value, all_numbers, numbers_line, number_at}
-use Rattle.text.specs.Reading.{line_here, past_line, field_here, number_before, leading_here, row1_here}
-use Rattle.text.specs.declared.read.Row1.{Row1}
-use Rattle.text.specs.declared.read.Row1.TheVariants.{Read as Read1, Fault as Fault1}
-use Rattle.text.proofs.Tests.{and_both}
+use Rattle.text.specs.Numbers.{is_number, value, all_numbers, numbers_line}
+use Rattle.text.specs.Reading.{line_here, past_line, field_here, one_number, number_before, leading_here, values, row_here}
+use Rattle.text.specs.declared.read.Row.{Row}
+use Rattle.text.proofs.Tests.{and_both, some_if, none_if}
 use Rattle.text.proofs.Lines.{size, first, field_in, after_field, ended, glue, field_first, fields_some, space_pieces, space_closed, space_long, feed_pieces, feed_closed, feed_long, end_pieces, end_closed}
-use Rattle.text.proofs.Digits.{read_go, fault_go}
+use Rattle.text.proofs.Digits.{lone}
 use Rattle.text.proofs.ReadingSteps.{past_size}
 
 -- WHAT FOLLOWS A FIELD: a space, a line feed or nothing
@@ -50,7 +50,7 @@ unfolding glue
 glue_long w [] = refl
 glue_long w (f ∷ fs) = lt-ltb 1 (suc (suc (length fs))) (omega arith)
 
-no_numbers : (l : Line) → numbers_line 0 l ≡ false
+pub no_numbers : (l : Line) → numbers_line 0 l ≡ false
 unfolding numbers_line
 no_numbers l = rw (fields_some, glue_many, and-false)
 
@@ -136,7 +136,10 @@ cond_same : {A : Type 0} (t : Bool) (x y z : A) → (t ≡ true → x ≡ y) →
 cond_same true x y z h = h refl
 cond_same false x y z h = refl
 
--- the place past a line whose first field is its last
+row_same : {k : ℕ} {vs ws : List ℕ} {y z : ℕ} → vs ≡ ws → y ≡ z → ◌≡◌ {A = Row k} (record { numbers = vs; next = y }) (record { numbers = ws; next = z })
+row_same p q = cc
+
+-- a line whose first field is its last: its one number, and the place past it
 module _ (s : List ℕ) (at : ℕ) where
   feed_past_go : Stop (after_field (drop at s)) → get_or (after_field (drop at s)) 0 0 ≡ line_feed → size (line_here s at) ≡ suc (length (field_here s at))
   feed_past_go (at_space q h) e = let z : ◌≡◌ {A = ℕ} space line_feed = rw h at e in absurd (omega arith)
@@ -146,20 +149,28 @@ module _ (s : List ℕ) (at : ℕ) where
   feed_past : get_or s (at + length (field_here s at)) 0 ≡ line_feed → past_line s at ≡ at + suc (length (field_here s at))
   feed_past e = past_size s at ∙ ap (λ (n : ℕ). at + n) (feed_past_go (stop_here s at) (next_here s at ∙ e))
 
-  pub row1_number : number_before s at line_feed ≡ row1_here s at
-  unfolding number_before row1_here number_at
-  row1_number =
+  feed_fields_go : Stop (after_field (drop at s)) → get_or (after_field (drop at s)) 0 0 ≡ line_feed → fields (line_here s at).text ≡ field_here s at ∷ []
+  feed_fields_go (at_space q h) e = let z : ◌≡◌ {A = ℕ} space line_feed = rw h at e in absurd (omega arith)
+  feed_fields_go (at_feed q h) e = feed_pieces (drop at s) q h
+  feed_fields_go (at_end h) e = let z : ◌≡◌ {A = ℕ} 0 line_feed = rw h at e in absurd (omega arith)
+
+  feed_values : get_or s (at + length (field_here s at)) 0 ≡ line_feed → values (line_here s at) ≡ value (field_here s at) ∷ []
+  feed_values e = ap (map value) (feed_fields_go (stop_here s at) (next_here s at ∙ e))
+
+  pub row_number : number_before s at line_feed ≡ row_here 1 s at
+  unfolding number_before row_here
+  row_number =
       let n = is_number (field_here s at) in
       let b = eqb (get_or s (at + length (field_here s at)) 0) line_feed in
-      cond_same (n && b) (Read1 (value (field_here s at)) (at + suc (length (field_here s at)))) (Read1 (value (field_here s at)) (past_line s at)) Fault1
-      (λ t. ap (Read1 (value (field_here s at))) (sym (feed_past (eqb-true (get_or s (at + length (field_here s at)) 0) line_feed (and_both n b t).1))))
-      ∙ ap (λ (t : Bool). cond t (Read1 (value (field_here s at)) (past_line s at)) Fault1) (sym (numbers_1 s at))
+      cond_same (n && b) (Some (one_number (value (field_here s at)) (at + suc (length (field_here s at))))) (Some (record { numbers = values (line_here s at); next = past_line s at })) None
+      (λ t. let e = eqb-true (get_or s (at + length (field_here s at)) 0) line_feed (and_both n b t).1 in ap Some (row_same (sym (feed_values e)) (sym (feed_past e))))
+      ∙ ap (λ (t : Bool). cond t (Some (record { numbers = values (line_here s at); next = past_line s at })) None) (sym (numbers_1 s at))
 
   pub leading_number : number_before s at space ≡ leading_here s at
   unfolding number_before leading_here
   leading_number =
       ap
-      (λ (t : Bool). cond (is_number (field_here s at) && t) (Read1 (value (field_here s at)) (at + suc (length (field_here s at)))) Fault1)
+      (λ (t : Bool). cond (is_number (field_here s at) && t) (Some (one_number (value (field_here s at)) (at + suc (length (field_here s at))))) None)
       (sym (fields_more s at))
 
 -- a space parts the first field at a place from the line at p
@@ -205,21 +216,16 @@ spaced s at e =
 with_number : {s : List ℕ} {at v p : ℕ} → is_number (field_here s at) ≡ true → value (field_here s at) ≡ v → Spaced s at p → Parted s at v p
 with_number n w f = record { number = n; worth = w; pieces = f.pieces; closed = f.closed; past = f.past }
 
-pub parted : {s : List ℕ} {at v p : ℕ} {r : Row1} → r ≡ number_before s at space → r ≡ Read1 v p → Parted s at v p
+pub parted : {s : List ℕ} {at : ℕ} {r : Option (Row 1)} {x : Row 1} → r ≡ number_before s at space → r ≡ Some x → Parted s at (lone x) x.next
 unfolding number_before
-parted {s} {at} {v} {p} h q =
+parted {s} {at} h q =
     let n = is_number (field_here s at) in
     let b = eqb (get_or s (at + length (field_here s at)) 0) space in
-    let g = read_go (n && b) (value (field_here s at)) (at + suc (length (field_here s at))) v p (sym h ∙ q) in
+    let g = some_if (n && b) (sym h ∙ q) in
     let t = and_both n b g.0 in
     let f = spaced s at (eqb-true (get_or s (at + length (field_here s at)) 0) space t.1) in
-    rw g.2 at (with_number t.0 g.1 f)
+    rw (ap (λ (x : Row 1). x.next) g.1) at (with_number t.0 (ap lone g.1) f)
 
-pub not_parted : (s : List ℕ) (at : ℕ) {r : Row1} → r ≡ number_before s at space → r ≡ Fault1 → NotParted s at
+pub not_parted : (s : List ℕ) (at : ℕ) {r : Option (Row 1)} → r ≡ number_before s at space → r ≡ None → NotParted s at
 unfolding number_before
-not_parted s at h q =
-    record {
-      none =
-          fault_go (is_number (field_here s at) && eqb (get_or s (at + length (field_here s at)) 0) space) (value (field_here s at)) (at + suc (length (field_here s at)))
-          (sym h ∙ q);
-    }
+not_parted s at h q = record { none = none_if (is_number (field_here s at) && eqb (get_or s (at + length (field_here s at)) 0) space) _ (sym h ∙ q) }

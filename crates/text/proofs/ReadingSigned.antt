@@ -2,6 +2,7 @@
 use mathlib.Core.Path.{◌≡◌, refl, sym, ap, ◌∙◌}
 use mathlib.Core.Bool.{Bool, true, false, ◌&&◌, cond, and-false, and-true}
 use mathlib.Core.List.{List, [], ◌∷◌}
+use Rattle.std.specs.Prelude.{Option, Some, None}
 use Prim.Native.Nat.{ℕ, suc, ◌+◌, ◌≤◌, ◌<◌}
 use native.Mathlib.Omega.{arith}
 use native.Mathlib.Numerals.{add-one}
@@ -13,11 +14,11 @@ use borrow.Author.Tests.{ne_eqb, eqb-true, leb-true, leb-false, ltb-false}
 use Rattle.text.specs.Ascii.{minus}
 use Rattle.text.specs.Lines.{Line, lines, put_first, fields, field}
 use Rattle.text.specs.Numbers.{is_number, value, has_minus, without_minus, is_signed, signed_value, all_numbers, numbers_line, number_at}
-use Rattle.text.specs.Reading.{line_here, past_line, field_here, is_separator, signed_last, signed_line, signed_row_here}
+use Rattle.text.specs.Reading.{line_here, past_line, field_here, is_separator, signed_number, signed_last, signed_line, signed_row_here}
 use Rattle.text.specs.declared.read.Signed.{Signed}
-use Rattle.text.specs.declared.read.Signed.TheVariants.{Read as ReadSigned, Fault as FaultSigned}
+use Rattle.text.specs.declared.read.Signed.TheVariants.{Plus, Minus}
 use Rattle.text.specs.declared.read.SignedRow.{SignedRow}
-use Rattle.text.specs.declared.read.SignedRow.TheVariants.{Read as ReadRow, Fault as FaultRow}
+use Rattle.text.proofs.Tests.{some_if, none_if}
 use Rattle.text.proofs.Lines.{first, first_byte, field_nil, field_stop, field_byte, fields_byte, fields_some, glue}
 use Rattle.text.proofs.ReadingSteps.{past_byte}
 use Rattle.text.proofs.ReadingRows.{Parted, NotParted, fields_more}
@@ -48,7 +49,7 @@ module _ (s : List ℕ) (at : ℕ) where
       go false e = leb-false (length s) at e
 
 -- what follows the sign
-record Minus (s : List ℕ) (at : ℕ) : Type 0 where
+record Signless (s : List ℕ) (at : ℕ) : Type 0 where
   first_field : field_here s at ≡ minus ∷ field_here s (at + 1)
   many : length (fields (line_here s at).text) ≡ length (fields (line_here s (at + 1)).text)
   closed : (line_here s at).closed ≡ (line_here s (at + 1)).closed
@@ -65,7 +66,7 @@ fields_many b t =
     ∙ put_first_many b [] (fields t)
     ∙ ap (λ (fs : List (List ℕ)). length fs) (sym (fields_some t))
 
-minus_laws : (s : List ℕ) (at : ℕ) → true ≡ has_minus (field_here s at) → Minus s at
+minus_laws : (s : List ℕ) (at : ℕ) → true ≡ has_minus (field_here s at) → Signless s at
 minus_laws s at h =
     let l : at < length s = minus_within s at h in
     let b : get_or s at 0 ≡ minus = eqb-true (get_or s at 0) minus (sym (minus_here s at l) ∙ sym h) in
@@ -95,8 +96,8 @@ one_number : (l : Line) → numbers_line 1 l ≡ ((l.closed && eqb (length (fiel
 unfolding numbers_line field
 one_number l = one_number_go l.closed (fields l.text)
 
-abbrev signed_in : (closed : Bool) → (many : ℕ) → (field : List ℕ) → (past : ℕ) → Signed
-signed_in c n f p = cond ((c && eqb n 1) && is_signed f) (ReadSigned (has_minus f) (value (without_minus f)) p) FaultSigned
+abbrev signed_in : (closed : Bool) → (many : ℕ) → (field : List ℕ) → (past : ℕ) → Option (Signed × ℕ)
+signed_in c n f p = cond ((c && eqb n 1) && is_signed f) (Some (signed_number f, p)) None
 
 no_minus : (w : List ℕ) → has_minus w ≡ false → without_minus w ≡ w
 unfolding has_minus without_minus
@@ -116,45 +117,48 @@ module _ (s : List ℕ) (at : ℕ) where
 
   signed_minus : true ≡ has_minus (field_here s at)
       → signed_last s at
-      ≡ cond (numbers_line 1 (line_here s (at + 1))) (ReadSigned true (number_at (line_here s (at + 1)) 0) (past_line s (at + 1))) FaultSigned
-  unfolding is_signed has_minus without_minus number_at
+      ≡ cond (numbers_line 1 (line_here s (at + 1))) (Some (Minus (number_at (line_here s (at + 1)) 0), past_line s (at + 1))) None
+  unfolding is_signed signed_number has_minus without_minus number_at
   signed_minus h =
       let g = minus_laws s at h in
       signed_is g.closed g.many g.first_field g.past
-      ∙ ap (λ (t : Bool). cond t (ReadSigned true (value (field_here s (at + 1))) (past_line s (at + 1))) FaultSigned) (sym (one_number (line_here s (at + 1))))
+      ∙ ap (λ (t : Bool). cond t (Some (Minus (value (field_here s (at + 1))), past_line s (at + 1))) None) (sym (one_number (line_here s (at + 1))))
 
   signed_plain : false ≡ has_minus (field_here s at)
-      → signed_last s at ≡ cond (numbers_line 1 (line_here s at)) (ReadSigned false (number_at (line_here s at) 0) (past_line s at)) FaultSigned
-  unfolding signed_last is_signed number_at
+      → signed_last s at ≡ cond (numbers_line 1 (line_here s at)) (Some (Plus (number_at (line_here s at) 0), past_line s at)) None
+  unfolding signed_last is_signed signed_number number_at
   signed_plain h =
       let l = line_here s at in
+      let f = field_here s at in
+      let z = past_line s at in
       let t = (l.closed && eqb (length (fields l.text)) 1) in
-      ap (λ (w : List ℕ). cond (t && is_number w) (ReadSigned (has_minus (field_here s at)) (value w) (past_line s at)) FaultSigned) (no_minus (field_here s at) (sym h))
-      ∙ ap (λ (m : Bool). cond (t && is_number (field_here s at)) (ReadSigned m (value (field_here s at)) (past_line s at)) FaultSigned) (sym h)
-      ∙ ap (λ (q : Bool). cond q (ReadSigned false (value (field_here s at)) (past_line s at)) FaultSigned) (sym (one_number l))
+      ap (λ (w : List ℕ). cond (t && is_number w) (Some (cond (has_minus f) (Minus (value w)) (Plus (value w)), z)) None) (no_minus f (sym h))
+      ∙ ap (λ (m : Bool). cond (t && is_number f) (Some (cond m (Minus (value f)) (Plus (value f)), z)) None) (sym h)
+      ∙ ap (λ (q : Bool). cond q (Some (Plus (value f), z)) None) (sym (one_number l))
 
-pub signed_minus_read : {s : List ℕ} (at : ℕ) {v z : ℕ} → true ≡ has_minus (field_here s at) → Row s (at + 1) (v ∷ []) z → ReadSigned true v z ≡ signed_last s at
+pub signed_minus_read : {s : List ℕ} (at : ℕ) {v z : ℕ} → true ≡ has_minus (field_here s at) → Row s (at + 1) (v ∷ []) z → Some (Minus v, z) ≡ signed_last s at
 signed_minus_read {s} at {v} {z} h r = sym (signed_minus s at h ∙ rw (r.line, r.are 0 (omega arith), r.past))
 
-pub signed_minus_none : {s : List ℕ} (at : ℕ) → true ≡ has_minus (field_here s at) → NoRow 1 s (at + 1) → FaultSigned ≡ signed_last s at
+pub signed_minus_none : {s : List ℕ} (at : ℕ) → true ≡ has_minus (field_here s at) → NoRow 1 s (at + 1) → None ≡ signed_last s at
 signed_minus_none {s} at h r = sym (signed_minus s at h ∙ rw r.none)
 
-pub signed_plain_read : {s : List ℕ} {at v z : ℕ} → false ≡ has_minus (field_here s at) → Row s at (v ∷ []) z → ReadSigned false v z ≡ signed_last s at
+pub signed_plain_read : {s : List ℕ} {at v z : ℕ} → false ≡ has_minus (field_here s at) → Row s at (v ∷ []) z → Some (Plus v, z) ≡ signed_last s at
 signed_plain_read {s} {at} {v} {z} h r = sym (signed_plain s at h ∙ rw (r.line, r.are 0 (omega arith), r.past))
 
-pub signed_plain_none : {s : List ℕ} {at : ℕ} → false ≡ has_minus (field_here s at) → NoRow 1 s at → FaultSigned ≡ signed_last s at
+pub signed_plain_none : {s : List ℕ} {at : ℕ} → false ≡ has_minus (field_here s at) → NoRow 1 s at → None ≡ signed_last s at
 signed_plain_none {s} {at} h r = sym (signed_plain s at h ∙ rw r.none)
 
 -- A NUMBER AND A SIGNED NUMBER
-abbrev row_in : (closed : Bool) → List (List ℕ) → (past : ℕ) → SignedRow
+abbrev row_in : (closed : Bool) → List (List ℕ) → (past : ℕ) → Option SignedRow
 row_in c fs p =
     cond ((c && eqb (length fs) 2) && (is_number (get_or fs 0 []) && is_signed (get_or fs 1 [])))
-    (ReadRow (value (get_or fs 0 [])) (has_minus (get_or fs 1 [])) (value (without_minus (get_or fs 1 []))) p) FaultRow
+    (Some (record { number = value (get_or fs 0 []); signed = signed_number (get_or fs 1 []); next = p })) None
+
+abbrev signed_after : (s : List ℕ) (p : ℕ) → Bool
+signed_after s p = ((line_here s p).closed && eqb (length (fields (line_here s p).text)) 1) && is_signed (field_here s p)
 
 row_of_parted : {s : List ℕ} {at a p : ℕ} → Parted s at a p
-    → signed_row_here s at
-    ≡ cond (((line_here s p).closed && eqb (length (fields (line_here s p).text)) 1) && is_signed (field_here s p))
-    (ReadRow a (has_minus (field_here s p)) (value (without_minus (field_here s p))) (past_line s p)) FaultRow
+    → signed_row_here s at ≡ cond (signed_after s p) (Some (record { number = a; signed = signed_number (field_here s p); next = past_line s p })) None
 unfolding signed_row_here signed_line field number_at
 row_of_parted {s} {at} {a} {p} g =
     ap (λ (c : Bool). row_in c (fields (line_here s at).text) (past_line s at)) g.closed
@@ -162,36 +166,22 @@ row_of_parted {s} {at} {a} {p} g =
     ∙ ap (λ (k : ℕ). row_in (line_here s p).closed (field_here s at ∷ fields (line_here s p).text) k) g.past
     ∙ rw (eqb-suc-suc, g.number, g.worth)
 
-signed_go : (t m : Bool) (x y : ℕ) (a : ℕ) {n : Bool} {v z : ℕ} → cond t (ReadSigned m x y) FaultSigned ≡ ReadSigned n v z → cond t (ReadRow a m x y) FaultRow ≡ ReadRow a n v z
-signed_go true m x y a h = cc
-signed_go false m x y a h = cc
-
-fault_go : (t m : Bool) (x y : ℕ) (a : ℕ) → cond t (ReadSigned m x y) FaultSigned ≡ FaultSigned → cond t (ReadRow a m x y) FaultRow ≡ FaultRow
-fault_go true m x y a h = cc
-fault_go false m x y a h = refl
-
-module _ {s : List ℕ} {at a p : ℕ} (g : Parted s at a p) {r : Signed} (e : r ≡ signed_last s p) where
-  pub signed_row_read : {n : Bool} {v z : ℕ} → r ≡ ReadSigned n v z → ReadRow a n v z ≡ signed_row_here s at
+module _ {s : List ℕ} {at a p : ℕ} (g : Parted s at a p) {r : Option (Signed × ℕ)} (e : r ≡ signed_last s p) where
+  pub signed_row_read : {x : Signed × ℕ} → r ≡ Some x → Some (record { number = a; signed = x.0; next = x.1 }) ≡ signed_row_here s at
   unfolding signed_last
   signed_row_read q =
-      sym
-      (row_of_parted g
-      ∙ signed_go (((line_here s p).closed && eqb (length (fields (line_here s p).text)) 1) && is_signed (field_here s p)) (has_minus (field_here s p)) (value (without_minus (field_here s p)))
-      (past_line s p) a (sym e ∙ q))
+      let h = some_if (signed_after s p) (sym e ∙ q) in
+      sym (row_of_parted g ∙ rw h.0 (ap (λ (y : Signed × ℕ). Some (record { number = a; signed = y.0; next = y.1 })) h.1))
 
-  pub signed_row_later : r ≡ FaultSigned → FaultRow ≡ signed_row_here s at
+  pub signed_row_later : r ≡ None → None ≡ signed_row_here s at
   unfolding signed_last
-  signed_row_later q =
-      sym
-      (row_of_parted g
-      ∙ fault_go (((line_here s p).closed && eqb (length (fields (line_here s p).text)) 1) && is_signed (field_here s p)) (has_minus (field_here s p)) (value (without_minus (field_here s p)))
-      (past_line s p) a (sym e ∙ q))
+  signed_row_later q = let h = none_if (signed_after s p) _ (sym e ∙ q) in sym (row_of_parted g ∙ rw h)
 
 none_go : (c : Bool) (k : ℕ) (n m : Bool) (x : Bool) → ltb 1 k ≡ x → (n && x) ≡ false → ((c && eqb k 2) && (n && m)) ≡ false
 none_go c k n m true e h = rw ((sym (and-true n) ∙ h), and-false)
 none_go c k n m false e h = rw (ne_eqb k 2 (λ q. omega (arith, ltb-false 1 k e)), and-false)
 
-pub signed_row_none : {s : List ℕ} {at : ℕ} → NotParted s at → FaultRow ≡ signed_row_here s at
+pub signed_row_none : {s : List ℕ} {at : ℕ} → NotParted s at → None ≡ signed_row_here s at
 unfolding signed_row_here signed_line
 signed_row_none {s} {at} g =
     let l = line_here s at in
@@ -200,41 +190,46 @@ signed_row_none {s} {at} g =
     sym (rw t)
 
 -- FOR CALLERS: the line at a place is a number and a signed number, and z is past it
-pub record SignedAt (s : List ℕ) (at a : ℕ) (sign : Bool) (v z : ℕ) : Type 0 where
+pub record SignedAt (s : List ℕ) (at a : ℕ) (g : Signed) (z : ℕ) : Type 0 where
   pub line : signed_line (line_here s at) ≡ true
   pub number : number_at (line_here s at) 0 ≡ a
-  pub minus : has_minus (field (line_here s at) 1) ≡ sign
-  pub worth : value (without_minus (field (line_here s at) 1)) ≡ v
+  pub signed : signed_number (field (line_here s at) 1) ≡ g
   pub past : past_line s at ≡ z
   pub rest : lines (drop z s) ≡ drop 1 (lines (drop at s))
 
-at_go : (t m : Bool) (x w y : ℕ) {a : ℕ} {n : Bool} {v z : ℕ} → cond t (ReadRow x m w y) FaultRow ≡ ReadRow a n v z → (t ≡ true) × (x ≡ a) × (m ≡ n) × (w ≡ v) × (y ≡ z)
-at_go true m x w y h = (refl, cc, cc, cc, cc)
-at_go false m x w y h = (cc, cc, cc, cc, cc)
-
-at_fault_go : (t m : Bool) (x w y : ℕ) → cond t (ReadRow x m w y) FaultRow ≡ FaultRow → t ≡ false
-at_fault_go true m x w y h = cc
-at_fault_go false m x w y h = refl
-
-pub signed_at : {s : List ℕ} {at a : ℕ} {n : Bool} {v z : ℕ} {r : SignedRow} → r ≡ signed_row_here s at → r ≡ ReadRow a n v z → SignedAt s at a n v z
-unfolding signed_row_here signed_line is_signed number_at
-signed_at {s} {at} {a} {n} {v} {z} p q =
-    let l = line_here s at in
-    let g = at_go (signed_line l) (has_minus (field l 1)) (number_at l 0) (value (without_minus (field l 1))) (past_line s at) (sym p ∙ q) in
+pub signed_at : {s : List ℕ} {at : ℕ} {r : Option SignedRow} {x : SignedRow} → r ≡ signed_row_here s at → r ≡ Some x → SignedAt s at x.number x.signed x.next
+unfolding signed_row_here
+signed_at {s} {at} p q =
+    let g = some_if (signed_line (line_here s at)) (sym p ∙ q) in
+    let z = ap (λ (y : SignedRow). y.next) g.1 in
     record {
       line = g.0;
-      number = g.1;
-      minus = g.2;
-      worth = g.3;
-      past = g.4;
-      rest = ap (λ (i : ℕ). lines (drop i s)) (sym g.4) ∙ past_lines s at;
+      number = ap (λ (y : SignedRow). y.number) g.1;
+      signed = ap (λ (y : SignedRow). y.signed) g.1;
+      past = z;
+      rest = ap (λ (i : ℕ). lines (drop i s)) (sym z) ∙ past_lines s at;
     }
 
-pub signed_fault : (s : List ℕ) (at : ℕ) {r : SignedRow} → r ≡ signed_row_here s at → r ≡ FaultRow → signed_line (line_here s at) ≡ false
+pub signed_fault : (s : List ℕ) (at : ℕ) {r : Option SignedRow} → r ≡ signed_row_here s at → r ≡ None → signed_line (line_here s at) ≡ false
 unfolding signed_row_here
-signed_fault s at p q =
-    let l = line_here s at in
-    at_fault_go (signed_line l) (has_minus (field l 1)) (number_at l 0) (value (without_minus (field l 1))) (past_line s at) (sym p ∙ q)
+signed_fault s at p q = none_if (signed_line (line_here s at)) _ (sym p ∙ q)
+
+-- the sign of a signed number and the number that follows it
+plus_sign_go : (t : Bool) {x v : ℕ} → cond t (Minus x) (Plus x) ≡ Plus v → (t ≡ false) × (x ≡ v)
+plus_sign_go true h = (cc, cc)
+plus_sign_go false h = (refl, cc)
+
+minus_sign_go : (t : Bool) {x v : ℕ} → cond t (Minus x) (Plus x) ≡ Minus v → (t ≡ true) × (x ≡ v)
+minus_sign_go true h = (refl, cc)
+minus_sign_go false h = (cc, cc)
+
+pub plus_is : (w : List ℕ) {v : ℕ} → signed_number w ≡ Plus v → (has_minus w ≡ false) × (value (without_minus w) ≡ v)
+unfolding signed_number
+plus_is w h = plus_sign_go (has_minus w) h
+
+pub minus_is : (w : List ℕ) {v : ℕ} → signed_number w ≡ Minus v → (has_minus w ≡ true) × (value (without_minus w) ≡ v)
+unfolding signed_number
+minus_is w h = minus_sign_go (has_minus w) h
 
 -- the value of a signed number by its sign and what follows it
 pub signed_worth : (w : List ℕ) → signed_value w ≡ cond (has_minus w) (neg_ℤ (pos (value (without_minus w)))) (pos (value (without_minus w)))
@@ -244,3 +239,9 @@ signed_worth w = go (has_minus w) refl
     go : (t : Bool) → has_minus w ≡ t → cond t (neg_ℤ (pos (value (without_minus w)))) (pos (value w)) ≡ cond t (neg_ℤ (pos (value (without_minus w)))) (pos (value (without_minus w)))
     go true e = refl
     go false e = ap (λ (f : List ℕ). pos (value f)) (sym (no_minus w e))
+
+pub plus_worth : (w : List ℕ) {v : ℕ} → signed_number w ≡ Plus v → signed_value w ≡ pos v
+plus_worth w h = signed_worth w ∙ rw ((plus_is w h).0, (plus_is w h).1)
+
+pub minus_worth : (w : List ℕ) {v : ℕ} → signed_number w ≡ Minus v → signed_value w ≡ neg_ℤ (pos v)
+minus_worth w h = signed_worth w ∙ rw ((minus_is w h).0, (minus_is w h).1)

@@ -2,7 +2,7 @@
 use mathlib.Core.Path.{◌≡◌, refl, sym, ap, ◌∙◌}
 use mathlib.Core.Bool.{Bool, true, false, ◌&&◌, and-false, and-true, cond}
 use mathlib.Core.List.{List, [], ◌∷◌, ◌++◌}
-use Prim.Native.Nat.{ℕ, suc, ◌+◌, ◌-◌, ◌≤◌, ◌<◌}
+use Prim.Native.Nat.{ℕ, suc, ◌+◌, ◌-◌, ◌≤◌, ◌<◌, max}
 use native.Mathlib.Omega.{arith}
 use native.Mathlib.Numerals.{add-one}
 use native.Mathlib.Nat.{add_assoc, add-sub_cancel_left}
@@ -13,7 +13,7 @@ use borrow.Author.Tests.{leb-true, leb-false, eq-eqb, ne_eqb}
 use Rattle.text.specs.Ascii.{line_feed}
 use Rattle.text.specs.Lines.{equal, begins}
 use Rattle.text.specs.Reading.{past_line, line_here, field_here, is_separator, named_here}
-use Rattle.text.specs.declared.read.Named.TheVariants.{Past, Other}
+use Rattle.std.specs.Prelude.{Some, None}
 use Rattle.text.proofs.Tests.{and_assoc}
 use Rattle.text.proofs.Lines.{size, first_nil, first_feed, first_byte, size_within, field_nil, field_stop, field_byte, field_first}
 
@@ -35,6 +35,14 @@ module _ (s : List ℕ) (e : ℕ) where
   pub past_end : length s ≤ e → past_line s e ≡ e
   unfolding past_line
   past_end h = rw (drop_of_length-le s h, first_nil) (omega arith)
+
+-- after a count of e from a place to the text's end: what holds of the place past the end, and of the end, holds of the greater
+pub count_end : (s : List ℕ) (at e r : ℕ) → (at ≤ length s → e ≤ length s) → length s ≤ e → (length s ≤ at → r ≡ at) → (e ≡ length s → r ≡ e) → max at (length s) ≡ r
+count_end s at e r near far past here = go (leb at (length s)) refl
+  where
+    go : (t : Bool) → leb at (length s) ≡ t → max at (length s) ≡ r
+    go true h = let l = leb-true at (length s) h in omega (arith, near l, here (omega arith))
+    go false h = let l = leb-false at (length s) h in omega (arith, past (omega arith))
 
 -- THE PLACE WHERE A FIELD ENDS
 module _ (s : List ℕ) (e : ℕ) where
@@ -65,28 +73,6 @@ field_part s at = rw (add-sub_cancel_left at (length (field_here s at))) (field_
 pub field_past : (s : List ℕ) (at : ℕ) → length s ≤ at → field_here s at ≡ []
 field_past s at h = rw (drop_of_length-le s h) field_nil
 
--- WHETHER A TEXT BEGINS SO: front from i on and the text from e on are left to be compared
-pub record Matching (front text : List ℕ) (at i e : ℕ) : Type 0 where
-  pub left : begins (drop i front) (drop e text) ≡ begins front (drop at text)
-
-module _ {f s : List ℕ} {at i e : ℕ} (g : Matching f s at i e) where
-  pub matching_all : length f ≤ i → true ≡ begins f (drop at s)
-  unfolding begins equal
-  matching_all h = sym (rw (drop_of_length-le f h)) ∙ g.left
-
-  pub matching_short : i < length f → length s ≤ e → false ≡ begins f (drop at s)
-  unfolding begins equal
-  matching_short h l = sym (rw (drop-cons f i 0 h, drop_of_length-le s l)) ∙ g.left
-
-  pub matching_not : i < length f → e < length s → (get_or s e 0 ≡ get_or f i 0 → ⊥) → false ≡ begins f (drop at s)
-  unfolding begins equal
-  matching_not h l q = sym (rw (drop-cons f i 0 h, drop-cons s e 0 l, ne_eqb (get_or s e 0) (get_or f i 0) q)) ∙ g.left
-
-  pub matching_more : i < length f → e < length s → get_or s e 0 ≡ get_or f i 0 → Matching f s at (i + 1) (e + 1)
-  unfolding begins equal
-  matching_more h l q =
-      record { left = rw (add-one i, add-one e) (sym (rw (drop-cons f i 0 h, drop-cons s e 0 l, eq-eqb (get_or s e 0) (get_or f i 0) q)) ∙ g.left) }
-
 -- A NAMED LINE: a front and then one line feed
 begins_feed : (f t : List ℕ) → begins (f ++ line_feed ∷ []) t ≡ (begins f t && eqb (get_or t (length f) 0) line_feed)
 unfolding begins equal
@@ -116,17 +102,17 @@ module _ (s : List ℕ) (at : ℕ) (f : List ℕ) where
   pub named_end : true ≡ begins f (drop at s) → length f ≤ length s - at
   named_end h = omega (arith, begins_long f (drop at s) (sym h), length-drop at s)
 
-  pub named_past : true ≡ begins f (drop at s) → get_or s (at + length f) 0 ≡ line_feed → Past (at + length f + 1) ≡ named_here s at f
+  pub named_past : true ≡ begins f (drop at s) → get_or s (at + length f) 0 ≡ line_feed → Some (at + length f + 1) ≡ named_here s at f
   unfolding named_here
-  named_past h q = sym (rw (begins_line, ← h, eq-eqb (get_or s (at + length f) 0) line_feed q) (ap Past (omega arith)))
+  named_past h q = sym (rw (begins_line, ← h, eq-eqb (get_or s (at + length f) 0) line_feed q) (ap Some (omega arith)))
 
-  pub named_other : (get_or s (at + length f) 0 ≡ line_feed → ⊥) → Other ≡ named_here s at f
+  pub named_other : (get_or s (at + length f) 0 ≡ line_feed → ⊥) → None ≡ named_here s at f
   unfolding named_here
   named_other q = sym (rw (begins_line, ne_eqb (get_or s (at + length f) 0) line_feed q, and-false))
 
-  pub named_end_other : length s ≤ at + length f → Other ≡ named_here s at f
+  pub named_end_other : length s ≤ at + length f → None ≡ named_here s at f
   named_end_other l = named_other (λ q. no_feed_0 (sym (get_or-eq_default s 0 l) ∙ q))
 
-  pub named_none : false ≡ begins f (drop at s) → Other ≡ named_here s at f
+  pub named_none : false ≡ begins f (drop at s) → None ≡ named_here s at f
   unfolding named_here
   named_none h = sym (rw (begins_line, ← h))

@@ -1,9 +1,10 @@
 -- Tests and their cases: what a Boolean, or an equation of two numbers, can be, and what && and || say. Assumes
 -- nothing.
 use mathlib.Core.Path.{◌≡◌, refl, sym}
-use mathlib.Core.Bool.{Bool, true, false, ◌&&◌, ◌||◌, not}
+use mathlib.Core.Bool.{Bool, true, false, ◌&&◌, ◌||◌, not, cond}
 use mathlib.Core.Logic.{◌⊎◌, inl, inr}
 use Prim.Native.Nat.{ℕ}
+use Rattle.std.specs.Prelude.{Some, None}
 use native.Mathlib.Omega.{arith}
 use lib.Dec.{eqb}
 use borrow.Author.Tests.{eqb-true, eqb-false, ne_eqb}
@@ -69,3 +70,12 @@ refuted false t e q = refl
 pub upheld : (b t : Bool) → t ≡ false → t ≡ not b → b ≡ true
 upheld true t e q = refl
 upheld false t e q = clash t q e
+
+-- what an answer that is there only where a test holds tells of the test
+pub some_if : {A : Type 0} (t : Bool) {x y : A} → cond t (Some x) None ≡ Some y → (t ≡ true) × (x ≡ y)
+some_if true h = (refl, cc)
+some_if false h = (cc, cc)
+
+pub none_if : {A : Type 0} (t : Bool) (x : A) → cond t (Some x) None ≡ None → t ≡ false
+none_if true x h = cc
+none_if false x h = refl

@@ -1,17 +1,16 @@
 -- Laws of writing: a longer text by several writers one after the other, and what each writer's loop keeps. Assumes
 -- nothing.
 use mathlib.Core.Path.{◌≡◌, refl, sym, ap, ◌∙◌}
-use mathlib.Core.Bool.{Bool, true, false, not, cond}
+use mathlib.Core.Bool.{Bool, true, false, cond}
 use mathlib.Core.List.{List, [], ◌∷◌, ◌++◌, append_assoc}
 use mathlib.Core.Logic.{inl, inr}
 use Prim.Native.Nat.{ℕ, suc, ◌+◌, ◌-◌, ◌≤◌, ◌<◌}
 use native.Mathlib.Nat.{add-zero, zero-add}
-use native.Mathlib.Numerals.{add-one}
 use native.Mathlib.Omega.{arith}
 use lib.Dec.{leb}
-use lib.ListN.{length, get_or, set, take, drop, length-append, length-set}
-use lib.Seq.{append_snoc, drop-drop, length-take-le, take-length, take-suc, set_at, get_or-set_other, sets, sets-eq, length-sets, paste, paste-zero, paste-suc}
-use borrow.Author.Tests.{leb-true, leb-false, le-leb, lt-leb, not-true, not-false}
+use lib.ListN.{length, get_or, set, take, drop, length-append}
+use lib.Seq.{append_snoc, drop-drop, length-take-le, take-suc, set_at, get_or-set_other, sets, sets-eq, length-sets}
+use borrow.Author.Tests.{leb-true, leb-false, le-leb, lt-leb}
 use Rattle.std.specs.Prelude.{Option, Some, None}
 use Rattle.text.specs.declared.write.Writer.{Writer}
 use Rattle.text.specs.Writing.{put, end_after, granted, output_after, Writes, Reserves, Outside}
@@ -95,14 +94,14 @@ a_place e at k n t p q = rw (p, q) (refl, refl)
 pub none_reserved : (k : ℕ) (w : Writer) → w.end ≡ None → Reserves k w w None
 none_reserved k w p = let g = no_place w.end k (length w.output.now) p in record { place = g.0; end = g.1; output = refl }
 
-pub not_reserved : (k at : ℕ) (w v : Writer) (r : Bool) → w.end ≡ Some at → r ≡ leb (at + k) (length w.output.now) → not r ≡ true → v.end ≡ None → v.output.now ≡ w.output.now → Reserves k w v None
-not_reserved k at w v r p q t e o =
-    let g = a_place w.end at k (length w.output.now) false p (sym q ∙ not-true r t) in
+pub not_reserved : (k at : ℕ) (w v : Writer) → w.end ≡ Some at → false ≡ leb (at + k) (length w.output.now) → v.end ≡ None → v.output.now ≡ w.output.now → Reserves k w v None
+not_reserved k at w v p q e o =
+    let g = a_place w.end at k (length w.output.now) false p (sym q) in
     record { place = g.0; end = e ∙ g.1; output = o }
 
-pub is_reserved : (k at : ℕ) (w v : Writer) (r : Bool) → w.end ≡ Some at → r ≡ leb (at + k) (length w.output.now) → not r ≡ false → v.end ≡ Some (at + k) → v.output.now ≡ w.output.now → Reserves k w v (Some at)
-is_reserved k at w v r p q t e o =
-    let g = a_place w.end at k (length w.output.now) true p (sym q ∙ not-false r t) in
+pub is_reserved : (k at : ℕ) (w v : Writer) → w.end ≡ Some at → true ≡ leb (at + k) (length w.output.now) → v.end ≡ Some (at + k) → v.output.now ≡ w.output.now → Reserves k w v (Some at)
+is_reserved k at w v p q e o =
+    let g = a_place w.end at k (length w.output.now) true p (sym q) in
     record { place = g.0; end = e ∙ g.1; output = o }
 
 -- what a place tells: there is an end, and room behind it

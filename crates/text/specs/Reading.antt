@@ -1,26 +1,14 @@
 -- What the readers of src/read.rt answer at a place of a text, each by the lines and fields of specs/Lines.antt.
 -- Assumes nothing: these are definitions.
-use Rattle.std.specs.Prelude.{◌≡◌, Bool, ◌&&◌, ◌||◌, cond, List, [], ◌∷◌, ◌++◌, ℕ, zero, suc, ◌+◌, min, ltb, eqb, length, get_or, drop}
+use Rattle.std.specs.Prelude.{◌≡◌, Bool, ◌&&◌, ◌||◌, cond, List, [], ◌∷◌, ◌++◌, ℕ, zero, suc, ◌+◌, min, ltb, eqb, length, get_or, drop, map, Option, Some, None}
 use Rattle.std.specs.Borrow.{Bor}
 use Rattle.text.specs.Ascii.{line_feed, space}
 use Rattle.text.specs.Lines.{Line, lines, line_at, fields, field, begins}
 use Rattle.text.specs.Numbers.{most_digits, is_digit, is_number, value, has_minus, without_minus, is_signed, numbers_line, number_at}
-use Rattle.text.specs.declared.read.Number.{Number}
-use Rattle.text.specs.declared.read.Number.TheVariants.{Is, Not}
-use Rattle.text.specs.declared.read.Named.{Named}
-use Rattle.text.specs.declared.read.Named.TheVariants.{Past, Other}
-use Rattle.text.specs.declared.read.Row1.{Row1}
-use Rattle.text.specs.declared.read.Row1.TheVariants.{Read as Read1, Fault as Fault1}
-use Rattle.text.specs.declared.read.Row2.{Row2}
-use Rattle.text.specs.declared.read.Row2.TheVariants.{Read as Read2, Fault as Fault2}
-use Rattle.text.specs.declared.read.Row3.{Row3}
-use Rattle.text.specs.declared.read.Row3.TheVariants.{Read as Read3, Fault as Fault3}
-use Rattle.text.specs.declared.read.Row5.{Row5}
-use Rattle.text.specs.declared.read.Row5.TheVariants.{Read as Read5, Fault as Fault5}
+use Rattle.text.specs.declared.read.Row.{Row}
 use Rattle.text.specs.declared.read.Signed.{Signed}
-use Rattle.text.specs.declared.read.Signed.TheVariants.{Read as ReadSigned, Fault as FaultSigned}
+use Rattle.text.specs.declared.read.Signed.TheVariants.{Plus, Minus}
 use Rattle.text.specs.declared.read.SignedRow.{SignedRow}
-use Rattle.text.specs.declared.read.SignedRow.TheVariants.{Read as ReadRow, Fault as FaultRow}
 
 -- LINES AND FIELDS: the line that starts at a place; past the text's end an open one without bytes
 abbrev pub line_here : (text : List ℕ) → (at : ℕ) → Line
@@ -46,44 +34,45 @@ pub record Part (text : Bor (List ℕ)) (at : ℕ) (part : Bor (List ℕ)) : Typ
   pub block : part.ref_ptr.0 ≡ text.ref_ptr.0
   pub offset : part.ref_ptr.1 ≡ min at (length text.now) + text.ref_ptr.1
 
--- whether the line at a place is this one, and the place past it
-unfoldable pub named_here : (text : List ℕ) → (at : ℕ) → (names : List ℕ) → Named
-named_here s at names = cond (begins (names ++ line_feed ∷ []) (drop at s)) (Past (at + suc (length names))) Other
+-- the place past the line at a place, if it is this one
+unfoldable pub named_here : (text : List ℕ) → (at : ℕ) → (names : List ℕ) → Option ℕ
+named_here s at names = cond (begins (names ++ line_feed ∷ []) (drop at s)) (Some (at + suc (length names))) None
 
 -- NUMBERS: a part of a text as a number
-unfoldable pub number_in : (part : List ℕ) → Number
-number_in w = cond (is_number w) (Is (value w)) Not
+unfoldable pub number_in : (part : List ℕ) → Option ℕ
+number_in w = cond (is_number w) (Some (value w)) None
+
+-- a number, and the place past it
+abbrev pub one_number : (v next : ℕ) → Row 1
+one_number v z = record { numbers = v ∷ []; next = z }
 
 -- the number in the first field of a longer line, and the place past its space
-unfoldable pub leading_here : (text : List ℕ) → (at : ℕ) → Row1
+unfoldable pub leading_here : (text : List ℕ) → (at : ℕ) → Option (Row 1)
 leading_here s at =
     cond (is_number (field_here s at) && ltb 1 (length (fields (line_here s at).text)))
-    (Read1 (value (field_here s at)) (at + suc (length (field_here s at)))) Fault1
+    (Some (one_number (value (field_here s at)) (at + suc (length (field_here s at))))) None
 
--- ROWS: the line at a place as a row of so many numbers, and the place past it
-unfoldable pub row1_here : (text : List ℕ) → (at : ℕ) → Row1
-row1_here s at = let l = line_here s at in cond (numbers_line 1 l) (Read1 (number_at l 0) (past_line s at)) Fault1
+-- ROWS: the values of a line's fields
+abbrev pub values : Line → List ℕ
+values l = map value (fields l.text)
 
-unfoldable pub row2_here : (text : List ℕ) → (at : ℕ) → Row2
-row2_here s at = let l = line_here s at in cond (numbers_line 2 l) (Read2 (number_at l 0) (number_at l 1) (past_line s at)) Fault2
-
-unfoldable pub row3_here : (text : List ℕ) → (at : ℕ) → Row3
-row3_here s at = let l = line_here s at in cond (numbers_line 3 l) (Read3 (number_at l 0) (number_at l 1) (number_at l 2) (past_line s at)) Fault3
-
-unfoldable pub row5_here : (text : List ℕ) → (at : ℕ) → Row5
-row5_here s at =
-    let l = line_here s at in
-    cond (numbers_line 5 l) (Read5 (number_at l 0) (number_at l 1) (number_at l 2) (number_at l 3) (number_at l 4) (past_line s at)) Fault5
+-- the line at a place as a row of so many numbers, and the place past it
+unfoldable pub row_here : (many : ℕ) → (text : List ℕ) → (at : ℕ) → Option (Row many)
+row_here k s at = let l = line_here s at in cond (numbers_line k l) (Some (record { numbers = values l; next = past_line s at })) None
 
 -- a closed line of a number and a signed number
 unfoldable pub signed_line : Line → Bool
 signed_line l = (l.closed && eqb (length (fields l.text)) 2) && (is_number (field l 0) && is_signed (field l 1))
 
--- the line at a place as such a row: the number, the sign, the signed number without it, and the place past the line
-unfoldable pub signed_row_here : (text : List ℕ) → (at : ℕ) → SignedRow
+-- a signed number, by its sign and the number that follows it
+unfoldable pub signed_number : (field : List ℕ) → Signed
+signed_number w = cond (has_minus w) (Minus (value (without_minus w))) (Plus (value (without_minus w)))
+
+-- the line at a place as such a row, and the place past it
+unfoldable pub signed_row_here : (text : List ℕ) → (at : ℕ) → Option SignedRow
 signed_row_here s at =
     let l = line_here s at in
-    cond (signed_line l) (ReadRow (number_at l 0) (has_minus (field l 1)) (value (without_minus (field l 1))) (past_line s at)) FaultRow
+    cond (signed_line l) (Some (record { number = number_at l 0; signed = signed_number (field l 1); next = past_line s at })) None
 
 -- STEPS of the readers: whether a byte ends a field
 abbrev pub is_separator : ℕ → Bool
@@ -104,18 +93,17 @@ pub record DigitsRead (text : List ℕ) (at e v : ℕ) : Type 0 where
   pub worth : value (run_here text at) ≡ v
 
 -- the number that they are, and where they end
-unfoldable pub digits_here : (text : List ℕ) → (at : ℕ) → Row1
-digits_here s at = cond (is_number (run_here s at)) (Read1 (value (run_here s at)) (at + length (run_here s at))) Fault1
+unfoldable pub digits_here : (text : List ℕ) → (at : ℕ) → Option (Row 1)
+digits_here s at = cond (is_number (run_here s at)) (Some (one_number (value (run_here s at)) (at + length (run_here s at)))) None
 
 -- the field at a place as a number, where `stop` follows it, and the place past `stop`
-unfoldable pub number_before : (text : List ℕ) → (at stop : ℕ) → Row1
+unfoldable pub number_before : (text : List ℕ) → (at stop : ℕ) → Option (Row 1)
 number_before s at stop =
     cond (is_number (field_here s at) && eqb (get_or s (at + length (field_here s at)) 0) stop)
-    (Read1 (value (field_here s at)) (at + suc (length (field_here s at)))) Fault1
+    (Some (one_number (value (field_here s at)) (at + suc (length (field_here s at))))) None
 
 -- the line at a place as a row of one signed number
-unfoldable pub signed_last : (text : List ℕ) → (at : ℕ) → Signed
+unfoldable pub signed_last : (text : List ℕ) → (at : ℕ) → Option (Signed × ℕ)
 signed_last s at =
     let l = line_here s at in
-    cond ((l.closed && eqb (length (fields l.text)) 1) && is_signed (field l 0))
-    (ReadSigned (has_minus (field l 0)) (value (without_minus (field l 0))) (past_line s at)) FaultSigned
+    cond ((l.closed && eqb (length (fields l.text)) 1) && is_signed (field l 0)) (Some (signed_number (field l 0), past_line s at)) None

@@ -22,6 +22,14 @@ pub record Writes (bs : List ℕ) (w v : Writer) : Type 0 where
   pub end : v.end ≡ end_after w.end (length bs) (length w.output.now)
   pub output : v.output.now ≡ output_after w.end bs w.output.now
 
+-- what is written; nothing where something had no room
+unfoldable pub front : (end : Option ℕ) → (output : List ℕ) → List ℕ
+front None o = []
+front (Some n) o = cond (leb n (length o)) (take n o) []
+
+abbrev pub written : Writer → List ℕ
+written w = front w.end w.output.now
+
 -- what a caller with room uses of it
 pub record Puts (bs : List ℕ) (w v : Writer) : Type 0 where
   pub fits : (at : ℕ) → w.end ≡ Some at → at + length bs ≤ length w.output.now → (v.end ≡ Some (at + length bs)) × (v.output.now ≡ put at bs w.output.now)

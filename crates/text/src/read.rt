@@ -1,19 +1,17 @@
 // Readers of a text at a place: lines, fields, rows of numbers. Each reads where it stands, once, and answers at any
 // place, past the text's end too.
-ghost use Rattle.std.specs.Prelude.{◌≡◌, true, ◌+◌, min, length, drop};
+ghost use Rattle.std.specs.Prelude.{◌≡◌, true, ◌+◌, length, drop};
 ghost use Rattle.text.specs.Lines.{equal, begins};
-ghost use Rattle.text.specs.Numbers.{is_digit, most_digits, has_minus};
-ghost use Rattle.text.specs.Reading.{past_line, skip, field_here, Part, is_separator, DigitsRead, number_in, named_here, digits_here, number_before, leading_here, row1_here, row2_here, row3_here, row5_here, signed_last, signed_row_here};
+ghost use Rattle.text.specs.Numbers.{has_minus};
+ghost use Rattle.text.specs.Reading.{past_line, skip, field_here, Part, is_separator, DigitsRead, number_in, named_here, digits_here, number_before, leading_here, row_here, signed_last, signed_row_here};
 
-const LINE_FEED: u8 = 10;
+const LINE_FEED: u8 = b'\n';
 
-const SPACE: u8 = 32;
+const SPACE: u8 = b' ';
 
-const MINUS: u8 = 45;
+const MINUS: u8 = b'-';
 
-const DIGIT_0: u8 = 48;
-
-const DIGIT_9: u8 = 57;
+const DIGIT_0: u8 = b'0';
 
 const MOST_DIGITS: usize = 9;
 
@@ -21,14 +19,12 @@ const MOST_DIGITS: usize = 9;
 pub fn next_line(text: &[u8], at: usize) -> usize
     ensures { result ≡ past_line text.now at }
 {
-    let mut e = at;
-    while e < text.len() {
+    for e in at..text.len() {
         if text[e] == LINE_FEED {
             return e + 1;
         }
-        e += 1;
     }
-    e
+    at.max(text.len())
 }
 
 // The place past the three lines that case file, answer and chart begin with: names, values, names.
@@ -44,24 +40,19 @@ pub fn past_head(text: &[u8]) -> usize
 fn separates(b: u8) -> bool
     ensures { result ≡ is_separator b }
 {
-    if b == SPACE {
-        return true;
-    }
-    b == LINE_FEED
+    b == SPACE || b == LINE_FEED
 }
 
 // Where the field at `at` ends: at a space, a line feed or the text's end.
 fn field_end(text: &[u8], at: usize) -> usize
     ensures { result ≡ at + length (field_here text.now at) }
 {
-    let mut e = at;
-    while e < text.len() {
+    for e in at..text.len() {
         if separates(text[e]) {
             return e;
         }
-        e += 1;
     }
-    e
+    at.max(text.len())
 }
 
 // The field at `at`: that very part of the text.
@@ -76,287 +67,182 @@ pub fn field(text: &[u8], at: usize) -> &[u8]
     &text[at..e]
 }
 
-// A number and the place past it; or none is there.
-#[derive(Clone, Copy)]
-pub enum Row1 {
-    Read(u32, usize),
-    Fault,
+// Numbers that were read, and the place past them.
+#[derive(Clone, Copy, Debug, PartialEq, Eq)]
+pub struct Row<const N: usize> {
+    pub numbers: [u32; N],
+    pub next: usize,
 }
 
-// Whether a byte is a digit.
-fn digit(b: u8) -> bool
-    ensures { result ≡ is_digit b }
-{
-    if b < DIGIT_0 {
-        return false;
-    }
-    b <= DIGIT_9
-}
-
-// How far the digits of a number at `at` may reach in a text of `n` bytes.
-fn reach(n: usize, at: usize) -> usize
-    ensures { result ≡ min (at + most_digits) n }
-{
-    if n <= at {
-        return n;
-    }
-    if n - at < MOST_DIGITS {
-        return n;
-    }
-    at + MOST_DIGITS
-}
-
-// What the digits from `at` to `e`, of the value `v`, say: none at all is a fault, and so is a leading zero.
-fn whole(text: &[u8], at: usize, e: usize, v: u32) -> Row1
+// What the digits from `at` to `e`, of the value `v`, say: none at all are no number, nor are several after a zero.
+fn whole(text: &[u8], at: usize, e: usize, v: u32) -> Option<Row<1>>
     requires { DigitsRead text.now at e v }
     ensures { result ≡ digits_here text.now at }
 {
     if e == at {
-        return Row1::Fault;
+        return None;
     }
     if e - at == 1 {
-        return Row1::Read(v, e);
+        return Some(Row {
+            numbers: [v],
+            next: e,
+        });
     }
     if text[at] == DIGIT_0 {
-        return Row1::Fault;
+        return None;
     }
-    Row1::Read(v, e)
+    Some(Row {
+        numbers: [v],
+        next: e,
+    })
 }
 
 // The number that the digits at `at` are, nine at most, and the place where they end, whatever follows.
-fn digits_at(text: &[u8], at: usize) -> Row1
+fn digits_at(text: &[u8], at: usize) -> Option<Row<1>>
     ensures { result ≡ digits_here text.now at }
 {
-    let last = reach(text.len(), at);
+    let last = at.saturating_add(MOST_DIGITS).min(text.len());
     let mut v: u32 = 0;
-    let mut e = at;
-    while e < last {
+    for e in at..last {
         let b = text[e];
-        if digit(b) {
-            v = 10 * v + (b - DIGIT_0) as u32;
-            e += 1;
-        } else {
+        if !b.is_ascii_digit() {
             return whole(text, at, e, v);
         }
+        v = 10 * v + u32::from(b - DIGIT_0);
     }
-    whole(text, at, e, v)
-}
-
-// A number, or none.
-#[derive(Clone, Copy)]
-pub enum Number {
-    Is(u32),
-    Not,
+    whole(text, at, at.max(last), v)
 }
 
 // A whole part of a text as a number.
-pub fn number_in(part: &[u8]) -> Number
+pub fn number_in(part: &[u8]) -> Option<u32>
     ensures { result ≡ number_in part.now }
 {
-    let Row1::Read(v, e) = digits_at(part, 0) else {
-        return Number::Not;
-    };
-    if e < part.len() {
-        return Number::Not;
+    let row = digits_at(part, 0)?;
+    if row.next < part.len() {
+        return None;
     }
-    Number::Is(v)
+    let [v] = row.numbers;
+    Some(v)
 }
 
 // Whether `front` stands at `at`.
 pub fn begins_at(text: &[u8], at: usize, front: &[u8]) -> bool
     ensures { result ≡ begins front.now (drop at text.now) }
 {
-    let mut e = at;
-    let mut i: usize = 0;
-    while i < front.len() {
-        if text.len() <= e {
-            return false;
-        }
-        if text[e] != front[i] {
-            return false;
-        }
-        e += 1;
-        i += 1;
-    }
-    true
+    text[at.min(text.len())..].starts_with(front)
 }
 
 // Whether two texts are the same.
 pub fn same(a: &[u8], b: &[u8]) -> bool
     ensures { result ≡ equal a.now b.now }
 {
-    if a.len() != b.len() {
-        return false;
-    }
-    begins_at(a, 0, b)
+    a == b
 }
 
-// The place past a line that is as asked for; or it is another.
-#[derive(Clone, Copy)]
-pub enum Named {
-    Past(usize),
-    Other,
-}
-
-// Whether the line at `at` is `names`, and the place past it.
-pub fn name_line(text: &[u8], at: usize, names: &[u8]) -> Named
+// The place past the line at `at`, if that is `names`.
+pub fn name_line(text: &[u8], at: usize, names: &[u8]) -> Option<usize>
     ensures { result ≡ named_here text.now at names.now }
 {
-    if begins_at(text, at, names) {
-        let e = at + names.len();
-        if e < text.len() {
-            if text[e] == LINE_FEED {
-                return Named::Past(e + 1);
-            }
-        }
+    if !begins_at(text, at, names) {
+        return None;
     }
-    Named::Other
+    let e = at + names.len();
+    if e < text.len() && text[e] == LINE_FEED {
+        return Some(e + 1);
+    }
+    None
 }
 
 // The number at `at`, where `stop`, a space or a line feed, ends it, and the place past `stop`.
-fn number_before(text: &[u8], at: usize, stop: u8) -> Row1
+fn number_before(text: &[u8], at: usize, stop: u8) -> Option<Row<1>>
     requires { is_separator stop ≡ true }
     ensures { result ≡ number_before text.now at stop }
 {
-    let Row1::Read(v, e) = digits_at(text, at) else {
-        return Row1::Fault;
-    };
-    if text.len() <= e {
-        return Row1::Fault;
+    let row = digits_at(text, at)?;
+    let end = row.next;
+    if end < text.len() && text[end] == stop {
+        let [v] = row.numbers;
+        return Some(Row {
+            numbers: [v],
+            next: end + 1,
+        });
     }
-    if text[e] == stop {
-        return Row1::Read(v, e + 1);
-    }
-    Row1::Fault
+    None
 }
 
 // The number in the first field of a longer line, and the place past its space.
-pub fn leading_number(text: &[u8], at: usize) -> Row1
+pub fn leading_number(text: &[u8], at: usize) -> Option<Row<1>>
     ensures { result ≡ leading_here text.now at }
 {
     number_before(text, at, SPACE)
 }
 
-// A row of one number, and the place past the line.
-pub fn row_of_1(text: &[u8], at: usize) -> Row1
-    ensures { result ≡ row1_here text.now at }
+// The numbers of a line of so many, and the place past the line.
+pub fn numbers_row<const N: usize>(text: &[u8], at: usize) -> Option<Row<N>>
+    ensures { result ≡ row_here N text.now at }
 {
-    number_before(text, at, LINE_FEED)
-}
-
-#[derive(Clone, Copy)]
-pub enum Row2 {
-    Read(u32, u32, usize),
-    Fault,
-}
-
-// A row of two numbers, and the place past the line.
-pub fn row_of_2(text: &[u8], at: usize) -> Row2
-    ensures { result ≡ row2_here text.now at }
-{
-    let Row1::Read(a, p) = number_before(text, at, SPACE) else {
-        return Row2::Fault;
-    };
-    let Row1::Read(b, z) = row_of_1(text, p) else {
-        return Row2::Fault;
-    };
-    Row2::Read(a, b, z)
-}
-
-#[derive(Clone, Copy)]
-pub enum Row3 {
-    Read(u32, u32, u32, usize),
-    Fault,
-}
-
-// A row of three numbers, and the place past the line. Not over `row_of_2`: with one caller left, the loop over edge lines,
-// that is inlined there.
-pub fn row_of_3(text: &[u8], at: usize) -> Row3
-    ensures { result ≡ row3_here text.now at }
-{
-    let Row1::Read(a, p) = number_before(text, at, SPACE) else {
-        return Row3::Fault;
-    };
-    let Row1::Read(b, q) = number_before(text, p, SPACE) else {
-        return Row3::Fault;
-    };
-    let Row1::Read(c, z) = row_of_1(text, q) else {
-        return Row3::Fault;
-    };
-    Row3::Read(a, b, c, z)
-}
-
-#[derive(Clone, Copy)]
-pub enum Row5 {
-    Read(u32, u32, u32, u32, u32, usize),
-    Fault,
-}
-
-// A row of five numbers, and the place past the line.
-pub fn row_of_5(text: &[u8], at: usize) -> Row5
-    ensures { result ≡ row5_here text.now at }
-{
-    let Row1::Read(a, p) = number_before(text, at, SPACE) else {
-        return Row5::Fault;
-    };
-    let Row1::Read(b, q) = number_before(text, p, SPACE) else {
-        return Row5::Fault;
-    };
-    let Row3::Read(c, d, e, z) = row_of_3(text, q) else {
-        return Row5::Fault;
-    };
-    Row5::Read(a, b, c, d, e, z)
+    let last = N.checked_sub(1)?;
+    let mut numbers = [0; N];
+    let mut here = at;
+    for i in 0..last {
+        let row = number_before(text, here, SPACE)?;
+        let [v] = row.numbers;
+        numbers[i] = v;
+        here = row.next;
+    }
+    let row = number_before(text, here, LINE_FEED)?;
+    let [v] = row.numbers;
+    numbers[last] = v;
+    let next = row.next;
+    Some(Row { numbers, next })
 }
 
 // Whether the field at `at` begins with a minus sign.
 fn minus_at(text: &[u8], at: usize) -> bool
     ensures { result ≡ has_minus (field_here text.now at) }
 {
-    if at < text.len() {
-        return text[at] == MINUS;
-    }
-    false
+    at < text.len() && text[at] == MINUS
 }
 
-// A minus sign or none, a number, and the place past the line.
-#[derive(Clone, Copy)]
-enum Signed {
-    Read(bool, u32, usize),
-    Fault,
+// A number after a minus sign, or without one.
+#[derive(Clone, Copy, Debug, PartialEq, Eq)]
+pub enum Signed {
+    Plus(u32),
+    Minus(u32),
+}
+
+// A number and a signed one, and the place past their line.
+#[derive(Clone, Copy, Debug, PartialEq, Eq)]
+pub struct SignedRow {
+    pub number: u32,
+    pub signed: Signed,
+    pub next: usize,
 }
 
 // A row of one number, perhaps after a minus sign.
-fn signed_last(text: &[u8], at: usize) -> Signed
+fn signed_last(text: &[u8], at: usize) -> Option<(Signed, usize)>
     ensures { result ≡ signed_last text.now at }
 {
     if minus_at(text, at) {
-        let Row1::Read(v, z) = row_of_1(text, at + 1) else {
-            return Signed::Fault;
-        };
-        return Signed::Read(true, v, z);
+        let row = numbers_row::<1>(text, at + 1)?;
+        let [v] = row.numbers;
+        return Some((Signed::Minus(v), row.next));
     }
-    let Row1::Read(v, z) = row_of_1(text, at) else {
-        return Signed::Fault;
-    };
-    Signed::Read(false, v, z)
+    let row = numbers_row::<1>(text, at)?;
+    let [v] = row.numbers;
+    Some((Signed::Plus(v), row.next))
 }
 
-#[derive(Clone, Copy)]
-pub enum SignedRow {
-    Read(u32, bool, u32, usize),
-    Fault,
-}
-
-// A row of a number and a signed one: the number, whether there is a minus sign, what follows the sign, and the place
-// past the line.
-pub fn signed_row(text: &[u8], at: usize) -> SignedRow
+// A row of a number and a signed one, and the place past the line.
+pub fn signed_row(text: &[u8], at: usize) -> Option<SignedRow>
     ensures { result ≡ signed_row_here text.now at }
 {
-    let Row1::Read(a, p) = number_before(text, at, SPACE) else {
-        return SignedRow::Fault;
-    };
-    let Signed::Read(minus, v, z) = signed_last(text, p) else {
-        return SignedRow::Fault;
-    };
-    SignedRow::Read(a, minus, v, z)
+    let row = number_before(text, at, SPACE)?;
+    let [number] = row.numbers;
+    let (signed, next) = signed_last(text, row.next)?;
+    Some(SignedRow {
+        number,
+        signed,
+        next,
+    })
 }

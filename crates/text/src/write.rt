@@ -1,7 +1,7 @@
 // A writer of bytes and decimals into a lent output: what has room goes straight into its place.
 ghost use Rattle.std.specs.Prelude.{◌≡◌, [], ◌∷◌, ◌+◌, ◌≤◌, leb, length, Some};
 ghost use Rattle.text.specs.Numbers.{decimal, signed_decimal, Width};
-ghost use Rattle.text.specs.Writing.{put, Reserves, Writes, Chain};
+ghost use Rattle.text.specs.Writing.{put, written, Reserves, Writes, Chain};
 
 // Whether so many bytes from `at` on end within the length.
 fn room(len: usize, at: usize, size: usize) -> bool
@@ -36,6 +36,19 @@ impl<'a> Writer<'a> {
             output,
             end: Some(0),
         }
+    }
+
+    // What is written; nothing where something had no room.
+    pub fn written(&self) -> &[u8]
+        ensures { result.now ≡ written self.now }
+    {
+        let Some(end) = self.end else {
+            return &[];
+        };
+        if self.output.len() < end {
+            return &[];
+        }
+        &self.output[..end]
     }
 
     // The place of so many bytes, if they have room.
@@ -119,7 +132,7 @@ fn width(v: u32) -> usize
     let mut w = v;
     let mut n: usize = 1;
     while 9 < w {
-        w = w / 10;
+        w /= 10;
         n += 1;
     }
     n
@@ -134,6 +147,6 @@ fn write_digits(output: &mut [u8], at: usize, size: usize, v: u32)
     let mut w = v;
     for i in (at..at + size).rev() {
         output[i] = b'0' + (w % 10) as u8;
-        w = w / 10;
+        w /= 10;
     }
 }

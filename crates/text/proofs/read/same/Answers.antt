@@ -1,10 +1,7 @@
--- `read::same` meets its contract: of one length, the one begins the other. Assumes nothing.
-use mathlib.Core.Path.{sym, ◌∙◌}
-use Rattle.text.proofs.Lines.{equal_long, begins_whole}
+-- `read::same` meets its contract. Assumes nothing.
+use mathlib.Core.Path.{◌∙◌}
+use Rattle.text.proofs.Lines.{pointwise_equal}
 use Rattle.text.proofs.read.same.Goals as goal
 
-pub returns-then-a-b : goal.returns-then-a-b
-returns-then-a-b c = sym (equal_long _ _ c.if-a-b.true)
-
 pub returns : goal.returns
-returns c = c.begins_at.ensures ∙ begins_whole _ _ c.if-a-b.false
+returns c = c.eq.ensures ∙ pointwise_equal _ _

@@ -1,6 +1,4 @@
 -- `copy_to` meets its contract.
-use mathlib.Core.Path.{refl}
-use Rattle.text.specs.Writing.{put}
 use Rattle.text.proofs.Writing.{mid_put}
 use Rattle.text.proofs.write.copy_to.Goals as goal
 
