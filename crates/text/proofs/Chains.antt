@@ -1,105 +1,97 @@
--- Writers one after the other: those that have room, and a chain that perhaps has none. Assumes nothing.
+-- Writes one after the other: those that have room, and a chain that perhaps has none. Assumes nothing.
 use mathlib.Core.Path.{◌≡◌, refl, sym, ap, ◌∙◌}
-use mathlib.Core.Bool.{Bool, true, false, cond}
 use mathlib.Core.List.{List, [], ◌∷◌, ◌++◌, flatten}
 use Prim.Native.Nat.{ℕ, ◌+◌, ◌≤◌}
 use native.Mathlib.Nat.{add-zero}
 use native.Mathlib.Omega.{arith}
-use lib.Dec.{leb}
 use lib.ListN.{length, length-append}
-use borrow.Author.Tests.{leb-true, leb-false, le-leb}
+use borrow.Author.Tests.{le-leb}
+use Rattle.std.specs.Prelude.{Option, Some}
 use Rattle.text.specs.Numbers.{decimal}
-use Rattle.text.specs.Writing.{put, no_room, Writes, Puts, place_after, output_after, chain_place, chain_output, Chain}
+use Rattle.text.specs.declared.write.Writer.{Writer}
+use Rattle.text.specs.Writing.{put, end_after, output_after, Writes, Puts, chain_end, chain_output, Chain}
 use Rattle.text.proofs.Writing.{put_none, put_append, length_put}
 
 -- WITH ROOM
-pub puts : {at : ℕ} {bs : List ℕ} {r : ℕ} {o z : List ℕ} → Writes at bs r o z → Puts at bs r o z
-puts w = record { fits = w.fits }
+pub puts : {bs : List ℕ} {w v : Writer} → Writes bs w v → Puts bs w v
+unfolding end_after output_after
+puts {bs} {w} {v} p = record { fits = λ at e h. let t = le-leb (at + length bs) (length w.output.now) h in (p.end ∙ rw (e, t) refl, p.output ∙ rw (e, t) refl) }
 
-pub puts_none : (at : ℕ) (o : List ℕ) → Puts at [] at o o
-puts_none at o = record { fits = λ h. (sym (add-zero at), sym (put_none at o (omega arith))) }
+pub puts_none : (w : Writer) → Puts [] w w
+puts_none w = record { fits = λ at e h. (e ∙ rw (add-zero at) refl, sym (put_none at w.output.now (omega arith))) }
 
-pub puts_then : {at : ℕ} {bs cs : List ℕ} {r s : ℕ} {o y z : List ℕ} → Puts at bs r o y → Puts r cs s y z → Puts at (bs ++ cs) s o z
-puts_then {at} {bs} {cs} {r} {s} {o} {y} {z} p q = record { fits = λ h. go h (omega (arith, length-append bs cs)) }
+pub puts_then : {bs cs : List ℕ} {w v u : Writer} → Puts bs w v → Puts cs v u → Puts (bs ++ cs) w u
+puts_then {bs} {cs} {w} {v} {u} p q = record { fits = λ at e h. go at e h (omega (arith, length-append bs cs)) }
   where
-    go : at + length (bs ++ cs) ≤ length o → at + length bs + length cs ≤ length o → (s ≡ at + length (bs ++ cs)) × (z ≡ put at (bs ++ cs) o)
-    go h k =
-        let f = p.fits (omega arith) in
-        let g = q.fits (omega (arith, f.0, ap length f.1, length_put at bs o (omega arith))) in
-        (omega (arith, f.0, g.0, length-append bs cs), g.1 ∙ rw (f.1, f.0) (sym (put_append at bs cs o h)))
+    go : (at : ℕ) → w.end ≡ Some at → at + length (bs ++ cs) ≤ length w.output.now → at + length bs + length cs ≤ length w.output.now
+        → (u.end ≡ Some (at + length (bs ++ cs))) × (u.output.now ≡ put at (bs ++ cs) w.output.now)
+    go at e h k =
+        let f = p.fits at e (omega arith) in
+        let g = q.fits (at + length bs) f.0 (omega (arith, ap length f.1, length_put at bs w.output.now (omega arith))) in
+        let s : at + length bs + length cs ≡ at + length (bs ++ cs) = omega (arith, length-append bs cs) in
+        (g.0 ∙ ap Some s, g.1 ∙ rw f.1 (sym (put_append at bs cs w.output.now h)))
 
-pub puts_as : {at : ℕ} {bs cs : List ℕ} {r : ℕ} {o z : List ℕ} → bs ≡ cs → Puts at bs r o z → Puts at cs r o z
+pub puts_as : {bs cs : List ℕ} {w v : Writer} → bs ≡ cs → Puts bs w v → Puts cs w v
 puts_as e p = rw (← e) p
 
--- WHAT IS STILL TO PUT, in a loop of writers: whoever puts the rest here has put the whole
-pub record Still (at : ℕ) (all : List ℕ) (here : ℕ) (rest : List ℕ) (o z : List ℕ) : Type 0 where
-  pub kept : length z ≡ length o
-  pub whole : (r : ℕ) (y : List ℕ) → Puts here rest r z y → Puts at all r o y
+-- WHAT IS STILL TO PUT, in a loop of writes: whoever puts the rest here has put the whole
+pub record Still (all : List ℕ) (w : Writer) (rest : List ℕ) (v : Writer) : Type 0 where
+  pub whole : (u : Writer) → Puts rest v u → Puts all w u
 
-pub still_start : (at : ℕ) (all o : List ℕ) → Still at all at all o o
-still_start at all o = record { kept = refl; whole = λ r y p. p }
+pub still_start : (all : List ℕ) (w : Writer) → Still all w all w
+still_start all w = record { whole = λ u p. p }
 
-pub still_step : {at : ℕ} {all : List ℕ} {here : ℕ} {rest : List ℕ} {o z : List ℕ} {bs more : List ℕ} {q : ℕ} {y : List ℕ}
-    → Still at all here rest o z → rest ≡ bs ++ more → Puts here bs q z y → length y ≡ length z → Still at all q more o y
-still_step l e p k = record { kept = k ∙ l.kept; whole = λ r x t. l.whole r x (puts_as (sym e) (puts_then p t)) }
+pub still_step : {all : List ℕ} {w : Writer} {rest : List ℕ} {v : Writer} {bs more : List ℕ} {u : Writer} → Still all w rest v → rest ≡ bs ++ more → Puts bs v u → Still all w more u
+still_step l e p = record { whole = λ u t. l.whole u (puts_as (sym e) (puts_then p t)) }
 
-pub still_end : {at : ℕ} {all : List ℕ} {here : ℕ} {rest : List ℕ} {o z : List ℕ} → Still at all here rest o z → rest ≡ [] → Puts at all here o z
-still_end {here = here} {z = z} l e = l.whole here z (puts_as (sym e) (puts_none here z))
+pub still_end : {all : List ℕ} {w : Writer} {rest : List ℕ} {v : Writer} → Still all w rest v → rest ≡ [] → Puts all w v
+still_end {v = v} l e = l.whole v (puts_as (sym e) (puts_none v))
 
--- A CHAIN of writers: one more in front
-pub chain_none : (at : ℕ) (o : List ℕ) → Chain [] at at o o
-unfolding chain_place chain_output
-chain_none at o = record { place = refl; output = refl }
+-- A CHAIN of writes: one more in front
+pub chain_none : (w : Writer) → Chain [] w w
+unfolding chain_end chain_output
+chain_none w = record { end = refl; output = refl }
 
-writes_after : {at : ℕ} {p : List ℕ} {r : ℕ} {o z : List ℕ} → Writes at p r o z → (r ≡ place_after at p o) × (z ≡ output_after at p o)
-unfolding place_after output_after
-writes_after {at} {p} {r} {o} {z} w = go (leb (at + length p) (length o)) refl
-  where
-    go : (t : Bool) → leb (at + length p) (length o) ≡ t → (r ≡ cond t (at + length p) no_room) × (z ≡ cond t (put at p o) o)
-    go true e = w.fits (leb-true (at + length p) (length o) e)
-    go false e = w.full (leb-false (at + length p) (length o) e)
+pub chain_more : {p : List ℕ} {ps : List (List ℕ)} {w v u : Writer} → Writes p w v → Chain ps v u → Chain (p ∷ ps) w u
+unfolding chain_end chain_output
+chain_more {p} {ps} {w} {v} {u} f c = record { end = rw (← f.end, ← f.output) c.end; output = rw (← f.end, ← f.output) c.output }
 
-pub chain_more : {at : ℕ} {p : List ℕ} {ps : List (List ℕ)} {q r : ℕ} {o y z : List ℕ} → Writes at p q o y → Chain ps q r y z → Chain (p ∷ ps) at r o z
-unfolding chain_place chain_output
-chain_more {at} {p} {ps} {q} {r} {o} {y} {z} w c =
-    let f = writes_after w in
-    record { place = rw (← f.0, ← f.1) c.place; output = rw (← f.0, ← f.1) c.output }
-
-pub chain_last : {at : ℕ} {p : List ℕ} {r : ℕ} {o z : List ℕ} → Writes at p r o z → Chain (p ∷ []) at r o z
-chain_last {r = r} {z = z} w = chain_more w (chain_none r z)
+pub chain_last : {p : List ℕ} {w v : Writer} → Writes p w v → Chain (p ∷ []) w v
+chain_last {v = v} f = chain_more f (chain_none v)
 
 -- one chain behind another
-place_then : (ps qs : List (List ℕ)) (at : ℕ) (o : List ℕ) → chain_place (ps ++ qs) at o ≡ chain_place qs (chain_place ps at o) (chain_output ps at o)
-unfolding chain_place chain_output
-place_then [] qs at o = refl
-place_then (p ∷ ps) qs at o = place_then ps qs (place_after at p o) (output_after at p o)
+end_then : (ps qs : List (List ℕ)) (e : Option ℕ) (o : List ℕ) → chain_end (ps ++ qs) e o ≡ chain_end qs (chain_end ps e o) (chain_output ps e o)
+unfolding chain_end chain_output
+end_then [] qs e o = refl
+end_then (p ∷ ps) qs e o = end_then ps qs (end_after e (length p) (length o)) (output_after e p o)
 
-output_then : (ps qs : List (List ℕ)) (at : ℕ) (o : List ℕ) → chain_output (ps ++ qs) at o ≡ chain_output qs (chain_place ps at o) (chain_output ps at o)
-unfolding chain_place chain_output
-output_then [] qs at o = refl
-output_then (p ∷ ps) qs at o = output_then ps qs (place_after at p o) (output_after at p o)
+output_then : (ps qs : List (List ℕ)) (e : Option ℕ) (o : List ℕ) → chain_output (ps ++ qs) e o ≡ chain_output qs (chain_end ps e o) (chain_output ps e o)
+unfolding chain_end chain_output
+output_then [] qs e o = refl
+output_then (p ∷ ps) qs e o = output_then ps qs (end_after e (length p) (length o)) (output_after e p o)
 
-pub chain_then : {ps qs : List (List ℕ)} {at q r : ℕ} {o y z : List ℕ} → Chain ps at q o y → Chain qs q r y z → Chain (ps ++ qs) at r o z
-chain_then {ps} {qs} {at} {q} {r} {o} {y} {z} c d =
+pub chain_then : {ps qs : List (List ℕ)} {w v u : Writer} → Chain ps w v → Chain qs v u → Chain (ps ++ qs) w u
+chain_then {ps} {qs} {w} {v} {u} c d =
     record {
-      place = d.place ∙ rw (c.place, c.output) (sym (place_then ps qs at o));
-      output = d.output ∙ rw (c.place, c.output) (sym (output_then ps qs at o));
+      end = d.end ∙ rw (c.end, c.output) (sym (end_then ps qs w.end w.output.now));
+      output = d.output ∙ rw (c.end, c.output) (sym (output_then ps qs w.end w.output.now));
     }
 
 -- where there is room for all its parts, they stand one behind the other
-puts_after : (at : ℕ) (p o : List ℕ) → Puts at p (place_after at p o) o (output_after at p o)
-unfolding place_after output_after
-puts_after at p o = record { fits = λ h. rw (le-leb (at + length p) (length o) h) (refl, refl) }
+fits_all : (ps : List (List ℕ)) (at : ℕ) (o : List ℕ) → at + length (flatten ps) ≤ length o
+    → (chain_end ps (Some at) o ≡ Some (at + length (flatten ps))) × (chain_output ps (Some at) o ≡ put at (flatten ps) o)
+unfolding chain_end chain_output end_after output_after flatten
+fits_all [] at o h = (rw (add-zero at) refl, sym (put_none at o (omega arith)))
+fits_all (p ∷ ps) at o h =
+    let k : at + length p + length (flatten ps) ≡ at + length (p ++ flatten ps) = omega (arith, length-append p (flatten ps)) in
+    let t : at + length p ≤ length o = omega (arith, k) in
+    let f = fits_all ps (at + length p) (put at p o) (omega (arith, k, length_put at p o t)) in
+    rw (le-leb (at + length p) (length o) t) (f.0 ∙ ap Some k, f.1 ∙ sym (put_append at p (flatten ps) o h))
 
-puts_chain : (ps : List (List ℕ)) (at : ℕ) (o : List ℕ) → Puts at (flatten ps) (chain_place ps at o) o (chain_output ps at o)
-unfolding chain_place chain_output flatten
-puts_chain [] at o = puts_none at o
-puts_chain (p ∷ ps) at o = puts_then (puts_after at p o) (puts_chain ps (place_after at p o) (output_after at p o))
-
-pub chain_puts : {ps : List (List ℕ)} {at r : ℕ} {o z : List ℕ} → Chain ps at r o z → Puts at (flatten ps) r o z
-chain_puts {ps} {at} {r} {o} {z} c = rw (c.place, c.output) (puts_chain ps at o)
+pub chain_puts : {ps : List (List ℕ)} {w v : Writer} → Chain ps w v → Puts (flatten ps) w v
+chain_puts {ps} {w} {v} c = record { fits = λ at e h. let f = fits_all ps at w.output.now h in (c.end ∙ rw e f.0, c.output ∙ rw e f.1) }
 
 -- a number and the byte that ends it
-pub field_puts : (v end : ℕ) {at r : ℕ} {o z : List ℕ} → Chain (decimal v ∷ (end ∷ []) ∷ []) at r o z → Puts at (decimal v ++ (end ∷ [])) r o z
+pub field_puts : (v end : ℕ) {w u : Writer} → Chain (decimal v ∷ (end ∷ []) ∷ []) w u → Puts (decimal v ++ (end ∷ [])) w u
 unfolding flatten
 field_puts v end c = chain_puts c

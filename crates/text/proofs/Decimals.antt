@@ -18,9 +18,9 @@ use mir.Facts.{to_z-of_z}
 use borrow.Author.Tests.{ltb-true, ltb-false, leb-true, leb-false, le-leb, eq-eqb, ne_eqb}
 use Rattle.text.specs.Numbers.{is_digit, all_digits, no_leading_zero, is_number, value_from, value, has_minus, without_minus, is_signed, signed_value, digits, decimal, signed_decimal, sign_length, Width}
 use Rattle.text.specs.Promise.{NumbersShortest, OneLength}
-use Rattle.text.specs.Writing.{put, Writes}
+use Rattle.text.specs.Writing.{put}
 use Rattle.text.proofs.Tests.{or_left, or_right, and_both, both_true}
-use Rattle.text.proofs.Writing.{put_before, put_none, writes_fits}
+use Rattle.text.proofs.Writing.{put_before, put_none}
 
 -- the digits of a number below 10 and of one from 10 on
 digits_none : (v : ℕ) → digits 0 v ≡ []
@@ -223,9 +223,8 @@ written_step at v w i o z r h = go r.fuel r.whole r.place
         by (large s) =
             next k (sym (append_snoc (digits k (w / 10)) (48 + w % 10) r.done) ∙ (rw (digits_more k w s) at a)) (omega (arith, length_more k w s))
 
-pub written_end : (at size v w i : ℕ) (o z : List ℕ) → Width v size → Written at v w i o z → i ≤ at → Writes at (decimal v) (at + size) o z
-written_end at size v w i o z k r h =
-    writes_fits at (decimal v) (at + size) o z r.room (ap (λ (n : ℕ). at + n) (width_length k)) (go (digits r.fuel w) r.whole r.place)
+pub written_end : (at size v w i : ℕ) (o z : List ℕ) → Width v size → Written at v w i o z → i ≤ at → z ≡ put at (decimal v) o
+written_end at size v w i o z k r h = go (digits r.fuel w) r.whole r.place
   where
     go : (f : List ℕ) → f ++ r.done ≡ decimal v → i ≡ at + length f → z ≡ put at (decimal v) o
     go [] a p = let e : i ≡ at = omega arith in r.holds ∙ rw (e, a)

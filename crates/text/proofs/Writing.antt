@@ -1,7 +1,7 @@
 -- Laws of writing: a longer text by several writers one after the other, and what each writer's loop keeps. Assumes
 -- nothing.
 use mathlib.Core.Path.{◌≡◌, refl, sym, ap, ◌∙◌}
-use mathlib.Core.Bool.{Bool, true, false}
+use mathlib.Core.Bool.{Bool, true, false, cond}
 use mathlib.Core.List.{List, [], ◌∷◌, ◌++◌, append_assoc}
 use mathlib.Core.Logic.{inl, inr}
 use Prim.Native.Nat.{ℕ, suc, ◌+◌, ◌-◌, ◌≤◌, ◌<◌}
@@ -9,9 +9,12 @@ use native.Mathlib.Nat.{add-zero, zero-add}
 use native.Mathlib.Omega.{arith}
 use lib.Dec.{leb}
 use lib.ListN.{length, get_or, set, take, drop, length-append}
-use lib.Seq.{drop-drop, append_snoc, length-take-le, take-suc, set_at, get_or-set_other, sets, sets-eq, length-sets}
+use lib.Seq.{append_snoc, drop-drop, length-take-le, take-suc, set_at, get_or-set_other, sets, sets-eq, length-sets}
 use borrow.Author.Tests.{leb-true, leb-false, le-leb, lt-leb}
-use Rattle.text.specs.Writing.{put, no_room, Writes, Outside}
+use Rattle.std.specs.Prelude.{Option, Some, None}
+use Rattle.text.specs.declared.write.Writer.{Writer}
+use Rattle.text.specs.Writing.{put, end_after, granted, output_after, Writes, Reserves, Outside}
+use borrow.Rule.Slice.PartMut.{put_mid}
 use Rattle.text.specs.Promise.{OnlyThere}
 
 -- PUT is a run of stores
@@ -42,13 +45,6 @@ put_append at bs cs o h =
     ∙ sym (put_sets (at + length bs) cs (put at bs o) (omega (arith, length_put at bs o (omega arith))))
 
 -- WRITES
-pub writes_length : {at : ℕ} {bs : List ℕ} {r : ℕ} {o z : List ℕ} → Writes at bs r o z → length z ≡ length o
-writes_length {at} {bs} {r} {o} {z} w = go (leb (at + length bs) (length o)) refl
-  where
-    go : (t : Bool) → leb (at + length bs) (length o) ≡ t → length z ≡ length o
-    go true e = let h = leb-true (at + length bs) (length o) e in ap length (w.fits h).1 ∙ length_put at bs o h
-    go false e = ap length (w.full (leb-false (at + length bs) (length o) e)).1
-
 -- no byte outside the place changes
 sets_outside : (at : ℕ) (bs o : List ℕ) (i : ℕ) → Outside at (length bs) i → get_or (sets o at bs) i 0 ≡ get_or o i 0
 sets_outside at [] o i h = refl
@@ -62,63 +58,102 @@ sets_outside at (b ∷ bs) o i h = sets_outside (suc at) bs (set o at b) i (next
     other (inl l) e = omega arith
     other (inr l) e = omega arith
 
-pub only_there : OnlyThere
-unfolding OnlyThere
-only_there at bs r o z w = (writes_length w, λ i h. go i h (leb (at + length bs) (length o)) refl)
+length_after : (end : Option ℕ) (bs o : List ℕ) → length (output_after end bs o) ≡ length o
+unfolding output_after
+length_after None bs o = refl
+length_after (Some at) bs o = go (leb (at + length bs) (length o)) refl
   where
-    go : (i : ℕ) → Outside at (length bs) i → (t : Bool) → leb (at + length bs) (length o) ≡ t → get_or z i 0 ≡ get_or o i 0
-    go i h true e =
-        let f = leb-true (at + length bs) (length o) e in
-        rw ((w.fits f).1, put_sets at bs o f) (sets_outside at bs o i h)
-    go i h false e = rw (w.full (leb-false (at + length bs) (length o) e)).1 refl
+    go : (t : Bool) → leb (at + length bs) (length o) ≡ t → length (cond t (put at bs o) o) ≡ length o
+    go true e = length_put at bs o (leb-true (at + length bs) (length o) e)
+    go false e = refl
 
--- a writer that had room, one that had none
-pub writes_fits : (at : ℕ) (bs : List ℕ) (r : ℕ) (o z : List ℕ) → at + length bs ≤ length o → r ≡ at + length bs → z ≡ put at bs o → Writes at bs r o z
-writes_fits at bs r o z h e p = record { fits = λ _. (e, p); full = λ g. absurd (omega arith) }
+pub writes_length : {bs : List ℕ} {w v : Writer} → Writes bs w v → length v.output.now ≡ length w.output.now
+writes_length {bs} {w} {v} p = ap length p.output ∙ length_after w.end bs w.output.now
 
-pub writes_full : (at : ℕ) (bs : List ℕ) (o : List ℕ) → length o < at + length bs → Writes at bs no_room o o
-writes_full at bs o h = record { fits = λ g. absurd (omega arith); full = λ _. (refl, refl) }
+outside_after : (end : Option ℕ) (at : ℕ) (bs o : List ℕ) (i : ℕ) → end ≡ Some at → Outside at (length bs) i → get_or (output_after end bs o) i 0 ≡ get_or o i 0
+unfolding output_after
+outside_after end at bs o i e h = rw e (go (leb (at + length bs) (length o)) refl)
+  where
+    go : (t : Bool) → leb (at + length bs) (length o) ≡ t → get_or (cond t (put at bs o) o) i 0 ≡ get_or o i 0
+    go true q = rw (put_sets at bs o (leb-true (at + length bs) (length o) q)) (sets_outside at bs o i h)
+    go false q = refl
 
--- WHAT IS LEFT to write gives the whole, and has its room
-pub record Left (at : ℕ) (all : List ℕ) (here : ℕ) (rest : List ℕ) (o z : List ℕ) : Type 0 where
-  pub ends : here + length rest ≡ at + length all
-  pub room : here + length rest ≤ length z
-  pub holds : put here rest z ≡ put at all o
+pub only_there : OnlyThere
+unfolding OnlyThere output_after
+only_there bs w v p = (writes_length p, λ at i e h. rw p.output (outside_after w.end at bs w.output.now i e h), λ e. p.output ∙ rw e refl)
 
-pub left_start : (at : ℕ) (all o : List ℕ) → at + length all ≤ length o → Left at all at all o o
-left_start at all o h = record { ends = refl; room = h; holds = refl }
+-- A PLACE: where there is no end, where there is no room, and where there is
+no_place : (e : Option ℕ) (k n : ℕ) → e ≡ None → (None ≡ granted e k n) × (e ≡ end_after e k n)
+unfolding end_after granted
+no_place e k n p = rw p (refl, refl)
 
-pub left_step : {at : ℕ} {all : List ℕ} {here : ℕ} {rest : List ℕ} {o z : List ℕ} (bs more : List ℕ) {r : ℕ} {z' : List ℕ}
-    → Left at all here rest o z → rest ≡ bs ++ more → Writes here bs r z z' → Left at all r more o z'
-left_step {at} {all} {here} {rest} {o} {z} bs more {r} {z'} l q w =
-    let s : length rest ≡ length bs + length more = ap length q ∙ length-append bs more in
-    let f = w.fits (omega (arith, l.room)) in
-    record {
-      ends = omega (arith, l.ends);
-      room = omega (arith, l.room, writes_length w);
-      holds = rw (f.1, f.0) (sym (put_append here bs more z (omega (arith, l.room, ap length q)))) ∙ (rw q at l.holds);
-    }
+a_place : (e : Option ℕ) (at k n : ℕ) (t : Bool) → e ≡ Some at → leb (at + k) n ≡ t → (cond t (Some at) None ≡ granted e k n) × (cond t (Some (at + k)) None ≡ end_after e k n)
+unfolding end_after granted
+a_place e at k n t p q = rw (p, q) (refl, refl)
 
--- the last step
-pub left_last : {at : ℕ} {all : List ℕ} {here : ℕ} {rest : List ℕ} {o z : List ℕ} {r : ℕ} {z' : List ℕ}
-    → Left at all here rest o z → Writes here rest r z z' → (r ≡ at + length all) × (z' ≡ put at all o)
-left_last {at} {all} {here} {rest} {o} {z} {r} {z'} l w =
-    let f = w.fits l.room in (f.0 ∙ l.ends, f.1 ∙ l.holds)
+pub none_reserved : (k : ℕ) (w : Writer) → w.end ≡ None → Reserves k w w None
+none_reserved k w p = let g = no_place w.end k (length w.output.now) p in record { place = g.0; end = g.1; output = refl }
 
--- two writers, where both have room
-pub writes_both : (at : ℕ) (bs cs : List ℕ) (r s : ℕ) (o y z : List ℕ) → at + length (bs ++ cs) ≤ length o → Writes at bs r o y → Writes r cs s y z → Writes at (bs ++ cs) s o z
-writes_both at bs cs r s o y z h p q =
-    let e = left_last (left_step bs cs (left_start at (bs ++ cs) o h) refl p) q in
-    writes_fits at (bs ++ cs) s o z h e.0 e.1
+pub not_reserved : (k at : ℕ) (w v : Writer) → w.end ≡ Some at → false ≡ leb (at + k) (length w.output.now) → v.end ≡ None → v.output.now ≡ w.output.now → Reserves k w v None
+not_reserved k at w v p q e o =
+    let g = a_place w.end at k (length w.output.now) false p (sym q) in
+    record { place = g.0; end = e ∙ g.1; output = o }
+
+pub is_reserved : (k at : ℕ) (w v : Writer) → w.end ≡ Some at → true ≡ leb (at + k) (length w.output.now) → v.end ≡ Some (at + k) → v.output.now ≡ w.output.now → Reserves k w v (Some at)
+is_reserved k at w v p q e o =
+    let g = a_place w.end at k (length w.output.now) true p (sym q) in
+    record { place = g.0; end = e ∙ g.1; output = o }
+
+-- what a place tells: there is an end, and room behind it
+place_end : (e : Option ℕ) (at k n : ℕ) → Some at ≡ granted e k n → (e ≡ Some at) × (at + k ≤ n)
+unfolding granted
+place_end None at k n p = cc
+place_end (Some i) at k n p = go (leb (i + k) n) refl p
+  where
+    go : (t : Bool) → leb (i + k) n ≡ t → Some at ≡ cond t (Some i) None → (Some i ≡ Some at) × (at + k ≤ n)
+    go true q p = let s : at ≡ i = cc in (ap Some (sym s), rw s (leb-true (i + k) n q))
+    go false q p = cc
+
+pub reserved_room : {k at : ℕ} {w v : Writer} {r : Option ℕ} → Reserves k w v r → r ≡ Some at → at + k ≤ length v.output.now
+reserved_room {k} {at} {w} {v} q p = rw q.output (place_end w.end at k (length w.output.now) (sym p ∙ q.place)).1
+
+-- bytes that got a place, and that got none
+nothing_after : (e : Option ℕ) (bs o : List ℕ) → None ≡ granted e (length bs) (length o) → o ≡ output_after e bs o
+unfolding granted output_after
+nothing_after None bs o p = refl
+nothing_after (Some at) bs o p = go (leb (at + length bs) (length o)) p
+  where
+    go : (t : Bool) → None ≡ cond t (Some at) None → o ≡ cond t (put at bs o) o
+    go true p = cc
+    go false p = refl
+
+put_after : (at : ℕ) (bs o : List ℕ) → at + length bs ≤ length o → put at bs o ≡ output_after (Some at) bs o
+unfolding output_after
+put_after at bs o h = rw (le-leb (at + length bs) (length o) h) refl
+
+pub writes_nothing : {bs : List ℕ} {w v : Writer} {r : Option ℕ} → Reserves (length bs) w v r → r ≡ None → Writes bs w v
+writes_nothing {bs} {w} {v} q p = record { end = q.end; output = q.output ∙ nothing_after w.end bs w.output.now (sym p ∙ q.place) }
+
+pub writes_there : {bs : List ℕ} {w v u : Writer} {r : Option ℕ} {at : ℕ} → Reserves (length bs) w v r → r ≡ Some at → u.end ≡ v.end → u.output.now ≡ put at bs v.output.now → Writes bs w u
+writes_there {bs} {w} {v} {u} {r} {at} q p e o =
+    let s = place_end w.end at (length bs) (length w.output.now) (sym p ∙ q.place) in
+    record { end = e ∙ q.end; output = o ∙ rw (q.output, s.0) (put_after at bs w.output.now s.1) }
+
+pub reserved_as : {k n : ℕ} {w v : Writer} {r : Option ℕ} → k ≡ n → Reserves k w v r → Reserves n w v r
+reserved_as e q = rw (← e) q
+
+-- the part of a list that a copy took the place of
+pub mid_put : (at : ℕ) (bs o ys : List ℕ) → ys ≡ bs → put_mid at (at + length bs - at) o ys ≡ put at bs o
+unfolding put
+mid_put at bs o ys e = let k : at + length bs - at ≡ length bs = omega arith in rw (k, e, drop-drop (length bs) at o) (sym (append_assoc (take at o) bs (drop (at + length bs) o)))
 
 -- ONE BYTE
 pub put_one : (at b : ℕ) (o : List ℕ) → at < length o → put at (b ∷ []) o ≡ set o at b
 put_one at b o h = put_sets at (b ∷ []) o (omega arith)
 
--- A PART of the output replaced
-pub put_part : (at : ℕ) (bs o : List ℕ) → take at o ++ (bs ++ drop (length bs) (drop at o)) ≡ put at bs o
-unfolding put
-put_part at bs o = ap (λ (l : List ℕ). take at o ++ (bs ++ l)) (drop-drop (length bs) at o) ∙ sym (append_assoc (take at o) bs (drop (at + length bs) o))
+-- a sign, and digits behind it
+pub sign_put : (at b : ℕ) (ds o z : List ℕ) → at + suc (length ds) ≤ length o → z ≡ put (at + 1) ds (set o at b) → z ≡ put at (b ∷ ds) o
+sign_put at b ds o z h e = e ∙ ap (put (at + 1) ds) (sym (put_one at b o (omega arith))) ∙ sym (put_append at (b ∷ []) ds o h)
 
 -- FROM THE LAST byte to the first
 pub put_before : (j b : ℕ) (bs o : List ℕ) → suc j + length bs ≤ length o → set (put (suc j) bs o) j b ≡ put j (b ∷ bs) o
@@ -141,10 +176,3 @@ room_inside len at size h = go (leb (at + size) len) refl
 
 pub room_outside : (len at size : ℕ) → len < at → leb at len ≡ leb (at + size) len
 room_outside len at size h = lt-leb at len h ∙ sym (lt-leb (at + size) len (omega arith))
-
--- what the answer on room tells: none, or enough
-pub none_left : (at size : ℕ) (bs o : List ℕ) → false ≡ leb (at + size) (length o) → size ≡ length bs → Writes at bs no_room o o
-none_left at size bs o e s = writes_full at bs o (omega (arith, leb-false (at + size) (length o) (sym e)))
-
-pub enough : (at size len : ℕ) → true ≡ leb (at + size) len → at + size ≤ len
-enough at size len e = leb-true (at + size) len (sym e)

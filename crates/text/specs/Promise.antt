@@ -1,6 +1,7 @@
 -- What is promised of written numbers (Paper 3 of 02). A statement is a type; docs/PROOF-MAP.md names its proof. Assumes
 -- nothing: these are definitions.
-use Rattle.std.specs.Prelude.{◌≡◌, List, ℕ, ◌^◌, ◌<◌, length, get_or}
+use Rattle.std.specs.Prelude.{◌≡◌, List, ℕ, ◌^◌, ◌<◌, length, get_or, Some, None}
+use Rattle.text.specs.declared.write.Writer.{Writer}
 use Rattle.text.specs.Numbers.{decimal, Shortest, Width}
 use Rattle.text.specs.Writing.{Writes, Outside}
 
@@ -12,8 +13,11 @@ NumbersShortest = (v : ℕ) → v < 2 ^ 32 → Width v (length (decimal v))
 unfoldable pub OneLength : Type 0
 OneLength = (v j k : ℕ) → Shortest v j → Shortest v k → j ≡ k
 
--- "No byte outside that place changes", and the buffer keeps its length: of every writer, with room and without
+-- "No byte outside that place changes", and the buffer keeps its length: of every writer, with room and without, and with no
+-- end no byte changes
 unfoldable pub OnlyThere : Type 0
 OnlyThere =
-    (at : ℕ) (bs : List ℕ) (r : ℕ) (o z : List ℕ) → Writes at bs r o z
-    → (length z ≡ length o) × ((i : ℕ) → Outside at (length bs) i → get_or z i 0 ≡ get_or o i 0)
+    (bs : List ℕ) (w v : Writer) → Writes bs w v
+    → (length v.output.now ≡ length w.output.now)
+    × ((at i : ℕ) → w.end ≡ Some at → Outside at (length bs) i → get_or v.output.now i 0 ≡ get_or w.output.now i 0)
+    × (w.end ≡ None → v.output.now ≡ w.output.now)

@@ -1,10 +1,7 @@
-// Writers of bytes and decimals: each puts its bytes straight into their place, or nothing where they have no room.
-ghost use Rattle.std.specs.Prelude.{◌≡◌, [], ◌∷◌, ◌+◌, ◌≤◌, leb, length};
+// A writer of bytes and decimals into a lent output: what has room goes straight into its place.
+ghost use Rattle.std.specs.Prelude.{◌≡◌, [], ◌∷◌, ◌+◌, ◌≤◌, leb, length, Some};
 ghost use Rattle.text.specs.Numbers.{decimal, signed_decimal, Width};
-ghost use Rattle.text.specs.Writing.{Writes, Chain};
-
-// What a writer answers where it has no room.
-pub const NO_ROOM: usize = 18446744073709551615;
+ghost use Rattle.text.specs.Writing.{put, written, Reserves, Writes, Chain};
 
 // Whether so many bytes from `at` on end within the length.
 fn room(len: usize, at: usize, size: usize) -> bool
@@ -13,27 +10,119 @@ fn room(len: usize, at: usize, size: usize) -> bool
     at <= len && size <= len - at
 }
 
-// One byte.
-pub fn write_byte(output: &mut [u8], at: usize, b: u8) -> usize
-    ensures { Writes at (b ∷ []) result output.old output.new }
+// Bytes from a place on that has room for them.
+fn copy_to(output: &mut [u8], at: usize, bytes: &[u8])
+    requires { at + length bytes.now ≤ length output.old }
+    ensures { output.new ≡ put at bytes.now output.old }
 {
-    if output.len() <= at {
-        return NO_ROOM;
-    }
-    output[at] = b;
-    at + 1
+    output[at..at + bytes.len()].copy_from_slice(bytes);
 }
 
-// Some bytes.
-pub fn write_bytes(output: &mut [u8], at: usize, bytes: &[u8]) -> usize
-    ensures { Writes at bytes.now result output.old output.new }
-{
-    if !room(output.len(), at, bytes.len()) {
-        return NO_ROOM;
+// An output, and the place past what is written there; it has none once something had no room, and nothing is written then.
+#[derive(Drop)]
+pub struct Writer<'a> {
+    pub output: &'a mut [u8],
+    pub end: Option<usize>,
+}
+
+impl<'a> Writer<'a> {
+    // A writer at the output's front.
+    pub fn new(output: &'a mut [u8]) -> Writer<'a>
+        ensures same { result.output.ghost_name ≡ output.entry.ghost_name }
+        ensures bytes { result.output.now ≡ output.old }
+        ensures front { result.end ≡ Some 0 }
+    {
+        Writer {
+            output,
+            end: Some(0),
+        }
     }
-    let end = at + bytes.len();
-    output[at..end].copy_from_slice(bytes);
-    end
+
+    // What is written; nothing where something had no room.
+    pub fn written(&self) -> &[u8]
+        ensures { result.now ≡ written self.now }
+    {
+        let Some(end) = self.end else {
+            return &[];
+        };
+        if self.output.len() < end {
+            return &[];
+        }
+        &self.output[..end]
+    }
+
+    // The place of so many bytes, if they have room.
+    fn reserve(&mut self, size: usize) -> Option<usize>
+        ensures same { self.new.output.ghost_name ≡ self.old.output.ghost_name }
+        ensures reserves { Reserves size self.old self.new result }
+    {
+        let Some(at) = self.end else {
+            return None;
+        };
+        if !room(self.output.len(), at, size) {
+            self.end = None;
+            return None;
+        }
+        self.end = Some(at + size);
+        Some(at)
+    }
+
+    // One byte.
+    pub fn byte(&mut self, b: u8)
+        ensures same { self.new.output.ghost_name ≡ self.old.output.ghost_name }
+        ensures writes { Writes (b ∷ []) self.old self.new }
+    {
+        if let Some(at) = self.reserve(1) {
+            self.output[at] = b;
+        }
+    }
+
+    // Some bytes.
+    pub fn bytes(&mut self, bytes: &[u8])
+        ensures same { self.new.output.ghost_name ≡ self.old.output.ghost_name }
+        ensures writes { Writes bytes.now self.old self.new }
+    {
+        if let Some(at) = self.reserve(bytes.len()) {
+            copy_to(self.output, at, bytes);
+        }
+    }
+
+    // A number in decimal.
+    pub fn number(&mut self, v: u32)
+        ensures same { self.new.output.ghost_name ≡ self.old.output.ghost_name }
+        ensures writes { Writes (decimal v) self.old self.new }
+    {
+        let size = width(v);
+        if let Some(at) = self.reserve(size) {
+            write_digits(self.output, at, size, v);
+        }
+    }
+
+    // A number and the byte that ends its field.
+    pub fn field(&mut self, v: u32, end: u8)
+        ensures same { self.new.output.ghost_name ≡ self.old.output.ghost_name }
+        ensures chain { Chain (decimal v ∷ (end ∷ []) ∷ []) self.old self.new }
+    {
+        self.number(v);
+        self.byte(end);
+    }
+
+    // A number in decimal, after a minus sign where it is below zero.
+    pub fn signed(&mut self, v: i32)
+        ensures same { self.new.output.ghost_name ≡ self.old.output.ghost_name }
+        ensures writes { Writes (signed_decimal v) self.old self.new }
+    {
+        let far = v.unsigned_abs();
+        if 0 <= v {
+            self.number(far);
+            return;
+        }
+        let size = width(far);
+        if let Some(at) = self.reserve(1 + size) {
+            self.output[at] = b'-';
+            write_digits(self.output, at + 1, size, far);
+        }
+    }
 }
 
 // The least number of digits that holds the value; a number so far below zero takes one more, for its minus sign.
@@ -50,51 +139,14 @@ fn width(v: u32) -> usize
 }
 
 // The digits of a number straight into their places, from the last to the first.
-fn write_digits(output: &mut [u8], at: usize, size: usize, v: u32) -> usize
+fn write_digits(output: &mut [u8], at: usize, size: usize, v: u32)
     requires width { Width v size }
     requires size_in_bounds { at + size ≤ length output.old }
-    ensures { Writes at (decimal v) result output.old output.new }
+    ensures { output.new ≡ put at (decimal v) output.old }
 {
-    let end = at + size;
     let mut w = v;
-    for i in (at..end).rev() {
+    for i in (at..at + size).rev() {
         output[i] = b'0' + (w % 10) as u8;
         w /= 10;
     }
-    end
-}
-
-// A number in decimal.
-pub fn write_number(output: &mut [u8], at: usize, v: u32) -> usize
-    ensures { Writes at (decimal v) result output.old output.new }
-{
-    let size = width(v);
-    if !room(output.len(), at, size) {
-        return NO_ROOM;
-    }
-    write_digits(output, at, size, v)
-}
-
-// A number and the byte that ends its field.
-pub fn write_field(output: &mut [u8], at: usize, v: u32, end: u8) -> usize
-    ensures { Chain (decimal v ∷ (end ∷ []) ∷ []) at result output.old output.new }
-{
-    let next = write_number(output, at, v);
-    write_byte(output, next, end)
-}
-
-// A number in decimal, after a minus sign where it is below zero.
-pub fn write_signed(output: &mut [u8], at: usize, v: i32) -> usize
-    ensures { Writes at (signed_decimal v) result output.old output.new }
-{
-    let far = v.unsigned_abs();
-    if 0 <= v {
-        return write_number(output, at, far);
-    }
-    let size = width(far);
-    if !room(output.len(), at, 1 + size) {
-        return NO_ROOM;
-    }
-    let next = write_byte(output, at, b'-');
-    write_digits(output, next, size, far)
 }

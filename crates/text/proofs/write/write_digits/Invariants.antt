@@ -1,4 +1,4 @@
--- `write_digits` meets its contract: at each turn the digits from place i on are written, and w holds those before them.
+-- `write_digits` meets its contract: the digits from place i on are written, and w holds those before them.
 use Rattle.text.proofs.Decimals.{Written}
 use Rattle.text.proofs.write.write_digits.Given as goal
 
