@@ -204,7 +204,7 @@ pub(crate) fn blank(work: &mut [i32])
     fill(work, cells::TAIL, Case::MOST_WORKERS, 0);
 }
 
-// Whether a distance is below another.
+// Whether a distance is below another. A function, since must-fail/late_offer_overwrites.edit spoils its call.
 pub(crate) fn lower(a: i32, b: i32) -> bool
     ensures { result ≡ lt_z a b }
 {
@@ -219,7 +219,7 @@ pub(crate) fn negated(n: usize) -> i32
     -(n as i32)
 }
 
-// Whether a distance is below −A.
+// Whether a distance is below −A. A function, since must-fail/floor_at_A.edit spoils it.
 pub(crate) fn below_floor(d: i32, marks: usize) -> bool
     requires { marks ≤ most_vertices }
     ensures { result ≡ lt_z d (neg_ℤ (pos marks)) }
@@ -235,7 +235,7 @@ pub(crate) fn edge_length(mark: usize) -> i32
     negated(mark)
 }
 
-// Whether a cell has no distance or message.
+// Whether a cell has no distance or message. A function, since must-fail/joined_for_fresh.edit spoils its call.
 pub(crate) fn missing(d: i32) -> bool
     ensures { result ≡ lt_z (pos 0) d }
 {
