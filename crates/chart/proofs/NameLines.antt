@@ -56,9 +56,6 @@ pub record NameLeft (s : List ℕ) (at e : ℕ) : Type 0 where
   pub closed : (line_here s at).closed ≡ (line_here s e).closed
   pub past : past_line s at ≡ past_line s e
 
-pub name_start : (s : List ℕ) (at : ℕ) → NameLeft s at at
-name_start s at = record { from = omega arith; long = omega arith; bytes = refl; closed = refl; past = refl }
-
 name_is : (l : Line) {c : Bool} {n : ℕ} {a : Bool} → l.closed ≡ c → length l.text ≡ n → all_alphanumeric l.text ≡ a → name_line l ≡ (c && ((leb 1 n && leb n longest_name) && a))
 unfolding name_line is_name
 name_is l p q r = rw (p, q, r) refl

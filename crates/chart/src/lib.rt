@@ -41,6 +41,13 @@ impl Chart {
     pub const ONE_RULE: u8 = 64;
 }
 
+// How far the pairs go: so many modes, and so many combinations of flags.
+#[derive(Clone, Copy)]
+struct Extent {
+    modes: usize,
+    count: usize,
+}
+
 // Why a text is no right chart: a fault of the text; or the chart's counts, its first bad pair and that pair's refusal.
 #[derive(Clone, Copy)]
 pub enum NoChart {
@@ -60,15 +67,14 @@ fn without_pair(refusal: u32) -> Charted
 }
 
 // Whether the numbers of line 2 are in range.
+#[tactic(auto, unfolding(model::specs::Chart::chart_counts_good))]
 fn counts_good(version: u32, chart: Chart) -> bool
     ensures { result ≡ chart_counts_good version chart.modes chart.start chart.flags }
 {
     version == Case::VERSION
-        && 1 <= chart.modes
-        && chart.modes <= Chart::MOST_MODES
+        && (1..=Chart::MOST_MODES).contains(&chart.modes)
         && chart.start < chart.modes
-        && 1 <= chart.flags
-        && chart.flags <= Chart::MOST_FLAGS
+        && (1..=Chart::MOST_FLAGS).contains(&chart.flags)
 }
 
 // Lines 1 to 3: the counts, and the place past these lines.
@@ -104,17 +110,17 @@ pub fn combinations(flags: usize) -> usize
 }
 
 // The lines after line 3, of a text whose first three are right; the rules go into the table of pairs.
-fn read_rest(text: &[u8], names: usize, modes: usize, count: usize, pairs: &mut [u8]) -> bool
-    requires { Fresh modes count pairs.old }
-    ensures { ChartLaid text.now names modes count result pairs.new }
+fn read_rest(text: &[u8], names: usize, extent: Extent, pairs: &mut [u8]) -> bool
+    requires { Fresh extent.modes extent.count pairs.old }
+    ensures { ChartLaid text.now names extent.modes extent.count result pairs.new }
 {
-    let Some(title) = name_block(text, names, modes) else {
+    let Some(title) = name_block(text, names, extent.modes) else {
         return false;
     };
     let Some(rules) = name_line(text, title, b"mode care value next") else {
         return false;
     };
-    rule_block(text, rules, modes, count, pairs)
+    rule_block(text, rules, extent, pairs)
 }
 
 // Why a pair is refused, by its entry.
@@ -147,30 +153,32 @@ fn all_one(entries: &[u8]) -> bool
 }
 
 // How many pairs need no look of their own: those of the modes before the first one with a bad pair.
-fn good_modes(pairs: &[u8], modes: usize, count: usize) -> usize
-    requires { modes * count ≤ length pairs.now }
-    ensures { GoodFront pairs.now (modes * count) result }
+fn good_modes(pairs: &[u8], extent: Extent) -> usize
+    requires { extent.modes * extent.count ≤ length pairs.now }
+    ensures { GoodFront pairs.now (extent.modes * extent.count) result }
 {
-    for q in 0..modes {
-        let base = q * count;
-        if !all_one(&pairs[base..base + count]) {
+    for q in 0..extent.modes {
+        let base = q * extent.count;
+        if !all_one(&pairs[base..base + extent.count]) {
             return base;
         }
     }
-    modes * count
+    extent.modes * extent.count
 }
 
 // The first pair that has no rule or two.
-fn bad_pair(pairs: &[u8], modes: usize, count: usize) -> Option<Charted>
-    requires { (modes * count ≤ length pairs.now) × (modes * count ≤ most_pairs) × (1 ≤ count) }
-    ensures { result ≡ bad_in (table_says (modes * count) 0 count pairs.now) }
+fn bad_pair(pairs: &[u8], extent: Extent) -> Option<Charted>
+    requires long { extent.modes * extent.count ≤ length pairs.now }
+    requires few { extent.modes * extent.count ≤ most_pairs }
+    requires some { 1 ≤ extent.count }
+    ensures { result ≡ bad_in (table_says (extent.modes * extent.count) 0 extent.count pairs.now) }
 {
-    for i in good_modes(pairs, modes, count)..modes * count {
+    for i in good_modes(pairs, extent)..extent.modes * extent.count {
         if let Some(refusal) = entry_refusal(pairs[i]) {
             return Some(Charted {
                 refusal: refusal.number(),
-                mode: (i / count) as u32,
-                combination: (i % count) as u32,
+                mode: (i / extent.count) as u32,
+                combination: (i % extent.count) as u32,
             });
         }
     }
@@ -185,15 +193,18 @@ pub fn read_chart(text: &[u8], table: &mut [u8]) -> Result<Chart, NoChart>
     let Some((chart, names)) = read_head(text) else {
         return Err(NoChart::Fault);
     };
-    let count = combinations(chart.flags);
+    let extent = Extent {
+        modes: chart.modes,
+        count: combinations(chart.flags),
+    };
     let mut pairs = [0; Chart::MOST_PAIRS];
-    if !read_rest(text, names, chart.modes, count, &mut pairs) {
+    if !read_rest(text, names, extent, &mut pairs) {
         return Err(NoChart::Fault);
     }
-    if let Some(said) = bad_pair(&pairs, chart.modes, count) {
+    if let Some(said) = bad_pair(&pairs, extent) {
         return Err(NoChart::Bad(chart, said));
     }
-    write_bytes(table, 0, &pairs[..chart.modes * count]);
+    write_bytes(table, 0, &pairs[..extent.modes * extent.count]);
     Ok(chart)
 }
 
@@ -203,7 +214,7 @@ pub fn check_chart(text: &[u8]) -> Charted
 {
     match read_chart(text, &mut []) {
         Ok(_) => without_pair(0),
-        Err(NoChart::Fault) => without_pair(Charted::FAULTY),
+        Err(NoChart::Fault) => without_pair(Refusal::ChartFault.number()),
         Err(NoChart::Bad(_, said)) => said,
     }
 }

@@ -4,7 +4,7 @@ ghost use Rattle.std.specs.Prelude.{◌≡◌, ◌≤◌, ◌<◌, length};
 ghost use Rattle.model.specs.Chart.{rule_good};
 ghost use Rattle.chart.specs.Pairs.{most_combinations, two_rules, added, after_rule, RuleMarked, Fresh, RulesRead};
 
-use crate::Chart;
+use crate::{Chart, Extent};
 use text::read::numbers_row;
 
 // A pair's entry: no rule; one, as its next mode and `Chart::ONE_RULE`; or more, from TWO_RULES on.
@@ -23,13 +23,14 @@ struct Rule {
 
 impl Rule {
     // Whether its numbers are in range, and its value within its care.
-    fn good(self, modes: usize, count: usize) -> bool
-        ensures { result ≡ rule_good modes count (record { mode = self.mode; care = self.care; value = self.value; next = self.next }) }
+    #[tactic(auto, unfolding(model::specs::Chart::rule_good))]
+    fn good(self, extent: Extent) -> bool
+        ensures { result ≡ rule_good extent.modes extent.count (record { mode = self.mode; care = self.care; value = self.value; next = self.next }) }
     {
-        (self.mode as usize) < modes
-            && (self.care as usize) < count
+        (self.mode as usize) < extent.modes
+            && (self.care as usize) < extent.count
             && self.value & self.care == self.value
-            && (self.next as usize) < modes
+            && (self.next as usize) < extent.modes
     }
 }
 
@@ -66,15 +67,9 @@ fn mark_rule(entries: &mut [u8], care: u8, value: u8, worth: u8)
 }
 
 // The rules from `at` to the text's end.
-pub(crate) fn rule_block(
-    text: &[u8],
-    at: usize,
-    modes: usize,
-    count: usize,
-    pairs: &mut [u8],
-) -> bool
-    requires { Fresh modes count pairs.old }
-    ensures { RulesRead text.now at modes count result pairs.new }
+pub(crate) fn rule_block(text: &[u8], at: usize, extent: Extent, pairs: &mut [u8]) -> bool
+    requires { Fresh extent.modes extent.count pairs.old }
+    ensures { RulesRead text.now at extent.modes extent.count result pairs.new }
 {
     let mut here = at;
     let mut many: usize = 0;
@@ -92,12 +87,12 @@ pub(crate) fn rule_block(
             value,
             next,
         };
-        if !rule.good(modes, count) {
+        if !rule.good(extent) {
             return false;
         }
-        let base = mode as usize * count;
+        let base = mode as usize * extent.count;
         mark_rule(
-            &mut pairs[base..base + count],
+            &mut pairs[base..base + extent.count],
             care as u8,
             value as u8,
             next as u8 + Chart::ONE_RULE,

@@ -15,7 +15,7 @@ use borrow.Author.Tests.{eqb-true, eqb-false, ne_eqb, not-true}
 use Rattle.text.specs.Ascii.{line_feed}
 use Rattle.text.specs.Lines.{Line, lines, line_at, put_byte, fields, field, equal, begins, line_is}
 use Rattle.text.specs.Numbers.{is_number, value, value_from, all_numbers, numbers_line, number_at}
-use Rattle.text.specs.Reading.{line_here, past_line, field_here, named_here, number_in, number_before, leading_here, values, row_here}
+use Rattle.text.specs.Reading.{line_here, past_line, field_here, named_here, number_before, leading_here, values, row_here}
 use Rattle.text.specs.declared.read.Row.{Row as Numbers}
 use Rattle.text.proofs.Tests.{and_both, some_if, none_if}
 use Rattle.text.proofs.Lines.{size, first, first_nil, first_feed, first_byte, rest_lines, equal_true}
@@ -142,26 +142,8 @@ parted_more {s} {at} {v} {p} g k =
     ∙ ap (λ (fs : List (List ℕ)). (line_here s p).closed && (eqb (length fs) (suc k) && all_numbers fs)) g.pieces
     ∙ rw (eqb-suc-suc, g.number)
 
-parted_first : {s : List ℕ} {at v p : ℕ} → Parted s at v p → number_at (line_here s at) 0 ≡ v
-unfolding number_at
-parted_first g = g.worth
-
-parted_later : {s : List ℕ} {at v p : ℕ} → Parted s at v p → (i : ℕ) → number_at (line_here s at) (suc i) ≡ number_at (line_here s p) i
-unfolding number_at field
-parted_later g i = ap (λ (fs : List (List ℕ)). value (get_or fs (suc i) [])) g.pieces
-
-pub row_more : {s : List ℕ} {at v p : ℕ} {vs : List ℕ} {z : ℕ} → Parted s at v p → Row s p vs z → Row s at (v ∷ vs) z
-row_more {s} {at} {v} {p} {vs} {z} g r = record { line = parted_more g (length vs) ∙ r.line; are = are; past = g.past ∙ r.past }
-  where
-    are : (i : ℕ) → i < suc (length vs) → number_at (line_here s at) i ≡ get_or (v ∷ vs) i 0
-    are zero h = parted_first g
-    are (suc i) h = parted_later g i ∙ r.are i (omega arith)
-
 pub no_row_here : (k : ℕ) {s : List ℕ} {at : ℕ} → NotParted s at → NoRow (suc (suc k)) s at
 no_row_here k {s} {at} g = record { none = numbers_more s at k ∙ rw g.none }
-
-pub no_row_later : {k : ℕ} {s : List ℕ} {at v p : ℕ} → Parted s at v p → NoRow k s p → NoRow (suc k) s at
-no_row_later {k} g n = record { none = parted_more g k ∙ n.none }
 
 -- THE READER'S ANSWER as a row: the first so many of a list, one by one
 abbrev pub from : (i many : ℕ) → List ℕ → List ℕ
@@ -272,15 +254,6 @@ module _ {k : ℕ} {s : List ℕ} {at i : ℕ} {numbers : List ℕ} {p : ℕ} (u
   under_no_last e q d =
       let f : numbers_line 1 (line_here s p) ≡ false = none_if (numbers_line 1 (line_here s p)) _ (sym (row_number s p) ∙ sym q ∙ d) in
       sym (rw (under_line (omega arith) ∙ f))
-
--- A PART AS A NUMBER
-pub number_is : (w : List ℕ) {v : ℕ} {r : Option ℕ} → r ≡ number_in w → r ≡ Some v → (is_number w ≡ true) × (value w ≡ v)
-unfolding number_in
-number_is w p q = some_if (is_number w) (sym p ∙ q)
-
-pub number_not : (w : List ℕ) {r : Option ℕ} → r ≡ number_in w → r ≡ None → is_number w ≡ false
-unfolding number_in
-number_not w p q = none_if (is_number w) _ (sym p ∙ q)
 
 -- THE FIRST NUMBER OF A LONGER LINE: the fields that follow it are those at p, and the line ends where the one at p does
 pub leading_read : {s : List ℕ} {at : ℕ} {r : Option (Numbers 1)} {x : Numbers 1} → r ≡ leading_here s at → r ≡ Some x → Parted s at (lone x) x.next

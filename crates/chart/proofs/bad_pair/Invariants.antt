@@ -4,4 +4,4 @@ use Rattle.chart.proofs.BadPairs.{GoodSoFar}
 use Rattle.chart.proofs.bad_pair.Given as goal
 
 abbrev pub invariant-loop-i : goal.invariant-loop-i
-invariant-loop-i l = GoodSoFar l.pairs (l.modes * l.count) l.count l.i
+invariant-loop-i l = GoodSoFar l.pairs (l.extent.modes * l.extent.count) l.extent.count l.i

@@ -4,4 +4,4 @@ use Rattle.chart.specs.Pairs.{GoodFront}
 use Rattle.chart.proofs.good_modes.Given as goal
 
 abbrev pub invariant-loop-q : goal.invariant-loop-q
-invariant-loop-q l = GoodFront l.pairs (l.modes * l.count) (l.q * l.count)
+invariant-loop-q l = GoodFront l.pairs (l.extent.modes * l.extent.count) (l.q * l.extent.count)

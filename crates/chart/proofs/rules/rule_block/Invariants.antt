@@ -5,7 +5,7 @@ use Rattle.chart.proofs.RuleLines.{RulesLeft}
 use Rattle.chart.proofs.rules.rule_block.Given as goal
 
 abbrev pub invariant-loop-here : goal.invariant-loop-here
-invariant-loop-here l = RulesLeft l.text l.at l.modes l.count l.pairs l.here l.many
+invariant-loop-here l = RulesLeft l.text l.at l.extent.modes l.extent.count l.pairs l.here l.many
 
 abbrev pub decreases-loop-here : goal.decreases-loop-here
 decreases-loop-here l = most_rules - l.many
