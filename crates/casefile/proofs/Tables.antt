@@ -7,7 +7,7 @@ use Prim.Native.Nat.{ℕ, zero, suc, ◌+◌, ◌≤◌, ◌<◌}
 use native.Mathlib.Omega.{arith}
 use native.Mathlib.Decide.{ℕ_discrete}
 use lib.Dec.{eqb, lit<}
-use lib.ListN.{length, get_or, set, drop, length-set}
+use lib.ListN.{length, get_or, set, drop}
 use lib.Seq.{get_or-set_same, get_or-set_other}
 use borrow.Author.Tests.{eq-eqb, ne_eqb, eqb-true}
 use Rattle.std.specs.Prelude.{Result, Ok, Err}
@@ -43,11 +43,9 @@ pub record LinesTaken (s : List ℕ) (at i j here k : ℕ) (a₀ a b₀ b : List
   pub place : skip k s at ≡ here
   pub one : Took k (λ l. line_number s at l i) a₀ a
   pub two : Took k (λ l. line_number s at l j) b₀ b
-  pub long_one : length a ≡ length a₀
-  pub long_two : length b ≡ length b₀
 
 pub lines_start : (s : List ℕ) (at i j : ℕ) (a b : List ℕ) → LinesTaken s at i j at 0 a a b b
-lines_start s at i j a b = record { place = skip_none s at; one = took_none _ a; two = took_none _ b; long_one = refl; long_two = refl }
+lines_start s at i j a b = record { place = skip_none s at; one = took_none _ a; two = took_none _ b }
 
 -- a row's numbers are those of its line
 row_number : {s : List ℕ} {here : ℕ} {vs : List ℕ} {z : ℕ} (at k : ℕ) → skip k s at ≡ here → Row s here vs z → (i : ℕ) → i < length vs → get_or vs i 0 ≡ line_number s at k i
@@ -55,14 +53,12 @@ unfolding line_number
 row_number {s} at k e r i h = sym (r.are i h) ∙ (rw (← e, skip_line k s at) refl)
 
 module _ {s : List ℕ} {at i j here k : ℕ} {a₀ a b₀ b : List ℕ} (g : LinesTaken s at i j here k a₀ a b₀ b) {vs : List ℕ} {z : ℕ} (r : Row s here vs z) where
-  pub lines_more : i < length vs → j < length vs → LinesTaken s at i j z (k + 1) a₀ (set a k (get_or vs i 0)) b₀ (set b k (get_or vs j 0))
-  lines_more h l =
+  pub lines_more : length a ≡ length a₀ → length b ≡ length b₀ → i < length vs → j < length vs → LinesTaken s at i j z (k + 1) a₀ (set a k (get_or vs i 0)) b₀ (set b k (get_or vs j 0))
+  lines_more long_one long_two h l =
       record {
         place = skip_last k s at ∙ (rw g.place r.past);
-        one = took_more g.one g.long_one _ (row_number at k g.place r i h);
-        two = took_more g.two g.long_two _ (row_number at k g.place r j l);
-        long_one = length-set a k _ ∙ g.long_one;
-        long_two = length-set b k _ ∙ g.long_two;
+        one = took_more g.one long_one _ (row_number at k g.place r i h);
+        two = took_more g.two long_two _ (row_number at k g.place r j l);
       }
 
 -- how many lines are right, by the refusals of the first k: v, where these have none and one line more has a fault

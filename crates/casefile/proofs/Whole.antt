@@ -102,6 +102,9 @@ pub record Opened (newest : ℕ) (s : List ℕ) : Type 0 where
   pub begun : begins_version s ≡ true
   pub version : other_version newest (lines s) ≡ false
 
+pub opened_with : {newest : ℕ} {s : List ℕ} → length s ≤ longest_file → true ≡ begins_version s → false ≡ other_version newest (lines s) → Opened newest s
+opened_with a b c = record { short = a; begun = sym b; version = sym c }
+
 module _ {s : List ℕ} (o : Opened known_version s) where
   pub head_unnamed : line_is head_names (line_here s 0) ≡ false → Err CaseLayout ≡ head_says s
   head_unnamed h = head_4 s o.short o.begun o.version (rw h refl)

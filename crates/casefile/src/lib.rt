@@ -88,9 +88,8 @@ fn read_head(text: &[u8]) -> Result<(Case, usize), Refusal>
     if other_version(text, Case::VERSION) {
         return Err(Refusal::OtherVersion);
     }
-    let second = name_line(text, 0, b"version vertices edges source workers").ok_or(
-        Refusal::CaseLayout,
-    )?;
+    let names = b"version vertices edges source workers";
+    let second = name_line(text, 0, names).ok_or(Refusal::CaseLayout)?;
     let row = numbers_row::<5>(text, second).ok_or(Refusal::CaseLayout)?;
     let [_, vertices, edges, source, workers] = row.numbers;
     let case = Case {

@@ -83,7 +83,6 @@ later_none maths.none = refl
 later_none (maths.some z) = refl
 
 pub record Listing (s : List ℕ) (at k n : ℕ) (t₀ : List (Option ℤ)) (here i least : ℕ) (t : List (Option ℤ)) : Type 0 where
-  pub within : i ≤ k
   pub left : listed_vertices_refusal (k - i) n (before least) (lines (drop here s)) ≡ listed_vertices_refusal k n none (lines (drop at s))
   pub place : skip (k - i) s here ≡ skip k s at
   pub room : n ≤ length t₀
@@ -95,13 +94,13 @@ pub listing_start : (s : List ℕ) (at k n : ℕ) (t : List (Option ℤ)) → Bl
 unfolding before or_later held
 listing_start s at k n t b =
     let e : k - 0 ≡ k = omega arith in
-    record { within = omega arith; left = rw e refl; place = rw e refl; room = b.long; long = refl; known = λ v. rw (e, b.blank v) refl; free = λ v l. b.blank v }
+    record { left = rw e refl; place = rw e refl; room = b.long; long = refl; known = λ v. rw (e, b.blank v) refl; free = λ v l. b.blank v }
 
 module _ {s : List ℕ} {at k n : ℕ} {t₀ : List (Option ℤ)} {here i least : ℕ} {t : List (Option ℤ)} (w : Listing s at k n t₀ here i least t) where
   pub listing_end : k ≤ i → ListingSays s at k n t (Ok here)
   unfolding listed_vertices_refusal listed_in number_of
   listing_end h =
-      let z : k - i ≡ 0 = omega (arith, w.within) in
+      let z : k - i ≡ 0 = omega arith in
       record {
         right = sym w.left ∙ rw z refl;
         place = sym w.place ∙ (rw z (skip_none s here));
@@ -151,7 +150,6 @@ module _ {s : List ℕ} {at k n : ℕ} {t₀ : List (Option ℤ)} {here i least 
           pub listing_on : Listing s at k n t₀ z (i + 1) (a + 1) (set t a (Some x))
           unfolding number_of
           listing_on = record {
-            within = omega arith;
             left = rw (before_next a) (sym (next ∙ (rw (r.line, r.number, in_order, (distance_there r q).0, ← r.rest) refl)));
             place = rw (← r.past, ← skip_first (k - (i + 1)) s here, ← fewer) w.place;
             room = w.room;
@@ -177,17 +175,16 @@ length_is (suc zero) h = refl
 length_is (suc (suc k)) h = absurd (omega arith)
 
 pub record Leading (t : code.Graph) (xs : List (Option ℤ)) (e : ℕ) : Type 0 where
-  pub within : e ≤ t.case.edges
   pub left : (g : Graph) → Tables g t → (vs : List Listed) → ((v : ℕ) → held (get_or xs v None) ≡ number_of vs v) → all_lead (t.case.edges - e) e g vs ≡ all_lead t.case.edges 0 g vs
 
 pub leading_start : (t : code.Graph) (xs : List (Option ℤ)) → Leading t xs 0
-leading_start t xs = let q : t.case.edges - 0 ≡ t.case.edges = omega arith in record { within = omega arith; left = λ g x vs y. rw q refl }
+leading_start t xs = let q : t.case.edges - 0 ≡ t.case.edges = omega arith in record { left = λ g x vs y. rw q refl }
 
 module _ {t : code.Graph} {xs : List (Option ℤ)} {e : ℕ} (w : Leading t xs e) where
   pub leading_end : t.case.edges ≤ e → LeadSays t xs true
   unfolding all_lead
   leading_end h g x vs y =
-      let z : t.case.edges - e ≡ 0 = omega (arith, w.within) in
+      let z : t.case.edges - e ≡ 0 = omega arith in
       sym (sym (w.left g x vs y) ∙ rw z refl)
 
   module _ {u v k : ℕ} {a b : Option ℤ} {r : Bool} (h : e < t.case.edges) (is_u : u ≡ get_or t.froms.now e 0) (is_v : v ≡ get_or t.tos.now e 0) (is_a : a ≡ get_or xs u None) (is_b : b ≡ get_or xs v None) (is_k : k ≡ get_or t.marks.now u 0)
@@ -209,7 +206,7 @@ module _ {t : code.Graph} {xs : List (Option ℤ)} {e : ℕ} (w : Leading t xs e
         sym (w.left g x vs y) ∙ (rw (q, edge_is g x vs y, add-one e) refl)
 
     pub leading_on : r ≡ true → Leading t xs (e + 1)
-    leading_on q = record { within = omega arith; left = λ g x vs y. sym (step g x vs y ∙ (rw q refl)) }
+    leading_on q = record { left = λ g x vs y. sym (step g x vs y ∙ (rw q refl)) }
 
     pub leading_not : r ≡ false → LeadSays t xs false
     leading_not q g x vs y = sym (step g x vs y ∙ (rw q refl))

@@ -1,6 +1,6 @@
 -- The case that the reader gives, and its tables. Assumes nothing.
 use mathlib.Core.Path.{◌≡◌, refl, sym, ap, ◌∙◌}
-use mathlib.Core.Bool.{Bool, true, false, cond}
+use mathlib.Core.Bool.{true}
 use mathlib.Core.List.{List}
 use Prim.Native.Nat.{ℕ, ◌≤◌}
 use native.Mathlib.Omega.{arith}
@@ -8,7 +8,7 @@ use lib.ListN.{length}
 use Rattle.std.specs.Prelude.{Result, Ok}
 use Rattle.model.specs.Graph.{Graph, edge}
 use Rattle.model.specs.Case.{most_vertices, most_edges, most_run_edges, Sound, Within}
-use Rattle.model.specs.CaseFile.{case_refusal, accepted, case_in}
+use Rattle.model.specs.CaseFile.{accepted, case_in}
 use Rattle.model.specs.Promise.{FilesSound}
 use Rattle.model.proofs.Accepting.{files_sound}
 use Rattle.casefile.specs.Judging.{header, judged}

@@ -71,7 +71,6 @@ pub record Going (g : Graph) (start : ℕ) (es rest : List ℕ) (w : Walk) : Typ
   pub leaves : leaves_accepting g es ≡ (w.marked || leaves_accepting g rest)
 
 pub record Walking (s : List ℕ) (at k start : ℕ) (t : code.Graph) (i : ℕ) (w : Walk) : Type 0 where
-  pub within : i ≤ k
   pub left : listed_edges_refusal (k - i) t.case.edges (lines (drop w.next s)) ≡ listed_edges_refusal k t.case.edges (lines (drop at s))
   pub place : skip (k - i) s w.next ≡ skip k s at
   pub going : (g : Graph) → Tables g t → Going g start (column 0 (take k (lines (drop at s)))) (column 0 (take (k - i) (lines (drop w.next s)))) w
@@ -79,7 +78,7 @@ pub record Walking (s : List ℕ) (at k start : ℕ) (t : code.Graph) (i : ℕ) 
 pub walking_start : (s : List ℕ) (at k start : ℕ) (t : code.Graph) → Walking s at k start t 0 (record { end = start; joined = true; marked = false; next = at })
 walking_start s at k start t =
     let e : k - 0 ≡ k = omega arith in
-    record { within = omega arith; left = rw e refl; place = rw e refl; going = λ g t. record { walk = rw e refl; end = rw e refl; leaves = rw e refl } }
+    record { left = rw e refl; place = rw e refl; going = λ g t. record { walk = rw e refl; end = rw e refl; leaves = rw e refl } }
 
 or_shift : (x y z : Bool) → (x || (y || z)) ≡ ((x || y) || z)
 or_shift true y z = refl
@@ -108,7 +107,7 @@ module _ {s : List ℕ} {at k start : ℕ} {t : code.Graph} {i : ℕ} {w : Walk}
   pub walking_end : k ≤ i → WalkSays s at k start t (Ok w)
   unfolding listed_edges_refusal column is_walk walk_end leaves_accepting
   walking_end h =
-      let z : k - i ≡ 0 = omega (arith, r.within) in
+      let z : k - i ≡ 0 = omega arith in
       record {
         right = sym r.left ∙ rw z refl;
         place = sym r.place ∙ (rw z (skip_none s w.next));
@@ -138,7 +137,6 @@ module _ {s : List ℕ} {at k start : ℕ} {t : code.Graph} {i : ℕ} {w : Walk}
       pub walking_on : e < t.case.edges → Walking s at k start t (i + 1) (after t w e z)
       unfolding after
       walking_on b = record {
-        within = omega arith;
         left = sym (next ∙ (rw (l.line, l.are 0 (omega arith), lt-ltb e t.case.edges b, ← row_rest l) refl));
         place = rw (← l.past, ← skip_first (k - (i + 1)) s w.next, ← fewer) r.place;
         going = λ g x. going_on x e z b (rw listed at (r.going g x));

@@ -79,9 +79,8 @@ pub(crate) fn read_opening(text: &[u8]) -> Result<Head, Refusal>
     if other_version(text, Case::ANSWER_VERSION) {
         return Err(Refusal::OtherVersion);
     }
-    let second = name_line(text, 0, b"version verdict stem cycle reached").ok_or(
-        Refusal::AnswerLayout,
-    )?;
+    let names = b"version verdict stem cycle reached";
+    let second = name_line(text, 0, names).ok_or(Refusal::AnswerLayout)?;
     let head = read_head(text, second).ok_or(Refusal::AnswerLayout)?;
     if !right(head) {
         return Err(Refusal::AnswerLayout);

@@ -1,17 +1,15 @@
 -- `casefile::edge_block`: what is left of the block decides as the whole does, and its lines so far stand in the tables.
 use native.Mathlib.Omega.{arith}
-use mathlib.Core.Path.{◌≡◌, refl, sym, ◌∙◌}
+use mathlib.Core.Path.{◌≡◌, refl, sym}
 use mathlib.Core.Bool.{false, ◌&&◌, and-false}
 use borrow.Author.Tests.{le-ltb}
 use lib.Dec.{ltb, lit<}
 use lib.ListN.{get_or}
-use Rattle.text.proofs.Tests.{refuted, upheld}
 use Rattle.text.proofs.Reading.{row_read, row_fault}
 use Rattle.model.specs.Refusals.{refusal_of}
 use Rattle.casefile.proofs.Exits.{none_there}
 use Rattle.casefile.proofs.Blocks.{edges_start, edges_clean, edges_torn, edges_out, edges_back, edges_more}
 use Rattle.casefile.proofs.Tables.{lines_start, lines_more, block_stops, block_ends}
-use Rattle.std.proofs.lemmas.Bool.{not_from_false, not_from_true}
 use Rattle.casefile.proofs.edge_block.Goals as goal
 use Rattle.casefile.proofs.edge_block.Goals.{then-case-from-via-then-case-from, then-case-from-via-else-case-from+then-case-to}
 
@@ -41,15 +39,15 @@ unfolding refusal_of
 returns-then-not-rising c =
     let g = c.loop-e.invariant in
     let row = row_read 2 c.numbers_row.ensures c.in_ok-row.ensures.ok_part in
-    block_stops g.1 (edges_clean g.0) (omega arith) refl (edges_back g.0 row (omega arith) (omega arith) (sym c.rising.ensures ∙ refuted _ _ (not_from_false _ c.if-not-rising.true) refl))
+    block_stops g.1 (edges_clean g.0) (omega arith) refl (edges_back g.0 row (omega arith) (omega arith) (sym c.if-not-rising.ensures))
 
 pub loop-e-preserved : goal.loop-e-preserved
 loop-e-preserved c =
     let g = c.loop-e.invariant in
     let row = row_read 2 c.numbers_row.ensures c.in_ok-row.ensures.ok_part in
-    let rises = sym c.rising.ensures ∙ upheld _ _ (not_from_true _ c.if-not-rising.false) refl in
+    let rises = sym c.if-not-rising.ensures in
     rw (c.put-in-loop-e.ensures, c.put.ensures)
-    (edges_more g.0 row (omega arith) (omega arith) rises, lines_more g.1 row (lit< tt) (lit< tt))
+    (edges_more g.0 row (omega arith) (omega arith) rises, lines_more g.1 row c.loop-e.auto.froms c.loop-e.auto.tos (lit< tt) (lit< tt))
 
 pub returns : goal.returns
 returns c = let g = c.loop-e.invariant in block_ends g.1 (edges_clean g.0) (omega arith)

@@ -1,14 +1,12 @@
 -- `casefile::vertex_block`: what is left of the block decides as the whole does, and its lines so far stand in the tables.
 use native.Mathlib.Omega.{arith}
-use mathlib.Core.Path.{refl, sym, ◌∙◌}
+use mathlib.Core.Path.{refl, sym}
 use lib.Dec.{lit<}
-use Rattle.text.proofs.Tests.{refuted, upheld}
 use Rattle.text.proofs.Reading.{row_read, row_fault}
 use Rattle.model.specs.Refusals.{refusal_of}
 use Rattle.casefile.proofs.Exits.{none_there}
 use Rattle.casefile.proofs.Blocks.{vertices_start, vertices_clean, vertices_torn, vertices_wrong, vertices_more}
 use Rattle.casefile.proofs.Tables.{lines_start, lines_more, block_stops, block_ends}
-use Rattle.std.proofs.lemmas.Bool.{not_from_false, not_from_true}
 use Rattle.casefile.proofs.vertex_block.Goals as goal
 
 pub loop-v-init : goal.loop-v-init
@@ -26,15 +24,15 @@ unfolding refusal_of
 returns-then-not-vertex_right c =
     let g = c.loop-v.invariant in
     let row = row_read 3 c.numbers_row.ensures c.in_ok-row.ensures.ok_part in
-    block_stops g.1 (vertices_clean g.0) (omega arith) refl (vertices_wrong g.0 row (sym c.vertex_right.ensures ∙ refuted _ _ (not_from_false _ c.if-not-vertex_right.true) refl))
+    block_stops g.1 (vertices_clean g.0) (omega arith) refl (vertices_wrong g.0 row (sym c.if-not-vertex_right.ensures))
 
 pub loop-v-preserved : goal.loop-v-preserved
 loop-v-preserved c =
     let g = c.loop-v.invariant in
     let row = row_read 3 c.numbers_row.ensures c.in_ok-row.ensures.ok_part in
-    let right = sym c.vertex_right.ensures ∙ upheld _ _ (not_from_true _ c.if-not-vertex_right.false) refl in
+    let right = sym c.if-not-vertex_right.ensures in
     rw (c.put-in-loop-v.ensures, c.put.ensures)
-    (vertices_more g.0 row right, lines_more g.1 row (lit< tt) (lit< tt))
+    (vertices_more g.0 row right, lines_more g.1 row c.loop-v.auto.marks c.loop-v.auto.owners (lit< tt) (lit< tt))
 
 pub returns : goal.returns
 returns c = let g = c.loop-v.invariant in block_ends g.1 (vertices_clean g.0) (omega arith)

@@ -1,13 +1,10 @@
 -- `checker::listing::check_empty`: the names, the lines, the end, then the rule.
-use native.Mathlib.Omega.{arith}
-use mathlib.Core.Path.{refl, sym, ◌∙◌}
-use Rattle.text.proofs.Tests.{refuted, upheld}
+use mathlib.Core.Path.{refl}
 use Rattle.text.proofs.Reading.{named_read, named_other}
 use Rattle.model.specs.Answer.{empty_names}
 use Rattle.casefile.proofs.Exits.{passed_on, none_there}
 use Rattle.checker.proofs.Openings.{said, empty_unnamed, empty_lines}
 use Rattle.checker.proofs.Listings.{blank, listing_refused, empty_trailed, source_lost, empty_passes, empty_fails}
-use Rattle.std.proofs.lemmas.Bool.{not_from_false, not_from_true}
 use Rattle.checker.proofs.listing.check_empty.Goals as goal
 
 pub returns-in_err-rows : goal.returns-in_err-rows
@@ -37,12 +34,10 @@ pub returns-then-not-all_lead : goal.returns-then-not-all_lead
 returns-then-not-all_lead c =
     let named = named_read refl c.name_line.ensures c.in_ok-rows.ensures.ok_part in
     empty_lines (said c.requires.0) named
-    (empty_fails c.args.answer.now c.in_ok-rows.rows c.args.head.reached c.vertex_lines.new.numbers c.in_ok-last.ensures c.if-last-answer.false c.is_none.result c.number_of.ensures c.is_none.ensures c.if-is_none.false c.all_lead.ensures
-    (refuted _ _ (not_from_false _ c.if-not-all_lead.true) refl))
+    (empty_fails c.args.answer.now c.in_ok-rows.rows c.args.head.reached c.vertex_lines.new.numbers c.in_ok-last.ensures c.if-last-answer.false c.is_none.result c.number_of.ensures c.is_none.ensures c.if-is_none.false c.if-not-all_lead.ensures refl)
 
 pub returns : goal.returns
 returns c =
     let named = named_read refl c.name_line.ensures c.in_ok-rows.ensures.ok_part in
     empty_lines (said c.requires.0) named
-    (empty_passes c.args.answer.now c.in_ok-rows.rows c.args.head.reached c.vertex_lines.new.numbers c.in_ok-last.ensures c.if-last-answer.false c.is_none.result c.number_of.ensures c.is_none.ensures c.if-is_none.false c.all_lead.ensures
-    (upheld _ _ (not_from_true _ c.if-not-all_lead.false) refl))
+    (empty_passes c.args.answer.now c.in_ok-rows.rows c.args.head.reached c.vertex_lines.new.numbers c.in_ok-last.ensures c.if-last-answer.false c.is_none.result c.number_of.ensures c.is_none.ensures c.if-is_none.false c.if-not-all_lead.ensures refl)

@@ -1,22 +1,16 @@
 -- `checker::loops::add_loops`: the loops of the vertices before v stand behind the edges, and those of the others are to come.
-use mathlib.Core.Path.{refl, sym, ◌∙◌}
+use mathlib.Core.Path.{sym, ◌∙◌}
 use native.Mathlib.Omega.{arith}
 use Rattle.checker.proofs.RestLoops.{rests, is_start, adding_start, adding_skip, adding_loop, adding_done}
 use Rattle.checker.proofs.loops.add_loops.Goals as goal
 
 pub loop-v-init : goal.loop-v-init
-loop-v-init c = (omega arith, refl, refl, λ es e. adding_start e)
+loop-v-init c = (omega arith, λ es e. adding_start e)
 
 pub loop-v-preserved-then-cell-ne0 : goal.loop-v-preserved-then-cell-ne0
 loop-v-preserved-then-cell-ne0 c =
     let i = c.loop-v.invariant in
-    (omega (arith, i.0), i.1, i.2, λ es e. adding_skip (i.3 es e) c.loop-v-test.true (is_start e c.requires.1 _ (λ z. c.if-cell-ne0.true (c.cell.ensures ∙ z))))
-
-pub overflow_cast-v : goal.overflow_cast-v
-overflow_cast-v c = omega (arith, c.loop-v-test.true, c.requires.0.few_vertices)
-
-pub overflow_cast-v-in-loop-v : goal.overflow_cast-v-in-loop-v
-overflow_cast-v-in-loop-v c = omega (arith, c.loop-v-test.true, c.requires.0.few_vertices)
+    (omega (arith, i.0), λ es e. adding_skip (i.1 es e) c.loop-v-test.true (is_start e c.requires.1 _ (λ z. c.if-cell-ne0.true (c.cell.ensures ∙ z))))
 
 pub overflow_add-k : goal.overflow_add-k
 overflow_add-k c =
@@ -29,12 +23,10 @@ loop-v-preserved c =
     let pre = c.requires in
     let t = c.loop-v-test.true in (
       omega (arith, i.0),
-      c.put.auto.table ∙ i.1,
-      c.put-in-loop-v.auto.table ∙ i.2,
       λ es e.
-          adding_loop (i.3 es e) t (rests e pre.1 _ (omega (arith, pre.2)) (sym c.cell.ensures ∙ c.if-cell-ne0.false))
-          (omega (arith, i.0, i.1, pre.0.few_vertices, pre.0.few_edges, pre.0.from_room)) (omega (arith, i.0, i.2, pre.0.few_vertices, pre.0.few_edges, pre.0.to_room)) c.put.ensures c.put-in-loop-v.ensures,
+          adding_loop (i.1 es e) t (rests e pre.1 _ (omega (arith, pre.2)) (sym c.cell.ensures ∙ c.if-cell-ne0.false))
+          (omega (arith, i.0, c.loop-v.auto.froms, pre.0.few_vertices, pre.0.few_edges, pre.0.from_room)) (omega (arith, i.0, c.loop-v.auto.tos, pre.0.few_vertices, pre.0.few_edges, pre.0.to_room)) c.put.ensures c.put-in-loop-v.ensures,
     )
 
 pub returns : goal.returns
-returns c = λ g q e. adding_done g q (c.loop-v.invariant.3 _ e) c.loop-v-test.false
+returns c = λ g q e. adding_done g q (c.loop-v.invariant.1 _ e) c.loop-v-test.false

@@ -1,13 +1,10 @@
 -- `checker::walk::check_lasso`: the names, two walks, the end, then the rule.
-use native.Mathlib.Omega.{arith}
-use mathlib.Core.Path.{refl, sym, ◌∙◌}
-use Rattle.text.proofs.Tests.{refuted, upheld}
+use mathlib.Core.Path.{refl}
 use Rattle.text.proofs.Reading.{named_read, named_other}
 use Rattle.model.specs.Answer.{lasso_names}
 use Rattle.casefile.proofs.Exits.{passed_on, none_there}
 use Rattle.checker.proofs.Openings.{said, lasso_unnamed, lasso_lines}
 use Rattle.checker.proofs.Walks.{stem_refused, cycle_refused, lasso_trailed, lasso_passes, lasso_fails}
-use Rattle.std.proofs.lemmas.Bool.{not_from_false, not_from_true}
 use Rattle.checker.proofs.walk.check_lasso.Goals as goal
 
 pub returns-in_err-rows : goal.returns-in_err-rows
@@ -34,10 +31,10 @@ pub returns-then-not-is_lasso : goal.returns-then-not-is_lasso
 returns-then-not-is_lasso c =
     let named = named_read refl c.name_line.ensures c.in_ok-rows.ensures.ok_part in
     lasso_lines (said c.requires.0) named
-    (lasso_fails c.args.answer.now c.in_ok-rows.rows c.args.head.stem c.args.head.cycle c.in_ok-stem.ensures c.in_ok-cycle.ensures c.if-cycle-answer.false c.is_lasso.ensures (refuted _ _ (not_from_false _ c.if-not-is_lasso.true) refl))
+    (lasso_fails c.args.answer.now c.in_ok-rows.rows c.args.head.stem c.args.head.cycle c.in_ok-stem.ensures c.in_ok-cycle.ensures c.if-cycle-answer.false c.if-not-is_lasso.ensures refl)
 
 pub returns : goal.returns
 returns c =
     let named = named_read refl c.name_line.ensures c.in_ok-rows.ensures.ok_part in
     lasso_lines (said c.requires.0) named
-    (lasso_passes c.args.answer.now c.in_ok-rows.rows c.args.head.stem c.args.head.cycle c.in_ok-stem.ensures c.in_ok-cycle.ensures c.if-cycle-answer.false c.is_lasso.ensures (upheld _ _ (not_from_true _ c.if-not-is_lasso.false) refl))
+    (lasso_passes c.args.answer.now c.in_ok-rows.rows c.args.head.stem c.args.head.cycle c.in_ok-stem.ensures c.in_ok-cycle.ensures c.if-cycle-answer.false c.if-not-is_lasso.ensures refl)
