@@ -27,9 +27,10 @@ use Rattle.claim.specs.BodySays.{from_step, TitleSays, MarksSay, MarkSays}
 use Rattle.claim.specs.declared.tokens.Token.{Token}
 use Rattle.claim.specs.declared.tokens.Token.TheVariants.{Name, Header, Number, Text, Symbol, Body, End, Alias, Comment, Stray, Done}
 use Rattle.claim.specs.declared.tokens.Seen.{Seen}
+use Rattle.std.specs.List.{list_any}
+use Rattle.claim.proofs.Lexing.{eqb_turned}
 use Rattle.claim.proofs.Places.{over_blanks, stays, onto, onward}
 use Rattle.claim.specs.contracts.tokens.Token.{the_type}
-use Rattle.claim.proofs.Lexing.{part_cons, part_cut}
 use Rattle.claim.proofs.Seeing.{reads_as, goes_past, bounds_as, symbol_next, symbol_past}
 use Rattle.claim.proofs.Signs.{mark_sign, sign_is, sign_past, sign_not}
 use Rattle.claim.proofs.Held.{adds, adds_nothing, row_then, off_row, mark_off, name_off, length_off}
@@ -47,18 +48,10 @@ from_place p f e h [] = told_end p ∙ e
 from_place p f e h (t ∷ ts) = stepped p t ts (f t) (h t)
 
 -- LINE FEEDS
-module _ (s : List ℕ) (e i : ℕ) (g : e ≤ length s) where
-  pub feed_here : i < e → get_or s i 0 ≡ 10 → true ≡ member line_feed (part s i e)
-  unfolding member
-  feed_here h q = sym (rw (part_cons s e i (omega arith) h, eq-eqb 10 (get_or s i 0) (sym q)) refl)
-
-  pub feed_later : i < e → (get_or s i 0 ≡ 10 → ⊥) → member line_feed (part s i e) ≡ member line_feed (part s (i + 1) e)
-  unfolding member
-  feed_later h q = rw (part_cons s e i (omega arith) h, ne_eqb 10 (get_or s i 0) (λ z. q (sym z))) refl
-
-  pub feed_never : e ≤ i → false ≡ member line_feed (part s i e)
-  unfolding member
-  feed_never h = sym (rw (part_cut s e i h) refl)
+pub some_feed : (w : List ℕ) → list_any (λ y. eqb y 10) w ≡ member line_feed w
+unfolding member
+some_feed [] = refl
+some_feed (x ∷ w) = rw (eqb_turned x 10, some_feed w) refl
 
 -- NAMES
 module _ (s : List ℕ) (a e : ℕ) (h : a ≤ e) (g : e ≤ length s) where

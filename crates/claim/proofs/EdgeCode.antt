@@ -15,9 +15,9 @@ use Rattle.model.specs.ClaimGrammar.{Item, Edge, State, count_in, propositions_i
 use Rattle.model.specs.ClaimTable.{Line, in_lines, in_line, in_label, wants_target, edged, line_at, snoc, with_edge, Next, go, fault, is_sign, line_step, edge_step, part_step, from_label, step, ended, told, refused}
 use Rattle.model.proofs.ClaimComplete.{finish, through_label}
 use Rattle.claim.specs.Reads.{claim_tokens, starts, BlanksEnd, PastBlanks, byte_of, LabelSays, Ahead, Onward}
-use Rattle.claim.specs.LabelSays.{holds}
+use Rattle.claim.specs.LabelSays.{holds, nothing}
 use Rattle.claim.specs.HeaderSays.{WantsNumber, NumberSays}
-use Rattle.claim.specs.Cells.{set_words, set_of, Gathered, Led}
+use Rattle.claim.specs.Cells.{set_of, Gathered, Led}
 use Rattle.claim.specs.BodySays.{from_step, EdgeSays, with_edges, EdgesSay}
 use Rattle.claim.specs.declared.labels.Values.{Values}
 use Rattle.claim.proofs.HeaderCode.{told_fault, number_taken}
@@ -65,7 +65,7 @@ unfolding is_sign
 edged_marked is ls l ts = edged_told is ls l (T.symbol mark_byte) ts ∙ told_fault 16 ts
 
 -- AN EDGE
-module _ (s : List ℕ) (n k at : ℕ) (w v : List ℕ) where
+module _ (s : List ℕ) (n k at : ℕ) (w v : List Values) where
   pub edge_unlabelled : (j : Refusal) → LabelSays s k at (Err j) → EdgeSays s n k at (Err j) w v
   edge_unlabelled j said is ls l en ek = labelled (line_at is ls l) k _ _ ek said
 
@@ -124,32 +124,32 @@ no_more l = ap (λ (es : List Edge). record { number = l.number; title = l.title
 one_more : (l : State) (es : List Edge) (e : Edge) → with_edge (with_edges l es) e ≡ with_edges l (snoc es e)
 one_more l es e = ap (λ (fs : List Edge). record { number = l.number; title = l.title; marks = l.marks; edges = fs }) (append_assoc l.edges es (e ∷ []))
 
-pub record EdgesSoFar (s : List ℕ) (n k at : ℕ) (sets : List ℕ) (leads here : ℕ) : Type 0 where
+pub record EdgesSoFar (s : List ℕ) (n k at : ℕ) (sets : List Values) (leads here : ℕ) : Type 0 where
   pub so_far : List Edge
   pub goes : (is : List Item) (ls : List State) (l : State) → count_in is ≡ n → propositions_in is ≡ k → from_step (edge_step (line_at is ls l)) (claim_tokens s at) ≡ from_step (edge_step (line_at is ls (with_edges l so_far))) (claim_tokens s here)
   pub in_sets : Gathers so_far leads sets
   pub near_all : (t : ℕ) → most_states ≤ t → bit leads t ≡ false
   pub onward : Onward s at here
   pub stops : PastBlanks s here
-  pub long : length sets ≡ set_words
+  pub long : length sets ≡ most_states
 
-pub edges_begun : (s : List ℕ) (n k at here : ℕ) → BlanksEnd s T.longest_claim at here → EdgesSoFar s n k at (replicate set_words 0) 0 here
+pub edges_begun : (s : List ℕ) (n k at here : ℕ) → BlanksEnd s T.longest_claim at here → EdgesSoFar s n k at (replicate most_states nothing) 0 here
 edges_begun s n k at here b =
     record {
       so_far = [];
       goes = λ is ls l en ek. ap (λ (x : State). from_step (edge_step (line_at is ls x)) (claim_tokens s at)) (sym (no_more l)) ∙ ap (λ (ts : List T.Token). from_step (edge_step (line_at is ls (with_edges l []))) ts) b.same;
-      in_sets = gathers_none set_words;
+      in_sets = gathers_none most_states;
       near_all = λ t h. bit_zero t;
       onward = over_blanks b;
       stops = b.stops;
       long = refl;
     }
 
-module _ {s : List ℕ} {n k at : ℕ} {sets : List ℕ} {leads here : ℕ} (f : EdgesSoFar s n k at sets leads here) where
+module _ {s : List ℕ} {n k at : ℕ} {sets : List Values} {leads here : ℕ} (f : EdgesSoFar s n k at sets leads here) where
   pub edges_done : (c : ℕ) (w v : List ℕ) → (byte_of s here ≡ label_byte → ⊥) → c < most_states → Led c leads sets w v → EdgesSay s n k c at (Ok here) w v
   edges_done c w v e hc m = (f.so_far, λ is ls l en ek. f.goes is ls l en ek ∙ not_labelled is ls _ _ (sign_not s here label_byte f.stops e), λ l q. edges_add m hc s f.so_far l f.in_sets q, f.onward)
 
-  module _ (e : byte_of s here ≡ label_byte) (u : List ℕ) where
+  module _ (e : byte_of s here ≡ label_byte) (u : List Values) where
     through : (is : List Item) (ls : List State) (l : State) → count_in is ≡ n → propositions_in is ≡ k → from_step (edge_step (line_at is ls l)) (claim_tokens s at) ≡ told (go (in_label (line_at is ls (with_edges l f.so_far)) label_start)) (claim_tokens s (here + 1))
     through is ls l en ek = f.goes is ls l en ek ∙ (ap (λ (ts : List T.Token). from_step (edge_step (line_at is ls (with_edges l f.so_far))) ts) (sign_is s here label_byte label_sign e) ∙ is_labelled is ls _ _)
 

@@ -4,12 +4,13 @@ use mathlib.Core.Bool.{Bool, true, false, ◌&&◌, cond, and-false}
 use mathlib.Core.List.{List, []}
 use mathlib.Core.Option.{none}
 use Prim.Native.Nat.{ℕ, ◌+◌, ◌*◌, ◌^◌, ◌%◌, ◌<◌, ◌≤◌}
-use native.Mathlib.Nat.{le_refl, le_of_lt, one-mul, zero-add}
+use native.Mathlib.Nat.{le_refl, le_of_lt, one-mul}
 use native.Mathlib.Omega.{arith}
 use lib.Dec.{ltb, eqb}
-use lib.ListN.{length, get_or, set, length-set, get_or-eq_default}
+use lib.ListN.{take, drop, length, get_or, get_or-eq_default}
 use lib.Pow.{pow-lt, shl_exact}
-use lib.Seq.{get_or-set_same, get_or-set_other}
+use lib.Seq.{get_or-drop}
+use Rattle.std.proofs.Common.{get_or-take}
 use borrow.Author.Tests.{lt-ltb, le-ltb, eqb-true, eqb-false}
 use Rattle.text.proofs.Tests.{Same, same, other, same?}
 use Rattle.model.specs.ClaimGrammar.{state_count, start_state, proposition_names, count_in, propositions_in, most_states, most_propositions}
@@ -20,7 +21,7 @@ use Rattle.model.specs.ClaimPromise.{ClaimsRight}
 use Rattle.model.proofs.ClaimWhole.{claims_right}
 use Rattle.claim.specs.LabelSays.{most_values}
 use Rattle.claim.specs.Cells.{move_cell, ClaimHeld}
-use Rattle.claim.specs.Judging.{counts_of, judged_claim, Copied}
+use Rattle.claim.specs.Judging.{counts_of, judged_claim}
 use Rattle.claim.specs.declared.Counts.{Counts}
 use Rattle.model.proofs.Bits.{bit_zero}
 use Rattle.claim.proofs.JudgeCode.{no_claim}
@@ -30,24 +31,6 @@ use Rattle.model.specs.ClaimPromise.{ClaimsDefinite}
 use Rattle.model.proofs.ClaimDefinite.{claims_definite}
 use Rattle.std.proofs.Common.{inl, inr}
 use Rattle.model.specs.declared.refusal.Refusal.{Refusal}
-
--- A PART copied, so many cells
-pub record Copying (cells : List ℕ) (at : ℕ) (before now : List ℕ) (i : ℕ) : Type 0 where
-  pub long : length now ≡ length before
-  pub done : (j : ℕ) → j < i → get_or now j 0 ≡ get_or cells (at + j) 0
-
-pub copying_none : (cells : List ℕ) (at : ℕ) (w : List ℕ) → Copying cells at w w 0
-copying_none cells at w = record { long = refl; done = λ j h. absurd (omega (arith, h)) }
-
-pub copying_more : {cells : List ℕ} {at : ℕ} {w v : List ℕ} {i : ℕ} → Copying cells at w v i → i < length v → Copying cells at w (set v i (get_or cells (at + i) 0)) (i + 1)
-copying_more {cells} {at} {w} {v} {i} c h = record { long = length-set v i (get_or cells (at + i) 0) ∙ c.long; done = λ j g. go j g (same? j i) }
-  where
-    go : (j : ℕ) → j < i + 1 → Same j i → get_or (set v i (get_or cells (at + i) 0)) j 0 ≡ get_or cells (at + j) 0
-    go j g (same e) = subst (λ (k : ℕ). get_or (set v i (get_or cells (at + i) 0)) k 0 ≡ get_or cells (at + k) 0) (sym e) (get_or-set_same v i (get_or cells (at + i) 0) 0 h)
-    go j g (other n) = get_or-set_other v i j (get_or cells (at + i) 0) 0 n ∙ c.done j (omega (arith, g, n))
-
-pub copying_all : {cells : List ℕ} {at : ℕ} {w v : List ℕ} {i : ℕ} → Copying cells at w v i → length v ≤ i → Copied cells at v
-copying_all c h = record { same = λ j g. c.done j (omega (arith, g, h)) }
 
 -- WHAT THE JUDGE SAYS, by variant
 told_by : (bs : List ℕ) (x : Told) → claim_told bs ≡ x → (told_number x ≡ 0 → ⊥) → claim_told bs ≡ refused (told_number x)
@@ -154,19 +137,19 @@ no_counts bs k e = rw e (refl, refl, refl)
 pub record Parts (bs : List ℕ) (marks names lengths : List ℕ) : Type 0 where
   pub cells : List ℕ
   pub held : ClaimHeld bs (claim_in bs) cells
-  pub marks_of : Copied cells 0 marks
-  pub names_of : Copied cells 15 names
-  pub lengths_of : Copied cells 30 lengths
-  pub all_marks : length marks ≡ most_states
-  pub all_names : length names ≡ most_states
-  pub all_lengths : length lengths ≡ most_states
+  pub marks_of : marks ≡ take 15 cells
+  pub names_of : names ≡ take 15 (drop 15 cells)
+  pub lengths_of : lengths ≡ take 15 (drop 30 cells)
+
+part_cell : (w : List ℕ) (at i : ℕ) → i < most_states → get_or (take 15 (drop at w)) i 0 ≡ get_or w (at + i) 0
+part_cell w at i h = get_or-take 15 (drop at w) i 0 h ∙ get_or-drop at w i 0
 
 module _ (bs : List ℕ) (a b c : List ℕ) (p : Parts bs a b c) where
   marked : (i : ℕ) → i < most_states → get_or a i 0 ≡ mark_of (state (claim_in bs) i).accepting
-  marked i h = p.marks_of.same i (omega (arith, h, p.all_marks)) ∙ (ap (λ (j : ℕ). get_or p.cells j 0) (zero-add i) ∙ p.held.marks i h)
+  marked i h = ap (λ (w : List ℕ). get_or w i 0) p.marks_of ∙ (get_or-take 15 p.cells i 0 h ∙ p.held.marks i h)
 
   named : (i : ℕ) → i < most_states → NameAt bs (state (claim_in bs) i).name (get_or b i 0) (get_or c i 0)
-  named i h = rw (p.names_of.same i (omega (arith, h, p.all_names)), p.lengths_of.same i (omega (arith, h, p.all_lengths))) (p.held.names i h)
+  named i h = rw (p.names_of, p.lengths_of, part_cell p.cells 15 i h, part_cell p.cells 30 i h) (p.held.names i h)
 
   pub describes_refused : (r : Refusal) (k : ℕ) → k ≡ number r → Unread bs r → ClaimSays bs (record { refusal = k; states = 0; start = 0; propositions = 0; accepting = a; name_at = b; name_length = c })
   describes_refused r k q n =

@@ -10,17 +10,17 @@ use types.Run.{OneOf, miss}
 use denote.Enum.Declared.{tag_of}
 use lib.Dec.{ltb, leb, eqb}
 use lib.ListN.{length}
-use borrow.Author.Tests.{lt-ltb, le-ltb, ltb-true, ltb-false, leb-true, le-leb, lt-leb, eq-eqb, ne_eqb}
+use borrow.Author.Tests.{lt-ltb, le-ltb, leb-true, eq-eqb, ne_eqb}
 use Rattle.text.specs.Ascii.{ascii}
 use Rattle.text.specs.Lines.{equal}
-use Rattle.text.proofs.Tests.{and_both}
+use Rattle.text.proofs.Tests.{and_both, clash}
 use Rattle.model.specs.ClaimTokens as T
 use Rattle.model.specs.ClaimTokens.{is_name}
 use Rattle.model.specs.ClaimGrammar.{Item, states, start, acceptance, state_count, start_state, proposition_names, propositions_in, has_acceptance, below_given, item_fits, most_states}
 use Rattle.model.specs.ClaimTable.{is_sign, otherwise, wants_sets, wants_inf, wants_open, wants_set, wants_close, is_any_name, Last, whole, after_start, after_acceptance, Place, in_items, wants_count, wants_start, Next, go, fault, on_number, snoc, with_item, step, ended, told, refused}
 use Rattle.model.proofs.ClaimItems.{first_given, given_none, count_append, start_append, names_append, acceptance_append}
 use Rattle.claim.specs.Reads.{Stands, part, claim_tokens, spelt, reads_on, is_symbol_of, fault_of, Sees}
-use Rattle.claim.specs.HeaderSays.{WantsNumber, NumberSays, shown, Gives, ItemSays, StepSays, accepted, most_states_of}
+use Rattle.claim.specs.HeaderSays.{WantsNumber, NumberSays, shown, Gives, ItemSays, StepSays, accepted, most_states_of, starts_below}
 use Rattle.claim.specs.declared.tokens.Token.{Token}
 use Rattle.claim.specs.declared.tokens.Token.TheVariants.{Name, Header, Number, Text, Symbol, Body, End, Alias, Comment, Stray, Done}
 use Rattle.claim.specs.declared.tokens.Seen.{Seen}
@@ -28,7 +28,7 @@ use Rattle.claim.specs.declared.header.Given.{Given}
 use Rattle.claim.proofs.Places.{ahead}
 use Rattle.claim.specs.contracts.tokens.Token.{the_type}
 use Rattle.claim.proofs.Seeing.{symbol_is, reads_as, goes_past}
-use Rattle.std.specs.Prelude.{Result, Ok, Err}
+use Rattle.std.specs.Prelude.{is_some as given, unwrap_or, Option as Maybe, Some, None, Result, Ok, Err}
 use Rattle.model.specs.Refusals.{number}
 use Rattle.model.specs.declared.refusal.Refusal.{Refusal}
 use Rattle.model.specs.declared.refusal.Refusal.TheVariants.{ClaimGrammar, NotTaken}
@@ -101,11 +101,11 @@ module _ {is : List Item} {g : Given} (h : Gives is g) {i : Item} (p : PlainItem
   names_kept : proposition_names (snoc is i) ≡ proposition_names is
   names_kept = names_append is (i ∷ []) ∙ (ap (λ (o : Option (List (List ℕ))). first_given (proposition_names is) o) p.unnamed ∙ given_none (proposition_names is))
 
-  pub count_kept : propositions_in (snoc is i) ≡ g.count
+  pub count_kept : propositions_in (snoc is i) ≡ unwrap_or g.propositions 0
   unfolding propositions_in
   count_kept = ap (λ (o : Option (List (List ℕ))). length (get_or o [])) names_kept ∙ h.count
 
-  pub named_kept : is_some (proposition_names (snoc is i)) ≡ g.named
+  pub named_kept : is_some (proposition_names (snoc is i)) ≡ given g.propositions
   named_kept = ap (λ (o : Option (List (List ℕ))). is_some o) names_kept ∙ h.named
 
   pub acceptance_kept : has_acceptance (snoc is i) ≡ g.acceptance
@@ -120,13 +120,14 @@ with_broken : (l : Last) (is : List Item) (i : Item) (r : List T.Token) → item
 unfolding with_item
 with_broken l is i r e = rw e (told_fault 15 r)
 
-below_shown : (v n : ℕ) → below_given (shown (ltb v most_states) v) n ≡ (leb 15 v || ltb v n)
+below_shown : (o : Maybe ℕ) (n : ℕ) → below_given (shown o) n ≡ starts_below o n
 unfolding below_given
-below_shown v n = go' (ltb v most_states) refl
-  where
-    go' : (b : Bool) → ltb v most_states ≡ b → below_given (shown b v) n ≡ (leb 15 v || ltb v n)
-    go' true e = sym (rw (lt-leb 15 v (ltb-true v 15 e)) refl)
-    go' false e = sym (rw (le-leb 15 v (ltb-false v 15 e)) refl)
+below_shown (Some v) n = refl
+below_shown None n = refl
+
+shown_none : (o : Maybe ℕ) → given o ≡ false → shown o ≡ none
+shown_none (Some v) e = clash false (sym e) refl
+shown_none None e = refl
 
 -- THE COUNT OF STATES
 states_plain : (n : ℕ) → PlainItem (states n)
@@ -142,16 +143,16 @@ unfolding start_state
 states_no_start n = refl
 
 abbrev with_states : Given → ℕ → Given
-with_states g n = record { states = n; start = g.start; count = g.count; named = g.named; acceptance = g.acceptance }
+with_states g n = record { states = Some n; start = g.start; propositions = g.propositions; acceptance = g.acceptance }
 
-module _ {is : List Item} {g : Given} (h : Gives is g) (fresh : g.states ≡ 0) (n : ℕ) where
+module _ {is : List Item} {g : Given} (h : Gives is g) (fresh : given g.states ≡ false) (n : ℕ) where
   none_yet : state_count is ≡ none
-  none_yet = h.states ∙ ap (λ (v : ℕ). shown (ltb 0 v) v) fresh
+  none_yet = h.states ∙ shown_none g.states fresh
 
   gives_states : 1 ≤ n → n ≤ most_states → Gives (snoc is (states n)) (with_states g n)
   gives_states m k =
       record {
-        states = count_append is (states n ∷ []) ∙ (ap (λ (o : Option ℕ). first_given o (state_count (states n ∷ []))) none_yet ∙ (states_one n ∙ sym (ap (λ (b : Bool). shown b n) (lt-ltb 0 n (omega arith)))));
+        states = count_append is (states n ∷ []) ∙ (ap (λ (o : Option ℕ). first_given o (state_count (states n ∷ []))) none_yet ∙ states_one n);
         start = start_append is (states n ∷ []) ∙ (ap (λ (o : Option ℕ). first_given (start_state is) o) (states_no_start n) ∙ (given_none (start_state is) ∙ h.start));
         count = count_kept h (states_plain n);
         named = named_kept h (states_plain n);
@@ -160,11 +161,11 @@ module _ {is : List Item} {g : Given} (h : Gives is g) (fresh : g.states ≡ 0) 
         few_propositions = h.few_propositions;
       }
 
-  states_fit : item_fits is (states n) ≡ ((leb 1 n && leb n 15) && (leb 15 g.start || ltb g.start n))
+  states_fit : item_fits is (states n) ≡ ((leb 1 n && leb n 15) && starts_below g.start n)
   unfolding item_fits is_some
   states_fit = rw (none_yet, h.start) (ap (λ (b : Bool). (leb 1 n && leb n 15) && b) (below_shown g.start n))
 
-pub states_taken : (s : List ℕ) (at : ℕ) (g : Given) → g.states ≡ 0 → (n z : ℕ) → NumberSays s at (Ok (n, z)) → ((leb 1 n && leb n 15) && (leb 15 g.start || ltb g.start n)) ≡ true → ItemSays s wants_count whole at g (Ok (with_states g n, z))
+pub states_taken : (s : List ℕ) (at : ℕ) (g : Given) → given g.states ≡ false → (n z : ℕ) → NumberSays s at (Ok (n, z)) → ((leb 1 n && leb n 15) && starts_below g.start n) ≡ true → ItemSays s wants_count whole at g (Ok (with_states g n, z))
 states_taken s at g fresh n z a t = go' a
   where
     ranged : (leb 1 n ≡ true) × (leb n 15 ≡ true)
@@ -176,7 +177,7 @@ states_taken s at g fresh n z a t = go' a
         taken : (is : List Item) → Gives is g → told (with_item whole is (states n)) (claim_tokens s z) ≡ told (go (in_items whole (snoc is (states n)))) (claim_tokens s z)
         taken is h = with_taken whole is (states n) _ (states_fit h fresh n ∙ t)
 
-pub states_broken : (s : List ℕ) (at : ℕ) (g : Given) → g.states ≡ 0 → (n z : ℕ) → NumberSays s at (Ok (n, z)) → ((leb 1 n && leb n 15) && (leb 15 g.start || ltb g.start n)) ≡ false → ItemSays s wants_count whole at g (Err ClaimGrammar)
+pub states_broken : (s : List ℕ) (at : ℕ) (g : Given) → given g.states ≡ false → (n z : ℕ) → NumberSays s at (Ok (n, z)) → ((leb 1 n && leb n 15) && starts_below g.start n) ≡ false → ItemSays s wants_count whole at g (Err ClaimGrammar)
 states_broken s at g fresh n z (e, past) t is h = ap (λ (ts : List T.Token). told (go (wants_count is)) ts) e ∙ (number_taken (count_wants is) n _ ∙ with_broken whole is (states n) _ (states_fit h fresh n ∙ t))
 
 pub states_none : (s : List ℕ) (at : ℕ) (g : Given) (j : Refusal) → NumberSays s at (Err j) → ItemSays s wants_count whole at g (Err j)
@@ -196,28 +197,25 @@ unfolding state_count
 start_no_count n = refl
 
 abbrev with_start : Given → ℕ → Given
-with_start g n = record { states = g.states; start = n; count = g.count; named = g.named; acceptance = g.acceptance }
+with_start g n = record { states = g.states; start = Some n; propositions = g.propositions; acceptance = g.acceptance }
 
-below_most : (g : Given) (n m : ℕ) → g.states ≤ 15 → m ≡ most_states_of g → n < m → n < 15
-below_most g n m k e h = go' (ltb 0 g.states) e
-  where
-    go' : (b : Bool) → m ≡ cond b g.states most_states → n < 15
-    go' true q = omega arith
-    go' false q = omega arith
+below_most : (o : Maybe ℕ) (n m : ℕ) → unwrap_or o 0 ≤ 15 → m ≡ unwrap_or o most_states → n < m → n < 15
+below_most (Some v) n m k e h = omega (arith, k, e, h)
+below_most None n m k e h = omega (arith, e, h)
 
-most_shown : (b : Bool) (v : ℕ) → get_or (shown b v) most_states ≡ cond b v most_states
-most_shown true v = refl
-most_shown false v = refl
+most_shown : (o : Maybe ℕ) → get_or (shown o) most_states ≡ unwrap_or o most_states
+most_shown (Some v) = refl
+most_shown None = refl
 
-module _ {is : List Item} {g : Given} (h : Gives is g) (fresh : most_states ≤ g.start) (n : ℕ) where
+module _ {is : List Item} {g : Given} (h : Gives is g) (fresh : given g.start ≡ false) (n : ℕ) where
   no_start_yet : start_state is ≡ none
-  no_start_yet = h.start ∙ ap (λ (b : Bool). shown b g.start) (le-ltb g.start most_states fresh)
+  no_start_yet = h.start ∙ shown_none g.start fresh
 
   gives_start : n < 15 → Gives (snoc is (start n)) (with_start g n)
   gives_start m =
       record {
         states = count_append is (start n ∷ []) ∙ (ap (λ (o : Option ℕ). first_given (state_count is) o) (start_no_count n) ∙ (given_none (state_count is) ∙ h.states));
-        start = start_append is (start n ∷ []) ∙ (ap (λ (o : Option ℕ). first_given o (start_state (start n ∷ []))) no_start_yet ∙ (start_one n ∙ sym (ap (λ (b : Bool). shown b n) (lt-ltb n 15 m))));
+        start = start_append is (start n ∷ []) ∙ (ap (λ (o : Option ℕ). first_given o (start_state (start n ∷ []))) no_start_yet ∙ start_one n);
         count = count_kept h (start_plain n);
         named = named_kept h (start_plain n);
         acceptance = acceptance_kept h (start_plain n);
@@ -227,18 +225,18 @@ module _ {is : List Item} {g : Given} (h : Gives is g) (fresh : most_states ≤ 
 
   start_fit : item_fits is (start n) ≡ ltb n (most_states_of g)
   unfolding item_fits is_some
-  start_fit = rw (no_start_yet, h.states) (ap (λ (m : ℕ). ltb n m) (most_shown (ltb 0 g.states) g.states))
+  start_fit = rw (no_start_yet, h.states) (ap (λ (m : ℕ). ltb n m) (most_shown g.states))
 
-pub start_taken : (s : List ℕ) (at : ℕ) (g : Given) → most_states ≤ g.start → (n z : ℕ) → NumberSays s at (Ok (n, z)) → (m : ℕ) → m ≡ most_states_of g → n < m → ItemSays s wants_start after_start at g (Ok (with_start g n, z))
+pub start_taken : (s : List ℕ) (at : ℕ) (g : Given) → given g.start ≡ false → (n z : ℕ) → NumberSays s at (Ok (n, z)) → (m : ℕ) → m ≡ most_states_of g → n < m → ItemSays s wants_start after_start at g (Ok (with_start g n, z))
 start_taken s at g fresh n z a m e t = go' a
   where
     taken : (is : List Item) → Gives is g → told (with_item after_start is (start n)) (claim_tokens s z) ≡ told (go (in_items after_start (snoc is (start n)))) (claim_tokens s z)
     taken is h = with_taken after_start is (start n) _ (start_fit h fresh n ∙ lt-ltb n (most_states_of g) (subst (λ (k : ℕ). n < k) e t))
 
     go' : NumberSays s at (Ok (n, z)) → ItemSays s wants_start after_start at g (Ok (with_start g n, z))
-    go' (b, past) = (λ is h. (snoc is (start n), gives_start h fresh n (below_most g n m h.few_states e t), ap (λ (ts : List T.Token). told (go (wants_start is)) ts) b ∙ (number_taken (start_wants is) n _ ∙ taken is h)), past)
+    go' (b, past) = (λ is h. (snoc is (start n), gives_start h fresh n (below_most g.states n m h.few_states e t), ap (λ (ts : List T.Token). told (go (wants_start is)) ts) b ∙ (number_taken (start_wants is) n _ ∙ taken is h)), past)
 
-pub start_broken : (s : List ℕ) (at : ℕ) (g : Given) → most_states ≤ g.start → (n z : ℕ) → NumberSays s at (Ok (n, z)) → (m : ℕ) → m ≡ most_states_of g → m ≤ n → ItemSays s wants_start after_start at g (Err ClaimGrammar)
+pub start_broken : (s : List ℕ) (at : ℕ) (g : Given) → given g.start ≡ false → (n z : ℕ) → NumberSays s at (Ok (n, z)) → (m : ℕ) → m ≡ most_states_of g → m ≤ n → ItemSays s wants_start after_start at g (Err ClaimGrammar)
 start_broken s at g fresh n z (b, past) m e t is h = ap (λ (ts : List T.Token). told (go (wants_start is)) ts) b ∙ (number_taken (start_wants is) n _ ∙ with_broken after_start is (start n) _ (start_fit h fresh n ∙ le-ltb n (most_states_of g) (subst (λ (k : ℕ). k ≤ n) e t)))
 
 pub start_none : (s : List ℕ) (at : ℕ) (g : Given) (j : Refusal) → NumberSays s at (Err j) → ItemSays s wants_start after_start at g (Err j)
@@ -410,7 +408,7 @@ sets_none s at j a is = a (wants_sets is) _ (sets_wants is)
 
 -- the item
 abbrev with_acceptance : Given → Given
-with_acceptance g = record { states = g.states; start = g.start; count = g.count; named = g.named; acceptance = true }
+with_acceptance g = record { states = g.states; start = g.start; propositions = g.propositions; acceptance = true }
 
 acceptance_gives : (state_count (acceptance ∷ []) ≡ none) × (start_state (acceptance ∷ []) ≡ none) × (proposition_names (acceptance ∷ []) ≡ none) × (has_acceptance (acceptance ∷ []) ≡ true)
 unfolding state_count start_state proposition_names has_acceptance
@@ -424,7 +422,7 @@ module _ {is : List Item} {g : Given} (h : Gives is g) where
   acceptance_names : proposition_names (snoc is acceptance) ≡ proposition_names is
   acceptance_names = names_append is (acceptance ∷ []) ∙ (ap (λ (o : Option (List (List ℕ))). first_given (proposition_names is) o) acceptance_gives.2 ∙ given_none (proposition_names is))
 
-  acceptance_count : propositions_in (snoc is acceptance) ≡ g.count
+  acceptance_count : propositions_in (snoc is acceptance) ≡ unwrap_or g.propositions 0
   unfolding propositions_in
   acceptance_count = ap (λ (o : Option (List (List ℕ))). length (get_or o [])) acceptance_names ∙ h.count
 

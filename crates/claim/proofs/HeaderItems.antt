@@ -27,7 +27,7 @@ use Rattle.claim.proofs.Places.{stays, onto, onward, ahead_onward}
 use Rattle.claim.specs.contracts.tokens.Token.{the_type}
 use Rattle.claim.proofs.Seeing.{reads_as, goes_past}
 use Rattle.claim.proofs.HeaderCode.{told_end, told_fault, stepped, refuses, number_taken}
-use Rattle.std.specs.Prelude.{Ok, Err}
+use Rattle.std.specs.Prelude.{is_some as given, Some, Ok, Err}
 use Rattle.model.specs.Refusals.{number}
 use Rattle.model.specs.declared.refusal.Refusal.{Refusal}
 use Rattle.model.specs.declared.refusal.Refusal.TheVariants.{ClaimGrammar}
@@ -102,7 +102,7 @@ module _ {s : List ℕ} {at k left here : ℕ} (a : NamesSoFar s at k left here)
 
 -- PROPOSITIONS: what the item gives
 abbrev with_names : Given → ℕ → Given
-with_names g k = record { states = g.states; start = g.start; count = k; named = true; acceptance = g.acceptance }
+with_names g k = record { states = g.states; start = g.start; propositions = Some k; acceptance = g.acceptance }
 
 names_gives : (ns : List (List ℕ)) → (state_count (propositions ns ∷ []) ≡ none) × (start_state (propositions ns ∷ []) ≡ none) × (proposition_names (propositions ns ∷ []) ≡ some ns) × (has_acceptance (propositions ns ∷ []) ≡ false)
 unfolding state_count start_state proposition_names has_acceptance
@@ -117,7 +117,7 @@ is_some_some : (ns : List (List ℕ)) → is_some (some ns) ≡ true
 unfolding is_some
 is_some_some ns = refl
 
-module _ {is : List Item} {g : Given} (h : Gives is g) (fresh : g.named ≡ false) (ns : List (List ℕ)) where
+module _ {is : List Item} {g : Given} (h : Gives is g) (fresh : given g.propositions ≡ false) (ns : List (List ℕ)) where
   names_now : proposition_names (snoc is (propositions ns)) ≡ some ns
   names_now = names_append is (propositions ns ∷ []) ∙ (ap (λ (o : Option (List (List ℕ))). first_given o (proposition_names (propositions ns ∷ []))) (unnamed (proposition_names is) (h.named ∙ fresh)) ∙ (names_gives ns).2)
 
@@ -137,7 +137,7 @@ module _ {is : List Item} {g : Given} (h : Gives is g) (fresh : g.named ≡ fals
         few_propositions = f;
       }
 
-pub names_read : {s : List ℕ} {at k left here : ℕ} → NamesSoFar s at k left here → left ≤ 0 → (g : Given) → g.named ≡ false → k ≤ most_propositions → ItemOn s (λ is. go (named is k [])) whole at g (Ok (with_names g k, here))
+pub names_read : {s : List ℕ} {at k left here : ℕ} → NamesSoFar s at k left here → left ≤ 0 → (g : Given) → given g.propositions ≡ false → k ≤ most_propositions → ItemOn s (λ is. go (named is k [])) whole at g (Ok (with_names g k, here))
 names_read {s} {at} {k} {left} {here} a h g fresh few = (λ is x. (snoc is (propositions a.names), gives_names x fresh a.names k (omega (arith, h, a.counted)) few, a.same is ∙ ap (λ (p : Place). told (go p) (claim_tokens s here)) (named_none is left a.names h)), a.past)
 
 propositions_wants : (is : List Item) → WantsNumber (wants_propositions is) (λ k. cond (leb k most_propositions) (go (named is k [])) (fault 15))

@@ -3,27 +3,27 @@ use Rattle.model.specs.Run.{is_some}
 use mathlib.Core.Path.{◌≡◌, refl, sym, ap, subst, ◌∙◌}
 use mathlib.Core.Bool.{Bool, true, false, ◌&&◌, ◌||◌, cond}
 use mathlib.Core.List.{List, [], ◌∷◌}
-use mathlib.Core.Option.{Option, none}
+use mathlib.Core.Option.{Option, none, get_or as get_some}
 use Prim.Native.Nat.{ℕ, ◌≤◌, ◌<◌}
 use native.Mathlib.Omega.{arith}
 use types.Run.{OneOf, miss}
 use denote.Enum.Declared.{tag_of}
-use lib.Dec.{ltb, leb}
+use lib.Dec.{leb}
 use lib.ListN.{length, get_or}
-use borrow.Author.Tests.{lt-ltb, le-ltb}
 use Rattle.text.specs.Ascii.{ascii}
 use Rattle.text.specs.Lines.{equal}
 use Rattle.model.specs.ClaimTokens as T
-use Rattle.model.specs.ClaimGrammar.{Item, skipped, state_count, start_state, proposition_names, propositions_in, has_acceptance, header_whole, small_first, most_states}
+use Rattle.model.specs.ClaimGrammar.{Item, count_in, skipped, state_count, start_state, proposition_names, propositions_in, has_acceptance, header_whole, small_first, most_states}
 use Rattle.model.specs.ClaimTable.{is_sign, Last, whole, after_start, after_acceptance, Place, in_items, in_lines, wants_count, wants_start, wants_propositions, wants_sets, go, fault, snoc, unless, capital_first, on_header, header_step, step, ended, told, refused}
 use Rattle.model.proofs.ClaimItems.{first_given, given_none, count_append, start_append}
 use Rattle.model.proofs.ClaimComplete.{small_not}
 use Rattle.claim.specs.Reads.{part, claim_tokens, spelt, is_symbol_of, fault_of, starts, Sees, Ahead}
-use Rattle.claim.specs.HeaderSays.{shown, Gives, ItemSays, ItemOn, Skips, kind_of, on_kind, on_name, last_of, KindSays, continues, no_item, items_end, HeaderSays}
+use Rattle.claim.specs.HeaderSays.{shown, Gives, ItemSays, ItemOn, Skips, kind_of, on_kind, on_name, last_of, KindSays, continues, no_item, items_end, HeaderSays, counted, counts_by, placed}
 use Rattle.claim.specs.Reads.{Onward}
 use Rattle.claim.specs.declared.tokens.Token.{Token}
 use Rattle.claim.specs.declared.tokens.Token.TheVariants.{Name, Header, Number, Text, Symbol, Body, End, Alias, Comment, Stray, Done}
 use Rattle.claim.specs.declared.tokens.Seen.{Seen}
+use Rattle.claim.specs.declared.Counts.{Counts}
 use Rattle.claim.specs.declared.header.Given.{Given}
 use Rattle.claim.specs.declared.header.Kind.{Kind}
 use Rattle.claim.specs.declared.header.Kind.TheVariants.{States, Start, Propositions, Acceptance, Skipped}
@@ -34,7 +34,7 @@ use Rattle.claim.proofs.Lexing.{part_cons, part_past, part_cut}
 use Rattle.claim.proofs.Seeing.{reads_as, goes_past, ends_as, starts_as}
 use Rattle.claim.proofs.HeaderCode.{told_end, told_fault, stepped, refuses, PlainItem, count_kept, named_kept, acceptance_kept}
 use Rattle.model.specs.ClaimLabels.{and_byte, or_byte}
-use Rattle.std.specs.Prelude.{Result, Ok, Err}
+use Rattle.std.specs.Prelude.{is_some as given, unwrap_or, Option as Maybe, Some, None, Result, Ok, Err}
 use Rattle.model.specs.Refusals.{number}
 use Rattle.model.specs.declared.refusal.Refusal.{Refusal}
 use Rattle.model.specs.declared.refusal.Refusal.TheVariants.{ClaimGrammar, NotTaken}
@@ -100,21 +100,32 @@ module _ (s : List ℕ) (at : ℕ) (g : Given) (p : List Item → Place) (l : La
   second_one : ((is : List Item) → Gives is g → given is ≡ true) → ItemOn s (λ is. unless (given is) (number k) (p is)) l at g (Err k)
   second_one f is i = unless_told (given is) (number k) (p is) _ ∙ rw (f is i) refl
 
-some_shown : (b : Bool) (v : ℕ) → is_some (shown b v) ≡ b
+some_shown : (o : Maybe ℕ) → is_some (shown o) ≡ given o
 unfolding is_some
-some_shown true v = refl
-some_shown false v = refl
+some_shown (Some v) = refl
+some_shown None = refl
+
+shown_or : (o : Maybe ℕ) → get_some (shown o) 0 ≡ unwrap_or o 0
+shown_or (Some v) = refl
+shown_or None = refl
 
 module _ {is : List Item} {g : Given} (h : Gives is g) where
-  states_given : is_some (state_count is) ≡ ltb 0 g.states
-  states_given = ap (λ (o : Option ℕ). is_some o) h.states ∙ some_shown (ltb 0 g.states) g.states
+  states_given : is_some (state_count is) ≡ given g.states
+  states_given = ap (λ (o : Option ℕ). is_some o) h.states ∙ some_shown g.states
 
-  start_given : is_some (start_state is) ≡ ltb g.start most_states
-  start_given = ap (λ (o : Option ℕ). is_some o) h.start ∙ some_shown (ltb g.start most_states) g.start
+  start_given : is_some (start_state is) ≡ given g.start
+  start_given = ap (λ (o : Option ℕ). is_some o) h.start ∙ some_shown g.start
 
-  whole_given : header_whole is ≡ ((ltb 0 g.states && ltb g.start most_states) && g.acceptance)
+  whole_given : header_whole is ≡ ((given g.states && given g.start) && g.acceptance)
   unfolding header_whole
   whole_given = rw (states_given, start_given, h.acceptance) refl
+
+  count_given : count_in is ≡ unwrap_or g.states 0
+  unfolding count_in
+  count_given = ap (λ (o : Option ℕ). get_some o 0) h.states ∙ shown_or g.states
+
+  first_given_start : get_some (start_state is) 0 ≡ unwrap_or g.start 0
+  first_given_start = ap (λ (o : Option ℕ). get_some o 0) h.start ∙ shown_or g.start
 
 skipped_plain : (w : List ℕ) (ts : List T.Token) → PlainItem (skipped w ts)
 unfolding proposition_names has_acceptance
@@ -141,22 +152,22 @@ module _ (s : List ℕ) (k : Kind) (at : ℕ) (g : Given) where
   of_kind : (i : Kind) → k ≡ i → (x : Parsed Given) → KindSays s i at g x → KindSays s k at g x
   of_kind i q x a = subst (λ (j : Kind). KindSays s j at g x) (sym q) a
 
-  pub states_first : k ≡ States → g.states ≤ 0 → (x : Parsed Given) → ItemSays s wants_count whole at g x → KindSays s k at g x
-  states_first q e x a = of_kind States q x (λ w. first_one s at g wants_count whole (λ is. is_some (state_count is)) ClaimGrammar (λ is i. states_given i ∙ le-ltb 0 g.states e) x a)
+  pub states_first : k ≡ States → given g.states ≡ false → (x : Parsed Given) → ItemSays s wants_count whole at g x → KindSays s k at g x
+  states_first q e x a = of_kind States q x (λ w. first_one s at g wants_count whole (λ is. is_some (state_count is)) ClaimGrammar (λ is i. states_given i ∙ e) x a)
 
-  pub states_again : k ≡ States → 0 < g.states → KindSays s k at g (Err ClaimGrammar)
-  states_again q e = of_kind States q (Err ClaimGrammar) (λ w. second_one s at g wants_count whole (λ is. is_some (state_count is)) ClaimGrammar (λ is i. states_given i ∙ lt-ltb 0 g.states e))
+  pub states_again : k ≡ States → given g.states ≡ true → KindSays s k at g (Err ClaimGrammar)
+  states_again q e = of_kind States q (Err ClaimGrammar) (λ w. second_one s at g wants_count whole (λ is. is_some (state_count is)) ClaimGrammar (λ is i. states_given i ∙ e))
 
-  pub start_first : k ≡ Start → most_states ≤ g.start → (x : Parsed Given) → ItemSays s wants_start after_start at g x → KindSays s k at g x
-  start_first q e x a = of_kind Start q x (λ w. first_one s at g wants_start after_start (λ is. is_some (start_state is)) NotTaken (λ is i. start_given i ∙ le-ltb g.start most_states e) x a)
+  pub start_first : k ≡ Start → given g.start ≡ false → (x : Parsed Given) → ItemSays s wants_start after_start at g x → KindSays s k at g x
+  start_first q e x a = of_kind Start q x (λ w. first_one s at g wants_start after_start (λ is. is_some (start_state is)) NotTaken (λ is i. start_given i ∙ e) x a)
 
-  pub start_again : k ≡ Start → g.start < most_states → KindSays s k at g (Err NotTaken)
-  start_again q e = of_kind Start q (Err NotTaken) (λ w. second_one s at g wants_start after_start (λ is. is_some (start_state is)) NotTaken (λ is i. start_given i ∙ lt-ltb g.start most_states e))
+  pub start_again : k ≡ Start → given g.start ≡ true → KindSays s k at g (Err NotTaken)
+  start_again q e = of_kind Start q (Err NotTaken) (λ w. second_one s at g wants_start after_start (λ is. is_some (start_state is)) NotTaken (λ is i. start_given i ∙ e))
 
-  pub propositions_first : k ≡ Propositions → g.named ≡ false → (x : Parsed Given) → ItemSays s wants_propositions whole at g x → KindSays s k at g x
+  pub propositions_first : k ≡ Propositions → given g.propositions ≡ false → (x : Parsed Given) → ItemSays s wants_propositions whole at g x → KindSays s k at g x
   propositions_first q e x a = of_kind Propositions q x (λ w. first_one s at g wants_propositions whole (λ is. is_some (proposition_names is)) ClaimGrammar (λ is i. i.named ∙ e) x a)
 
-  pub propositions_again : k ≡ Propositions → g.named ≡ true → KindSays s k at g (Err ClaimGrammar)
+  pub propositions_again : k ≡ Propositions → given g.propositions ≡ true → KindSays s k at g (Err ClaimGrammar)
   propositions_again q e = of_kind Propositions q (Err ClaimGrammar) (λ w. second_one s at g wants_propositions whole (λ is. is_some (proposition_names is)) ClaimGrammar (λ is i. i.named ∙ e))
 
   pub acceptance_first : k ≡ Acceptance → g.acceptance ≡ false → (x : Parsed Given) → ItemSays s wants_sets after_acceptance at g x → KindSays s k at g x
@@ -191,8 +202,8 @@ abbrev but_body : List ℕ
 but_body = 0 ∷ 1 ∷ 2 ∷ 3 ∷ 4 ∷ 6 ∷ 7 ∷ 8 ∷ 9 ∷ 10 ∷ []
 
 module _ (n : ℕ) (g : Given) (l : Kind) where
-  pub body_is : (t : Token) → t ≡ Body → (b : Bool) → ((ltb 0 g.states && ltb g.start most_states) && g.acceptance) ≡ b → cond b (Ok (g, n)) (Err ClaimGrammar) ≡ items_end t n g l
-  body_is t q b e = sym (ap (λ (u : Token). items_end u n g l) q ∙ ap (λ (x : Bool). cond x (Ok (g, n)) (Err ClaimGrammar)) e)
+  pub body_is : (t : Token) → t ≡ Body → (x : Result Counts Refusal) → x ≡ counted g → placed n x ≡ items_end t n g l
+  body_is t q x e = ap (placed n) e ∙ sym (ap (λ (u : Token). items_end u n g l) q)
 
   pub body_not : (t : Token) → OneOf but_body (tag_of the_type t) → (b : Bool) → b ≡ continues l t → Err (cond b NotTaken (fault_of t)) ≡ items_end t n g l
   body_not Body h b e = absurd (miss but_body 5 tt h)
@@ -243,7 +254,7 @@ pub record ItemsSoFar (s : List ℕ) (at : ℕ) (g : Given) (last : Kind) (here 
   pub past : Onward s at here
 
 abbrev nothing_yet : Given
-nothing_yet = record { states = 0; start = most_states; count = 0; named = false; acceptance = false }
+nothing_yet = record { states = None; start = None; propositions = None; acceptance = false }
 
 gives_nothing : Gives [] nothing_yet
 unfolding state_count start_state proposition_names propositions_in has_acceptance is_some
@@ -297,8 +308,8 @@ module _ {s : List ℕ} {at : ℕ} {g : Given} {l : Kind} {here : ℕ} (a : Item
       items_broken j c = kind_told b e q (Ok k) o ∙ c (part s b e) a.items a.gives
 
   -- the body
-  body_ended : r.token ≡ Body → (b : Bool) → ((ltb 0 g.states && ltb g.start most_states) && g.acceptance) ≡ b → HeaderSays s at (cond b (Ok (g, r.next)) (Err ClaimGrammar))
-  body_ended q b e = go' b (whole_given a.gives ∙ e)
+  body_ended : r.token ≡ Body → HeaderSays s at (placed r.next (counted g))
+  body_ended q = go' g.states g.start g.acceptance refl refl refl
     where
       body_next : told (go (in_items whole [])) (claim_tokens s at) ≡ told (go (in_items whole a.items)) (T.body_mark ∷ claim_tokens s r.next)
       body_next = whole_told (ap (λ (t : Token). is_symbol_of t and_byte) q) (ap (λ (t : Token). is_symbol_of t or_byte) q) ∙ ap (λ (ts : List T.Token). told (go (in_items whole a.items)) ts) (reads_as n Body q refl)
@@ -306,9 +317,30 @@ module _ {s : List ℕ} {at : ℕ} {g : Given} {l : Kind} {here : ℕ} (a : Item
       past : Ahead s here r.next
       past = goes_past n Body q refl
 
-      go' : (b : Bool) → header_whole a.items ≡ b → HeaderSays s at (cond b (Ok (g, r.next)) (Err ClaimGrammar))
-      go' true w = (a.items, a.gives, w, body_next ∙ body_told a.items _ true w, record { more = omega (arith, past.more, a.past.more); inside = past.inside })
-      go' false w = body_next ∙ (body_told a.items _ false w ∙ told_fault 15 _)
+      torn : header_whole a.items ≡ false → HeaderSays s at (Err ClaimGrammar)
+      torn w = body_next ∙ (body_told a.items _ false w ∙ told_fault 15 _)
+
+      whole_by : (n v : Maybe ℕ) (b : Bool) → g.states ≡ n → g.start ≡ v → g.acceptance ≡ b → header_whole a.items ≡ ((given n && given v) && b)
+      whole_by n v b e f h = whole_given a.gives ∙ rw (e, f, h) refl
+
+      go' : (n v : Maybe ℕ) (b : Bool) → g.states ≡ n → g.start ≡ v → g.acceptance ≡ b → HeaderSays s at (placed r.next (counts_by n v g.propositions b))
+      go' (Some n) (Some v) true e f h =
+          let w = whole_by (Some n) (Some v) true e f h in (
+            a.items,
+            record {
+              states = count_given a.gives ∙ ap (λ (o : Maybe ℕ). unwrap_or o 0) e;
+              start = first_given_start a.gives ∙ ap (λ (o : Maybe ℕ). unwrap_or o 0) f;
+              propositions = a.gives.count;
+              few_states = subst (λ (o : Maybe ℕ). unwrap_or o 0 ≤ most_states) e a.gives.few_states;
+              few_propositions = a.gives.few_propositions;
+            },
+            w,
+            body_next ∙ body_told a.items _ true w,
+            record { more = omega (arith, past.more, a.past.more); inside = past.inside },
+          )
+      go' (Some n) (Some v) false e f h = torn (whole_by (Some n) (Some v) false e f h)
+      go' (Some n) None b e f h = torn (whole_by (Some n) None b e f h)
+      go' None v b e f h = torn (whole_by None v b e f h)
 
   -- neither
   other_ended : (t : Token) → r.token ≡ t → told (go (in_items whole a.items)) (spelt s t n.rest) ≡ refused (number (fault_of t)) → HeaderSays s at (no_item l t)
@@ -321,7 +353,7 @@ module _ {s : List ℕ} {at : ℕ} {g : Given} {l : Kind} {here : ℕ} (a : Item
   ended_by : (t : Token) → r.token ≡ t → OneOf but_header (tag_of the_type t) → HeaderSays s at (items_end t r.next g l)
   unfolding step header_step ended
   ended_by (Header b e) q h = absurd (miss but_header 1 tt h)
-  ended_by Body q h = body_ended q _ refl
+  ended_by Body q h = body_ended q
   ended_by (Name b e) q h = other_ended _ q (refuses (in_items whole a.items) _ _ 15 refl)
   ended_by (Number v) q h = other_ended _ q (refuses (in_items whole a.items) _ _ 15 refl)
   ended_by (Text b e) q h = other_ended _ q (refuses (in_items whole a.items) _ _ 15 refl)
@@ -332,5 +364,5 @@ module _ {s : List ℕ} {at : ℕ} {g : Given} {l : Kind} {here : ℕ} (a : Item
   ended_by Stray q h = other_ended _ q (refuses (in_items whole a.items) _ _ 15 refl)
   ended_by Done q h = other_ended _ q (told_end (in_items whole a.items))
 
-  pub items_ended : OneOf but_header (tag_of the_type r.token) → (x : Parsed Given) → x ≡ items_end r.token r.next g l → HeaderSays s at x
-  items_ended h x e = subst (λ (y : Parsed Given). HeaderSays s at y) (sym e) (ended_by r.token refl h)
+  pub items_ended : OneOf but_header (tag_of the_type r.token) → (x : Parsed Counts) → x ≡ items_end r.token r.next g l → HeaderSays s at x
+  items_ended h x e = subst (λ (y : Parsed Counts). HeaderSays s at y) (sym e) (ended_by r.token refl h)

@@ -1,37 +1,32 @@
 -- How the reader of a whole claim in src/lib.rt meets its contract: a law for each return. Assumes nothing.
 use mathlib.Core.Path.{◌≡◌, refl, sym, ap, subst, ◌∙◌}
-use mathlib.Core.Bool.{Bool, true, false, ◌&&◌}
+use mathlib.Core.Bool.{Bool, true, false}
 use mathlib.Core.List.{List, [], ◌∷◌, ◌++◌}
-use mathlib.Core.Option
-use mathlib.Core.Option.{Option}
 use Prim.Native.Nat.{ℕ, ◌+◌, ◌-◌, ◌<◌, ◌≤◌}
 use native.Mathlib.Nat.{sub-zero}
 use native.Mathlib.Omega.{arith}
-use lib.Dec.{ltb}
 use lib.ListN.{length, get_or, take, drop, replicate, length-replicate, get_or-append}
 use lib.Seq.{length-take-le, get_or-take, get_or-drop, get_or-append-add, ext_get_or}
-use borrow.Author.Tests.{ltb-false, ne_eqb}
+use borrow.Author.Tests.{ne_eqb}
 use Rattle.text.specs.Ascii.{ascii}
 use Rattle.text.specs.Lines.{equal}
-use Rattle.text.proofs.Tests.{and_both, clash}
-use Rattle.model.specs.Run.{is_some}
+use Rattle.text.proofs.Tests.{clash}
 use Rattle.model.specs.ClaimTokens as T
 use Rattle.model.specs.ClaimTokens.{lex, tokens, is_header, is_name, opens_so, opens}
 use Rattle.model.specs.ClaimLabels.{bit}
-use Rattle.model.specs.ClaimGrammar.{Item, State, Syntax, state_count, start_state, has_acceptance, count_in, header_whole, taken, most_states}
+use Rattle.model.specs.ClaimGrammar.{State, Syntax, state_count, count_in, taken}
 use Rattle.model.specs.ClaimTable.{opening, in_items, in_lines, whole, go, step, Told, told, taken_as, refused, refusal_of as told_number, claim_told, claim_refusal}
 use Rattle.model.specs.Claim.{Claim, ClaimState, state, some_edge, some_target, claim_moves, claim_leads, is_marked, edges_of, state_of_line, line_of, states_from, claim_of, tree_of, claim_in}
 use Rattle.model.specs.ClaimEntry.{mark_of, NameAt}
 use Rattle.model.proofs.Tools.{getD_replicate_same}
 use Rattle.model.proofs.ClaimDefinite.{refused_some}
 use Rattle.model.proofs.ClaimGood.{told_taken}
-use Rattle.model.proofs.ClaimSound.{state_is_line, length_states, whole_header}
+use Rattle.model.proofs.ClaimSound.{state_is_line, length_states}
 use Rattle.claim.specs.Reads.{tokens_at, claim_tokens}
-use Rattle.claim.specs.HeaderSays.{shown, Gives, HeaderSays}
+use Rattle.claim.specs.HeaderSays.{HeaderSays}
 use Rattle.claim.specs.Cells.{name_cell, length_cell, lead_cell, move_cell, claim_cells, LinesHeld, ClaimHeld}
 use Rattle.claim.specs.BodySays.{BodySays}
 use Rattle.claim.specs.Judging.{OpeningSays, TreeRead, TextRead, counts_of, judged_claim, IntoSays, ClaimRead}
-use Rattle.claim.specs.declared.header.Given.{Given}
 use Rattle.claim.specs.declared.Counts.{Counts}
 use Rattle.model.proofs.Bits.{bit_zero}
 use Rattle.std.specs.Prelude.{is_err, IsErr, Result, Ok, Err}
@@ -73,29 +68,6 @@ past_opening : (ts : List T.Token) → told (go opening) (T.header (ascii "HOA")
 unfolding told step is_header is_name equal
 past_opening ts = refl
 
--- WHAT THE HEADER GIVES, as numbers
-shown_count : (v : ℕ) → Option.get_or (shown (ltb 0 v) v) 0 ≡ v
-shown_count v = pick (ltb 0 v) refl
-  where
-    pick : (b : Bool) → ltb 0 v ≡ b → Option.get_or (shown b v) 0 ≡ v
-    pick true e = refl
-    pick false e = omega (arith, ltb-false 0 v e)
-
-count_by : {is : List Item} {g : Given} → Gives is g → count_in is ≡ g.states
-unfolding count_in
-count_by {is} {g} h = ap (λ (o : Option ℕ). Option.get_or o 0) h.states ∙ shown_count g.states
-
-shown_start : (v : ℕ) → is_some (shown (ltb v most_states) v) ≡ true → Option.get_or (shown (ltb v most_states) v) 0 ≡ v
-unfolding is_some
-shown_start v = pick (ltb v most_states)
-  where
-    pick : (b : Bool) → is_some (shown b v) ≡ true → Option.get_or (shown b v) 0 ≡ v
-    pick true e = refl
-    pick false e = clash false e refl
-
-start_by : {is : List Item} {g : Given} → Gives is g → is_some (start_state is) ≡ true → Option.get_or (start_state is) 0 ≡ g.start
-start_by {is} {g} h e = ap (λ (o : Option ℕ). Option.get_or o 0) h.start ∙ shown_start g.start (sym (ap (λ (o : Option ℕ). is_some o) h.start) ∙ e)
-
 -- THE TEXT, opened
 module _ (s : List ℕ) (opened : opens s ≡ true) (w v : List ℕ) where
   pub opened_torn : (j : Refusal) → OpeningSays s T.longest_claim (Err j) → TextRead s (Err j) w v
@@ -108,22 +80,20 @@ module _ (s : List ℕ) (opened : opens s ≡ true) (w v : List ℕ) where
     pub header_torn : (j : Refusal) → HeaderSays s n (Err j) → TextRead s (Err j) w v
     header_torn j header = to_items ∙ header
 
-    module _ (g : Given) (m : ℕ) (header_there : HeaderSays s n (Ok (g, m))) where
+    module _ (k : Counts) (m : ℕ) (header_there : HeaderSays s n (Ok (k, m))) where
       to_lines : claim_told s ≡ told (go (in_lines header_there.0 [])) (claim_tokens s m)
       to_lines = to_items ∙ header_there.3
 
-      pub body_torn : (j : Refusal) → BodySays s g.states g.count m (Err j) w v → TextRead s (Err j) w v
-      body_torn j b = to_lines ∙ b header_there.0 (count_by header_there.1) header_there.1.count
+      pub body_torn : (j : Refusal) → BodySays s k.states k.propositions m (Err j) w v → TextRead s (Err j) w v
+      body_torn j b = to_lines ∙ b header_there.0 header_there.1.states header_there.1.propositions
 
-      pub body_taken : BodySays s g.states g.count m (Ok tt) w v → TextRead s (Ok (record { states = g.states; start = g.start; propositions = g.count })) w v
+      pub body_taken : BodySays s k.states k.propositions m (Ok tt) w v → TextRead s (Ok k) w v
       body_taken b =
           record {
             items = header_there.0;
             states = b.0;
-            given = g;
-            taken_so = to_lines ∙ b.1 header_there.0 (count_by header_there.1) header_there.1.count;
-            gives = header_there.1;
-            counts = refl;
+            taken_so = to_lines ∙ b.1 header_there.0 header_there.1.states header_there.1.propositions;
+            counts = header_there.1;
             held = b.2;
           }
 
@@ -209,17 +179,9 @@ module _ (s : List ℕ) (c : Counts) (w v : List ℕ) (t : TreeRead s c w v) whe
   within : taken tree ≡ true
   within = told_taken tree (tokens s) (accepted_told (opens s) refl)
 
-  started : is_some (start_state t.items) ≡ true
-  started =
-      let a = is_some (state_count t.items) in
-      let b = is_some (start_state t.items) in
-      (and_both a b (and_both (a && b) (has_acceptance t.items) (unfold header_whole in (whole_header tree within))).0).1
-
   counts_so : counts_of (claim_of tree) ≡ c
   unfolding counts_of claim_of
-  counts_so =
-      let n : length (states_from (count_in t.items) 0 t.states) ≡ t.given.states = length_states (count_in t.items) 0 t.states ∙ count_by t.gives in
-      rw (n, start_by t.gives started, t.gives.count) (sym t.counts)
+  counts_so = rw (length_states (count_in t.items) 0 t.states ∙ t.counts.states, t.counts.start, t.counts.propositions) refl
 
   accepted_by : Ok c ≡ judged_claim s
   unfolding judged_claim claim_refusal told_number

@@ -7,6 +7,7 @@ use native.Mathlib.Numerals.{add-one}
 use native.Mathlib.Omega.{arith}
 use lib.Dec.{ltb, leb, eqb}
 use lib.ListN.{length, get_or, take, drop, drop_of_length-le, length-drop, length-take, take-append-drop}
+use lib.Pointwise.{pointwise}
 use lib.Seq.{drop-cons, take-suc, take-nil, get_or-drop, take-append_seam, take-take, take_all, drop-drop}
 use borrow.Author.Tests.{leb-true, leb-false, lt-leb, ltb-true, ltb-false, eq-eqb, ne_eqb}
 use Rattle.text.specs.Numbers.{is_digit}
@@ -14,7 +15,7 @@ use Rattle.model.specs.Run.{member}
 use Rattle.text.specs.Lines.{equal, begins}
 use Rattle.model.specs.ClaimTokens.{quote, backslash, colon, at_byte, slash_byte, Token, name, header, number, string, symbol, body_mark, end_mark, alias, comment, stray, Mode, between, at_sign, slash, in_name, in_number, in_string, escaped, in_mark, Lexed, goes_on, ends, breaks, after, is_blank, is_letter, is_capital, is_small, is_name_byte, is_symbol, begin, digit_more, mark_more, byte, at_end, lex, number_end}
 use Rattle.text.specs.Ascii.{ascii}
-use Rattle.text.proofs.Tests.{clash, and_both, or_false}
+use Rattle.text.proofs.Tests.{clash, and_both, or_false, Same, same, other, same?}
 use Rattle.text.proofs.Lines.{equal_true, equal_same}
 use Rattle.claim.specs.Reads.{part, lexed, tokens_at, spelt, reads_on, BlanksEnd, NameEnd, Sees, Bounds}
 use Rattle.claim.specs.declared.tokens.Token.{Token as CodeToken}
@@ -445,43 +446,44 @@ module _ (s : List ℕ) (limit at : ℕ) where
   pub end_fits : begins end_word (part s at limit) ≡ true → at + 7 ≤ length s
   end_fits e = omega (arith, simp length-drop at (front_room end_word (drop at s) (limit - at) e).1)
 
--- whether a word stands: what is left of both
-begins_none : (t : List ℕ) → begins [] t ≡ true
-unfolding begins equal
-begins_none t = refl
+-- what the code compares: a part of the text, and pair by pair
+pub part_within : (s : List ℕ) (a e r : ℕ) → r ≡ min e (length s) → take (r - a) (drop a s) ≡ part s a e
+part_within s a e r m = go (ltb e (length s)) refl
+  where
+    rest : length (drop a s) ≡ length s - a
+    rest = length-drop a s
 
-begins_short : (x : ℕ) (f : List ℕ) → begins (x ∷ f) [] ≡ false
-unfolding begins equal
-begins_short x f = refl
+    go : (b : Bool) → ltb e (length s) ≡ b → take (r - a) (drop a s) ≡ part s a e
+    go true q = let h = ltb-true e (length s) q in ap (λ (k : ℕ). take (k - a) (drop a s)) (omega (arith, h, m))
+    go false q =
+        let h = ltb-false e (length s) q in
+        take_all (r - a) (drop a s) (omega (arith, rest, h, m)) ∙ sym (take_all (e - a) (drop a s) (omega (arith, rest, h)))
 
-begins_cons : (x : ℕ) (f : List ℕ) (y : ℕ) (t : List ℕ) → begins (x ∷ f) (y ∷ t) ≡ (eqb y x && begins f t)
-unfolding begins equal
-begins_cons x f y t = refl
+pub pairs_equal : (a b : List ℕ) → pointwise eqb a b ≡ equal a b
+unfolding equal
+pairs_equal [] [] = refl
+pairs_equal [] (y ∷ b) = refl
+pairs_equal (x ∷ a) [] = refl
+pairs_equal (x ∷ a) (y ∷ b) = ap (λ (p : Bool). eqb x y && p) (pairs_equal a b)
 
-pub record Matching (f s : List ℕ) (limit at i e : ℕ) : Type 0 where
-  pub left : begins (drop i f) (part s e limit) ≡ begins f (part s at limit)
+pub eqb_turned : (x y : ℕ) → eqb x y ≡ eqb y x
+eqb_turned x y = go (same? x y)
+  where
+    go : Same x y → eqb x y ≡ eqb y x
+    go (same e) = rw e refl
+    go (other n) = ne_eqb x y n ∙ sym (ne_eqb y x (λ q. n (sym q)))
 
-module _ {f s : List ℕ} {limit at i e : ℕ} (m : Matching f s limit at i e) where
-  pub matching_all : length f ≤ i → true ≡ begins f (part s at limit)
-  matching_all h = sym (begins_none (part s e limit)) ∙ (ap (λ (x : List ℕ). begins x (part s e limit)) (sym (drop_of_length-le f h)) ∙ m.left)
+pairs_turned : (a b : List ℕ) → pointwise eqb a b ≡ equal b a
+unfolding equal
+pairs_turned [] [] = refl
+pairs_turned [] (y ∷ b) = refl
+pairs_turned (x ∷ a) [] = refl
+pairs_turned (x ∷ a) (y ∷ b) = rw (eqb_turned x y, pairs_turned a b) refl
 
-  pub matching_short : i < length f → min limit (length s) ≤ e → false ≡ begins f (part s at limit)
-  matching_short h g =
-      sym (begins_short (get_or f i 0) (drop (suc i) f))
-      ∙ (ap (λ (x : List ℕ). begins x []) (sym (drop-cons f i 0 h))
-      ∙ (ap (λ (x : List ℕ). begins (drop i f) x) (sym (part_none s limit e g)) ∙ m.left))
-
-  both_cons : i < length f → e < min limit (length s) → (eqb (get_or s e 0) (get_or f i 0) && begins (drop (i + 1) f) (part s (e + 1) limit)) ≡ begins f (part s at limit)
-  both_cons h g =
-      sym (begins_cons (get_or f i 0) (drop (i + 1) f) (get_or s e 0) (part s (e + 1) limit))
-      ∙ (ap (λ (x : List ℕ). begins x (get_or s e 0 ∷ part s (e + 1) limit)) (sym (drop-cons f i 0 h ∙ rw (add-one i) refl))
-      ∙ (ap (λ (x : List ℕ). begins (drop i f) x) (sym (part_cons s limit e (omega arith) (omega arith))) ∙ m.left))
-
-  pub matching_not : i < length f → e < min limit (length s) → (get_or s e 0 ≡ get_or f i 0 → ⊥) → false ≡ begins f (part s at limit)
-  matching_not h g q = rw (ne_eqb (get_or s e 0) (get_or f i 0) q) at (both_cons h g)
-
-  pub matching_more : i < length f → e < min limit (length s) → get_or s e 0 ≡ get_or f i 0 → Matching f s limit at (i + 1) (e + 1)
-  matching_more h g q = record { left = rw (eq-eqb (get_or s e 0) (get_or f i 0) q) at (both_cons h g) }
+-- whether a word stands at a place, before the limit
+pub stands : (s : List ℕ) (limit at r : ℕ) (w : List ℕ) → r ≡ min limit (length s) → pointwise eqb w (take (length w) (take (r - at) (drop at s))) ≡ begins w (part s at limit)
+unfolding begins
+stands s limit at r w m = pairs_turned w _ ∙ ap (λ (t : List ℕ). equal (take (length w) t) w) (part_within s at limit r m)
 
 -- THE FIRST BYTE of a token
 digit_no_letter : (b : ℕ) → is_digit b ≡ true → is_letter b ≡ false
@@ -565,18 +567,15 @@ module _ {s : List ℕ} {limit at e : ℕ} (n : BlanksEnd s limit at e) where
   pub blanks_then : {r : Seen} → Sees s limit e (tokens_at s limit e) r → Sees s limit at (tokens_at s limit at) r
   blanks_then {r} t = record { rest = t.rest; reads = n.same ∙ t.reads; goes = t.goes; past = λ w. record { more = omega (arith, n.ahead, (t.past w).more); inside = (t.past w).inside }; bounds = t.bounds }
 
--- WORDS: that one stands, and no more
+-- WORDS: whether one stands there, and no more
 module _ (s : List ℕ) (a e : ℕ) (w : List ℕ) {r : ℕ} (m : r ≡ min e (length s)) where
-  part_length : length (part s a e) ≡ r - a
-  part_length = length-take (e - a) (drop a s) ∙ rw (length-drop a s) (omega arith)
+  pub word_there : {b : Bool} → b ≡ pointwise eqb (take (r - a) (drop a s)) w → b ≡ equal (part s a e) w
+  word_there q = q ∙ (pairs_equal _ w ∙ ap (λ (t : List ℕ). equal t w) (part_within s a e r m))
 
-  pub word_other : (r - a ≡ length w → ⊥) → false ≡ equal (part s a e) w
-  word_other n = go (equal (part s a e) w) refl
+  pub word_past : r < a → 0 < length w → false ≡ equal (part s a e) w
+  unfolding equal
+  word_past h n = rw (part_none s e a (omega (arith, h, m))) (nothing w n)
     where
-      go : (x : Bool) → equal (part s a e) w ≡ x → false ≡ x
-      go true q = absurd (n (sym part_length ∙ ap length (equal_true (part s a e) w q)))
-      go false q = refl
-
-  pub word_as_long : r - a ≡ length w → begins w (part s a e) ≡ equal (part s a e) w
-  unfolding begins
-  word_as_long q = ap (λ (t : List ℕ). equal t w) (take_all (length w) (part s a e) (omega (arith, part_length)))
+      nothing : (w : List ℕ) → 0 < length w → false ≡ equal [] w
+      nothing [] n = absurd (omega (arith, n))
+      nothing (x ∷ w) n = refl

@@ -16,20 +16,14 @@ use Rattle.model.specs.ClaimLabels.{bit, truth}
 use Rattle.model.specs.ClaimGrammar.{Edge, State, most_states}
 use Rattle.model.specs.ClaimTable.{snoc}
 use Rattle.model.specs.Claim.{some_edge, some_target, edges_of}
-use Rattle.claim.specs.LabelSays.{most_values, all_bits, holds, union_of}
-use Rattle.claim.specs.Cells.{name_cell, length_cell, lead_cell, move_cell, moves_from, claim_cells, set_words, set_of, word_moves, set_moves, Added, Gathered, Led, LineHeld, Adds}
+use Rattle.claim.specs.LabelSays.{most_values, all_bits, holds, union_of, nothing}
+use Rattle.claim.specs.Cells.{name_cell, length_cell, lead_cell, move_cell, moves_from, claim_cells, set_of, word_moves, set_moves, Added, Gathered, Led, LineHeld, Adds}
 use Rattle.claim.specs.BodySays.{with_edges}
 use Rattle.claim.specs.declared.labels.Values.{Values}
 use Rattle.model.proofs.Bits.{bit_of_or, bit_zero}
 use Rattle.claim.proofs.Bits.{bit_shifted, bit_set, bit_all, holds_union, never_nothing}
+use Rattle.claim.proofs.Lexing.{eqb_turned}
 use Rattle.claim.proofs.Held.{SameRow, adds}
-
-eqb_turn : (a b : ℕ) → eqb a b ≡ eqb b a
-eqb_turn a b = go (same? a b)
-  where
-    go : Same a b → eqb a b ≡ eqb b a
-    go (same e) = eq-eqb a b e ∙ sym (eq-eqb b a (sym e))
-    go (other n) = ne_eqb a b n ∙ sym (ne_eqb b a (λ q. n (sym q)))
 
 same_order : (a b : ℕ) → (a ≡ b → ⊥) → (a < b) ⊎ (b < a)
 same_order a b n = go (ltb a b) refl
@@ -184,72 +178,27 @@ set_added f d w a b c z = added_beside (set_moves d w) refl refl (added_beside {
     four i e h = with_d e (fourth_word w i h)
 
 -- THE SETS BY TARGET: one target's grows
-four_words : {a b c d i j k l : ℕ} → a ≡ i → b ≡ j → c ≡ k → d ≡ l → ◌≡◌ {A = Values} (record { a = a; b = b; c = c; d = d }) (record { a = i; b = j; c = k; d = l })
-four_words p q r s = rw (p, q, r, s) refl
+pub values_gathered : (d : ℕ) (u : List Values) → d < length u → (w r : Values) → r ≡ union_of (set_of u d) w → Gathered d w u (set u d r)
+values_gathered d u hd w r e = record { gathered = λ t f. go t f (same? t d) }
+  where
+    here_now : (f : ℕ) → holds (set_of (set u d r) d) f ≡ (holds (set_of u d) f || (holds w f && eqb d d))
+    here_now f =
+        ap (λ (x : Values). holds x f) (get_or-set_same u d r nothing hd ∙ e)
+        ∙ (holds_union (set_of u d) w f
+        ∙ ap (λ (b : Bool). holds (set_of u d) f || b) (and_comm true (holds w f) ∙ ap (λ (b : Bool). holds w f && b) (sym (eq-eqb d d refl))))
 
-module _ (d : ℕ) (r : Values) (u : List ℕ) where
-  abbrev with_one : List ℕ
-  with_one = set u (4 * d) r.a
-
-  abbrev with_two : List ℕ
-  with_two = set with_one (4 * d + 1) r.b
-
-  abbrev with_three : List ℕ
-  with_three = set with_two (4 * d + 2) r.c
-
-  abbrev with_set : List ℕ
-  with_set = set with_three (4 * d + 3) r.d
-
-  other_word : (i : ℕ) → (i ≡ 4 * d → ⊥) → (i ≡ 4 * d + 1 → ⊥) → (i ≡ 4 * d + 2 → ⊥) → (i ≡ 4 * d + 3 → ⊥) → get_or with_set i 0 ≡ get_or u i 0
-  other_word i m n o p = get_or-set_other with_three (4 * d + 3) i r.d 0 p ∙ (get_or-set_other with_two (4 * d + 2) i r.c 0 o ∙ (get_or-set_other with_one (4 * d + 1) i r.b 0 n ∙ get_or-set_other u (4 * d) i r.a 0 m))
-
-  other_set : (t : ℕ) → (t ≡ d → ⊥) → set_of with_set t ≡ set_of u t
-  other_set t n =
-      four_words
-      (other_word (4 * t) (λ q. n (omega (arith, q))) (λ q. omega (arith, q)) (λ q. omega (arith, q)) (λ q. omega (arith, q)))
-      (other_word (4 * t + 1) (λ q. omega (arith, q)) (λ q. n (omega (arith, q))) (λ q. omega (arith, q)) (λ q. omega (arith, q)))
-      (other_word (4 * t + 2) (λ q. omega (arith, q)) (λ q. omega (arith, q)) (λ q. n (omega (arith, q))) (λ q. omega (arith, q)))
-      (other_word (4 * t + 3) (λ q. omega (arith, q)) (λ q. omega (arith, q)) (λ q. omega (arith, q)) (λ q. n (omega (arith, q))))
-
-  module _ (hd : d < most_states) (room : set_words ≤ length u) where
-    pub second_room : 4 * d + 1 < length with_one
-    second_room = omega (arith, hd, room, length-set u (4 * d) r.a)
-
-    pub third_room : 4 * d + 2 < length with_two
-    third_room = omega (arith, hd, room, length-set u (4 * d) r.a, length-set with_one (4 * d + 1) r.b)
-
-    pub fourth_room : 4 * d + 3 < length with_three
-    fourth_room = omega (arith, hd, room, length-set u (4 * d) r.a, length-set with_one (4 * d + 1) r.b, length-set with_two (4 * d + 2) r.c)
-
-    this_set : set_of with_set d ≡ r
-    this_set =
-        four_words
-        (get_or-set_other with_three (4 * d + 3) (4 * d) r.d 0 (λ q. omega (arith, q)) ∙ (get_or-set_other with_two (4 * d + 2) (4 * d) r.c 0 (λ q. omega (arith, q)) ∙ (get_or-set_other with_one (4 * d + 1) (4 * d) r.b 0 (λ q. omega (arith, q)) ∙ get_or-set_same u (4 * d) r.a 0 (omega (arith, hd, room)))))
-        (get_or-set_other with_three (4 * d + 3) (4 * d + 1) r.d 0 (λ q. omega (arith, q)) ∙ (get_or-set_other with_two (4 * d + 2) (4 * d + 1) r.c 0 (λ q. omega (arith, q)) ∙ get_or-set_same with_one (4 * d + 1) r.b 0 second_room))
-        (get_or-set_other with_three (4 * d + 3) (4 * d + 2) r.d 0 (λ q. omega (arith, q)) ∙ get_or-set_same with_two (4 * d + 2) r.c 0 third_room)
-        (get_or-set_same with_three (4 * d + 3) r.d 0 fourth_room)
-
-    pub values_gathered : (w : Values) → r ≡ union_of (set_of u d) w → Gathered d w u with_set
-    values_gathered w e = record { gathered = λ t f. go t f (same? t d) }
-      where
-        here_now : (f : ℕ) → holds (set_of with_set d) f ≡ (holds (set_of u d) f || (holds w f && eqb d d))
-        here_now f =
-            ap (λ (x : Values). holds x f) (this_set ∙ e)
-            ∙ (holds_union (set_of u d) w f
-            ∙ ap (λ (b : Bool). holds (set_of u d) f || b) (and_comm true (holds w f) ∙ ap (λ (b : Bool). holds w f && b) (sym (eq-eqb d d refl))))
-
-        go : (t f : ℕ) → Same t d → holds (set_of with_set t) f ≡ (holds (set_of u t) f || (holds w f && eqb t d))
-        go t f (same q) = subst (λ (x : ℕ). holds (set_of with_set x) f ≡ (holds (set_of u x) f || (holds w f && eqb x d))) (sym q) (here_now f)
-        go t f (other n) =
-            ap (λ (x : Values). holds x f) (other_set t n)
-            ∙ (sym (or-false (holds (set_of u t) f))
-            ∙ ap (λ (b : Bool). holds (set_of u t) f || b) (and_comm false (holds w f) ∙ ap (λ (b : Bool). holds w f && b) (sym (ne_eqb t d n))))
+    go : (t f : ℕ) → Same t d → holds (set_of (set u d r) t) f ≡ (holds (set_of u t) f || (holds w f && eqb t d))
+    go t f (same q) = subst (λ (x : ℕ). holds (set_of (set u d r) x) f ≡ (holds (set_of u x) f || (holds w f && eqb x d))) (sym q) (here_now f)
+    go t f (other n) =
+        ap (λ (x : Values). holds x f) (get_or-set_other u d t r nothing n)
+        ∙ (sym (or-false (holds (set_of u t) f))
+        ∙ ap (λ (b : Bool). holds (set_of u t) f || b) (and_comm false (holds w f) ∙ ap (λ (b : Bool). holds w f && b) (sym (ne_eqb t d n))))
 
 -- THE CELLS FROM THE SETS: the targets below d are done
-abbrev targets_moves : (leads : ℕ) → (sets : List ℕ) → (values target : ℕ) → Bool
+abbrev targets_moves : (leads : ℕ) → (sets : List Values) → (values target : ℕ) → Bool
 targets_moves l x f e = bit l e && holds (set_of x e) f
 
-abbrev moves_below : (d leads : ℕ) → (sets : List ℕ) → (values target : ℕ) → Bool
+abbrev moves_below : (d leads : ℕ) → (sets : List Values) → (values target : ℕ) → Bool
 moves_below d l x f e = ltb e d && targets_moves l x f e
 
 next_below : (d e : ℕ) → ltb e (d + 1) ≡ (ltb e d || eqb e d)
@@ -260,12 +209,12 @@ next_below d e = go (same? e d) (ltb e d) refl
     go (other n) true l = rw (lt-ltb e (d + 1) (omega (arith, ltb-true e d l)), l) refl
     go (other n) false l = rw (le-ltb e (d + 1) (omega (arith, n, ltb-false e d l)), l, ne_eqb e d n) refl
 
-pub record Spreading (c leads : ℕ) (sets u v : List ℕ) (d : ℕ) : Type 0 where
+pub record Spreading (c leads : ℕ) (sets : List Values) (u v : List ℕ) (d : ℕ) : Type 0 where
   pub few : d ≤ most_states
   pub long : length v ≡ length u
   pub done : Added (moves_from c) most_values (moves_below d leads sets) u v
 
-pub spread_none : (c leads : ℕ) (sets u : List ℕ) → Spreading c leads sets u u 0
+pub spread_none : (c leads : ℕ) (sets : List Values) (u : List ℕ) → Spreading c leads sets u u 0
 spread_none c leads sets u =
     record {
       few = omega arith;
@@ -277,7 +226,7 @@ spread_none c leads sets u =
       };
     }
 
-module _ {c leads : ℕ} {sets u v : List ℕ} {d : ℕ} (a : Spreading c leads sets u v d) where
+module _ {c leads : ℕ} {sets : List Values} {u v : List ℕ} {d : ℕ} (a : Spreading c leads sets u v d) where
   -- the moves to d, beside those to the targets below it
   below_now : (f e : ℕ) → (moves_below d leads sets f e || (eqb e d && targets_moves leads sets f e)) ≡ moves_below (d + 1) leads sets f e
   below_now f e = sym (ap (λ (b : Bool). b && targets_moves leads sets f e) (next_below d e) ∙ and-or_distrib_right (ltb e d) (eqb e d) (targets_moves leads sets f e))
@@ -335,11 +284,11 @@ move_append (x ∷ es) gs f d =
 -- one
 target_one : (e : Edge) (d : ℕ) → some_target (edges_of (e ∷ [])) d ≡ eqb d e.to
 unfolding some_target edges_of
-target_one e d = or-false (eqb e.to d) ∙ eqb_turn e.to d
+target_one e d = or-false (eqb e.to d) ∙ eqb_turned e.to d
 
 move_one : (e : Edge) (f d : ℕ) → some_edge (edges_of (e ∷ [])) f d ≡ (truth e.label f && eqb d e.to)
 unfolding some_edge edges_of
-move_one e f d = or-false (eqb e.to d && truth e.label f) ∙ (ap (λ (b : Bool). b && truth e.label f) (eqb_turn e.to d) ∙ and_comm (eqb d e.to) (truth e.label f))
+move_one e f d = or-false (eqb e.to d && truth e.label f) ∙ (ap (λ (b : Bool). b && truth e.label f) (eqb_turned e.to d) ∙ and_comm (eqb d e.to) (truth e.label f))
 
 target_snoc : (es : List Edge) (e : Edge) (d : ℕ) → some_target (edges_of (snoc es e)) d ≡ (some_target (edges_of es) d || eqb d e.to)
 target_snoc es e d = target_append es (e ∷ []) d ∙ ap (λ (b : Bool). some_target (edges_of es) d || b) (target_one e d)
@@ -361,19 +310,19 @@ target_move es f d = go (some_target (edges_of es) d) refl
     go false q = rw (q, untargeted es f d q) refl
 
 -- what is gathered of edges: their targets, and of each target its flag values
-pub record Gathers (es : List Edge) (leads : ℕ) (sets : List ℕ) : Type 0 where
+pub record Gathers (es : List Edge) (leads : ℕ) (sets : List Values) : Type 0 where
   pub targets : (d : ℕ) → bit leads d ≡ some_target (edges_of es) d
   pub values : (d f : ℕ) → f < most_values → holds (set_of sets d) f ≡ some_edge (edges_of es) f d
 
-pub gathers_none : (n : ℕ) → Gathers [] 0 (replicate n 0)
+pub gathers_none : (n : ℕ) → Gathers [] 0 (replicate n nothing)
 unfolding some_target some_edge edges_of truth
 gathers_none n =
     record {
       targets = bit_zero;
-      values = λ d f h. ap (λ (x : Values). holds x f) (four_words (getD_replicate_same {A = ℕ} n (4 * d) 0) (getD_replicate_same {A = ℕ} n (4 * d + 1) 0) (getD_replicate_same {A = ℕ} n (4 * d + 2) 0) (getD_replicate_same {A = ℕ} n (4 * d + 3) 0)) ∙ sym (never_nothing.agrees f h);
+      values = λ d f h. ap (λ (x : Values). holds x f) (getD_replicate_same {A = Values} n d nothing) ∙ sym (never_nothing.agrees f h);
     }
 
-pub gathers_one : {es : List Edge} {leads : ℕ} {sets : List ℕ} → Gathers es leads sets → (e : Edge) (d : ℕ) → e.to ≡ d → d < 32 → (v : List ℕ) → ((t f : ℕ) → f < most_values → holds (set_of v t) f ≡ (holds (set_of sets t) f || (truth e.label f && eqb t d))) → Gathers (snoc es e) (bit_or leads (1 * 2 ^ d % 2 ^ 32)) v
+pub gathers_one : {es : List Edge} {leads : ℕ} {sets : List Values} → Gathers es leads sets → (e : Edge) (d : ℕ) → e.to ≡ d → d < 32 → (v : List Values) → ((t f : ℕ) → f < most_values → holds (set_of v t) f ≡ (holds (set_of sets t) f || (truth e.label f && eqb t d))) → Gathers (snoc es e) (bit_or leads (1 * 2 ^ d % 2 ^ 32)) v
 gathers_one {es} {leads} {sets} g e d q h v p =
     record {
       targets = λ t. bit_set leads d t h ∙ (ap (λ (b : Bool). b || eqb t d) (g.targets t) ∙ (ap (λ (x : ℕ). some_target (edges_of es) t || eqb t x) (sym q) ∙ sym (target_snoc es e t)));
@@ -381,7 +330,7 @@ gathers_one {es} {leads} {sets} g e d q h v p =
     }
 
 -- then the line of state c has them, and the rows of other states stay
-module _ {c leads : ℕ} {sets u v : List ℕ} (m : Led c leads sets u v) (hc : c < most_states) where
+module _ {c leads : ℕ} {sets : List Values} {u v : List ℕ} (m : Led c leads sets u v) (hc : c < most_states) where
   module _ {es : List Edge} (g : Gathers es leads sets) where
     lead_now : (l : State) (e : ℕ) → (some_target (edges_of l.edges) e || bit leads e) ≡ some_target (edges_of (l.edges ++ es)) e
     lead_now l e = ap (λ (b : Bool). some_target (edges_of l.edges) e || b) (g.targets e) ∙ sym (target_append l.edges es e)

@@ -8,6 +8,7 @@ use Rattle.model.specs.ClaimGrammar.{Item, Edge, State, Syntax, count_in, propos
 use Rattle.model.specs.ClaimTable.{complete, in_lines, wants_state, in_line, in_marks, in_label, numbered, marked, bare, line_at, snoc, with_edge, Next, go, edge_step, marks_step, Told, told, taken_as, refused}
 use Rattle.claim.specs.Reads.{claim_tokens, PastBlanks, Ahead, Onward, Parsed}
 use Rattle.claim.specs.LabelSays.{most_values, holds}
+use Rattle.claim.specs.declared.labels.Values.{Values}
 use Rattle.claim.specs.Cells.{set_of, Adds, LinesHeld}
 use Rattle.model.specs.Refusals.{number}
 use Rattle.model.specs.declared.refusal.Refusal.{Refusal}
@@ -45,7 +46,7 @@ MarkSays s c at (Ok n) w v =
 MarkSays s c at (Err j) w v = (is : List Item) (ls : List State) (o : Option (List ℕ)) → from_step (marks_step is ls c o) (claim_tokens s at) ≡ refused (number j)
 
 -- EDGES, of n states and k propositions: one, past its [, and that no edge mark follows it; its flag values are among its target's
-abbrev pub EdgeSays : (text : List ℕ) → (n k at : ℕ) → Parsed ℕ → (sets sets_now : List ℕ) → Type 0
+abbrev pub EdgeSays : (text : List ℕ) → (n k at : ℕ) → Parsed ℕ → (sets sets_now : List Values) → Type 0
 EdgeSays s n k at (Ok (d, z)) w v =
     (e : Edge)
     × (e.to ≡ d) × (d < n)

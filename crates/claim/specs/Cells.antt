@@ -6,7 +6,7 @@ use Rattle.model.specs.ClaimGrammar.{State, has_line, most_states}
 use Rattle.model.specs.ClaimTable.{snoc}
 use Rattle.model.specs.Claim.{Claim, state, claim_leads, claim_moves, some_edge, some_target, is_marked, edges_of, line_of}
 use Rattle.model.specs.ClaimEntry.{mark_of, NameAt}
-use Rattle.claim.specs.LabelSays.{most_values, holds}
+use Rattle.claim.specs.LabelSays.{most_values, holds, nothing}
 use Rattle.claim.specs.declared.labels.Values.{Values}
 
 -- of each state: its mark, the place and the length of its name, and a bit for each state that its edges lead to
@@ -50,17 +50,14 @@ abbrev pub set_moves : (d : ℕ) → Values → (values target : ℕ) → Bool
 set_moves d w f e = holds w f && eqb e d
 
 -- sets of flag values, by target
-abbrev pub set_words : ℕ
-set_words = 4 * most_states
+abbrev pub set_of : (sets : List Values) → (target : ℕ) → Values
+set_of u t = get_or u t nothing
 
-abbrev pub set_of : (sets : List ℕ) → (target : ℕ) → Values
-set_of u t = record { a = get_or u (4 * t) 0; b = get_or u (4 * t + 1) 0; c = get_or u (4 * t + 2) 0; d = get_or u (4 * t + 3) 0 }
-
-pub record Gathered (d : ℕ) (w : Values) (sets sets_now : List ℕ) : Type 0 where
+pub record Gathered (d : ℕ) (w : Values) (sets sets_now : List Values) : Type 0 where
   pub gathered : (t f : ℕ) → holds (set_of sets_now t) f ≡ (holds (set_of sets t) f || (holds w f && eqb t d))
 
 -- edges more: their targets, and on the flag values of each one's set
-pub record Led (c leads : ℕ) (sets cells cells_now : List ℕ) : Type 0 where
+pub record Led (c leads : ℕ) (sets : List Values) (cells cells_now : List ℕ) : Type 0 where
   pub led : (e : ℕ) → bit (get_or cells_now (lead_cell c) 0) e ≡ (bit (get_or cells (lead_cell c) 0) e || bit leads e)
   pub moved : (f e : ℕ) → f < most_values → bit (get_or cells_now (move_cell c f) 0) e ≡ (bit (get_or cells (move_cell c f) 0) e || (bit leads e && holds (set_of sets e) f))
   pub before : (i : ℕ) → i < moves_from c → (i ≡ lead_cell c → ⊥) → get_or cells_now i 0 ≡ get_or cells i 0

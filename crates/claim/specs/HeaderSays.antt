@@ -1,16 +1,17 @@
 -- What the readers of the header say: from a place on, what is left gives the whole. Assumes nothing: these are definitions.
 use Rattle.model.specs.Run.{is_some}
-use Rattle.std.specs.Prelude.{◌≡◌, Bool, true, false, ◌&&◌, ◌||◌, cond, List, [], ◌∷◌, ℕ, ◌≤◌, ltb, get_or, Result, Ok, Err}
-use Rattle.std.proofs.Math.Option.{Option, none, some}
+use Rattle.std.specs.Prelude.{◌≡◌, Bool, true, false, ◌||◌, cond, List, [], ◌∷◌, ℕ, ◌≤◌, ltb, get_or, is_some as given, unwrap_or, Option as Maybe, Some, None, Result, Ok, Err}
+use Rattle.std.proofs.Math.Option.{Option, none, some, get_or as get_some}
 use Rattle.text.specs.Ascii.{ascii}
 use Rattle.text.specs.Lines.{equal}
 use Rattle.model.specs.ClaimTokens as T
 use Rattle.model.specs.ClaimTokens.{is_small, is_capital}
-use Rattle.model.specs.ClaimGrammar.{Item, acceptance, state_count, start_state, proposition_names, propositions_in, has_acceptance, header_whole, most_states, most_propositions}
+use Rattle.model.specs.ClaimGrammar.{Item, count_in, acceptance, state_count, start_state, proposition_names, propositions_in, has_acceptance, header_whole, most_states, most_propositions}
 use Rattle.model.specs.ClaimTable.{Last, whole, after_start, after_acceptance, Place, in_items, in_skipped, in_lines, wants_count, wants_start, wants_propositions, wants_names, wants_sets, snoc, Next, go, fault, unless, on_number, step, ended, told, refused}
 use Rattle.claim.specs.Reads.{part, claim_tokens, Ahead, Stands, is_symbol_of, fault_of, Onward, Parsed}
 use Rattle.claim.specs.declared.tokens.Token.{Token}
 use Rattle.claim.specs.declared.tokens.Token.TheVariants.{Name, Header as HeaderName, Number, Text, Symbol, Body, End, Alias, Comment, Stray, Done}
+use Rattle.claim.specs.declared.Counts.{Counts}
 use Rattle.claim.specs.declared.header.Given.{Given}
 use Rattle.claim.specs.declared.header.Kind.{Kind}
 use Rattle.claim.specs.declared.header.Kind.TheVariants.{States, Start, Propositions, Acceptance, Skipped}
@@ -30,18 +31,19 @@ NumberSays s at (Ok (v, n)) = Stands s at (T.number v) n
 NumberSays s at (Err j) = (p : Place) (f : ℕ → Next) → WantsNumber p f → told (go p) (claim_tokens s at) ≡ refused (number j)
 
 -- a value, or none
-abbrev pub shown : Bool → ℕ → Option ℕ
-shown b v = cond b (some v) none
+abbrev pub shown : Maybe ℕ → Option ℕ
+shown (Some v) = some v
+shown None = none
 
 -- these items give that
 pub record Gives (is : List Item) (g : Given) : Type 0 where
-  pub states : state_count is ≡ shown (ltb 0 g.states) g.states
-  pub start : start_state is ≡ shown (ltb g.start most_states) g.start
-  pub count : propositions_in is ≡ g.count
-  pub named : is_some (proposition_names is) ≡ g.named
+  pub states : state_count is ≡ shown g.states
+  pub start : start_state is ≡ shown g.start
+  pub count : propositions_in is ≡ unwrap_or g.propositions 0
+  pub named : is_some (proposition_names is) ≡ given g.propositions
   pub acceptance : has_acceptance is ≡ g.acceptance
-  pub few_states : g.states ≤ most_states
-  pub few_propositions : g.count ≤ most_propositions
+  pub few_states : unwrap_or g.states 0 ≤ most_states
+  pub few_propositions : unwrap_or g.propositions 0 ≤ most_propositions
 
 -- an item is read from a place on: whatever stands before it, what is left gives the whole
 abbrev pub ItemSays : (text : List ℕ) → (List Item → Place) → Last → (at : ℕ) → Given → Parsed Given → Type 0
@@ -49,8 +51,13 @@ ItemSays s p l at g (Ok (h, n)) =
     ((is : List Item) → Gives is g → (js : List Item) × Gives js h × (told (go (p is)) (claim_tokens s at) ≡ told (go (in_items l js)) (claim_tokens s n))) × Ahead s at n
 ItemSays s p l at g (Err j) = (is : List Item) → Gives is g → told (go (p is)) (claim_tokens s at) ≡ refused (number j)
 
+-- the most states there may be, and whether a start, if one is given, is below a count
 abbrev pub most_states_of : Given → ℕ
-most_states_of g = cond (ltb 0 g.states) g.states most_states
+most_states_of g = unwrap_or g.states most_states
+
+abbrev pub starts_below : Maybe ℕ → (count : ℕ) → Bool
+starts_below (Some v) n = ltb v n
+starts_below None n = true
 
 -- from one place to another, whatever items stand before
 abbrev pub StepSays : (text : List ℕ) → (from to : List Item → Place) → (at : ℕ) → Result ℕ Refusal → Type 0
@@ -138,12 +145,26 @@ continues States t = false
 continues Propositions t = false
 continues Skipped t = false
 
-abbrev pub no_item : Kind → Token → Parsed Given
+-- the counts of items that are whole
+abbrev pub counts_by : (states start propositions : Maybe ℕ) → (acceptance : Bool) → Result Counts Refusal
+counts_by (Some n) (Some v) k true = Ok (record { states = n; start = v; propositions = unwrap_or k 0 })
+counts_by (Some n) (Some v) k false = Err ClaimGrammar
+counts_by (Some n) None k a = Err ClaimGrammar
+counts_by None v k a = Err ClaimGrammar
+
+abbrev pub counted : Given → Result Counts Refusal
+counted g = counts_by g.states g.start g.propositions g.acceptance
+
+abbrev pub placed : (next : ℕ) → Result Counts Refusal → Parsed Counts
+placed n (Ok k) = Ok (k, n)
+placed n (Err r) = Err r
+
+abbrev pub no_item : Kind → Token → Parsed Counts
 no_item l t = Err (cond (continues l t) NotTaken (fault_of t))
 
 -- what the items come to at a token that begins no other
-abbrev pub items_end : Token → (next : ℕ) → Given → Kind → Parsed Given
-items_end Body n g l = cond ((ltb 0 g.states && ltb g.start most_states) && g.acceptance) (Ok (g, n)) (Err ClaimGrammar)
+abbrev pub items_end : Token → (next : ℕ) → Given → Kind → Parsed Counts
+items_end Body n g l = placed n (counted g)
 items_end (Name a e) n g l = no_item l (Name a e)
 items_end (HeaderName a e) n g l = no_item l (HeaderName a e)
 items_end (Number v) n g l = no_item l (Number v)
@@ -155,8 +176,16 @@ items_end Comment n g l = no_item l Comment
 items_end Stray n g l = no_item l Stray
 items_end Done n g l = no_item l Done
 
--- THE WHOLE HEADER, from where no item stands yet up to past its --BODY--: the items, whole, and what they give; or the refusal
-abbrev pub HeaderSays : (text : List ℕ) → (at : ℕ) → Parsed Given → Type 0
-HeaderSays s at (Ok (g, n)) =
-    (is : List Item) × Gives is g × (header_whole is ≡ true) × (told (go (in_items whole [])) (claim_tokens s at) ≡ told (go (in_lines is [])) (claim_tokens s n)) × Ahead s at n
+-- these items have those counts
+pub record HasCounts (is : List Item) (k : Counts) : Type 0 where
+  pub states : count_in is ≡ k.states
+  pub start : get_some (start_state is) 0 ≡ k.start
+  pub propositions : propositions_in is ≡ k.propositions
+  pub few_states : k.states ≤ most_states
+  pub few_propositions : k.propositions ≤ most_propositions
+
+-- THE WHOLE HEADER, from where no item stands yet up to past its --BODY--: the items, whole, and their counts; or the refusal
+abbrev pub HeaderSays : (text : List ℕ) → (at : ℕ) → Parsed Counts → Type 0
+HeaderSays s at (Ok (k, n)) =
+    (is : List Item) × HasCounts is k × (header_whole is ≡ true) × (told (go (in_items whole [])) (claim_tokens s at) ≡ told (go (in_lines is [])) (claim_tokens s n)) × Ahead s at n
 HeaderSays s at (Err j) = told (go (in_items whole [])) (claim_tokens s at) ≡ refused (number j)

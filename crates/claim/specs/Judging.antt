@@ -1,6 +1,6 @@
 -- What the reader of a claim answers: 02's number for a refusal, or the claim's counts; and what the cells then hold.
 -- Assumes nothing: these are definitions.
-use Rattle.std.specs.Prelude.{◌≡◌, false, cond, List, [], ◌∷◌, ℕ, ◌+◌, ◌<◌, ◌≤◌, eqb, length, get_or, replicate, Result, Ok, Err}
+use Rattle.std.specs.Prelude.{◌≡◌, false, cond, List, [], ◌∷◌, ℕ, ◌<◌, ◌≤◌, eqb, length, get_or, replicate, Result, Ok, Err}
 use Rattle.text.specs.Ascii.{ascii}
 use Rattle.model.specs.ClaimTokens as T
 use Rattle.model.specs.ClaimTokens.{opens_so}
@@ -8,9 +8,8 @@ use Rattle.model.specs.ClaimGrammar.{Item, State}
 use Rattle.model.specs.ClaimTable.{go, opening, version, told, taken_as, refused, claim_told, claim_refusal}
 use Rattle.model.specs.Claim.{Claim, claim_in}
 use Rattle.claim.specs.Reads.{tokens_at, Ahead}
-use Rattle.claim.specs.HeaderSays.{Gives}
+use Rattle.claim.specs.HeaderSays.{HasCounts}
 use Rattle.claim.specs.Cells.{claim_cells, LinesHeld, ClaimHeld}
-use Rattle.claim.specs.declared.header.Given.{Given}
 use Rattle.claim.specs.declared.Counts.{Counts}
 use Rattle.model.specs.Refusals.{number, refusal_of}
 use Rattle.model.specs.declared.refusal.Refusal.{Refusal}
@@ -29,10 +28,8 @@ OpeningSays s l (Err j) = (opens_so (tokens_at s l 0) ≡ false) × (told (go op
 pub record TreeRead (s : List ℕ) (c : Counts) (cells cells_now : List ℕ) : Type 0 where
   pub items : List Item
   pub states : List State
-  pub given : Given
   pub taken_so : claim_told s ≡ taken_as (record { items = items; states = states })
-  pub gives : Gives items given
-  pub counts : c ≡ record { states = given.states; start = given.start; propositions = given.count }
+  pub counts : HasCounts items c
   pub held : LinesHeld s [] cells → LinesHeld s states cells_now
 
 abbrev pub TextRead : (text : List ℕ) → Result Counts Refusal → (cells cells_now : List ℕ) → Type 0
@@ -58,7 +55,3 @@ pub record ClaimRead (bs : List ℕ) (r : Result Counts Refusal) (cells cells_no
   pub held : claim_cells ≤ length cells → ClaimHeld bs (claim_in bs) cells_now
   pub rest : (i : ℕ) → claim_cells ≤ i → get_or cells_now i 0 ≡ 0
   pub short : length cells < claim_cells → cells_now ≡ replicate (length cells) 0
-
--- a part of the cells, cell by cell
-pub record Copied (cells : List ℕ) (at : ℕ) (part : List ℕ) : Type 0 where
-  pub same : (i : ℕ) → i < length part → get_or part i 0 ≡ get_or cells (at + i) 0

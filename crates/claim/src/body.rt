@@ -2,41 +2,22 @@
 // its name, the states that its edges lead to, and those that it may move to on each flag values.
 ghost use Rattle.std.specs.Prelude.{◌≡◌, false, ◌&&◌, not, ℕ, ◌+◌, ◌<◌, ◌≤◌, ltb, length};
 ghost use Rattle.std.proofs.Math.Option.{some};
-ghost use Rattle.text.specs.Ascii.{line_feed};
-ghost use Rattle.model.specs.Run.{member};
 ghost use Rattle.model.specs.ClaimLabels.{bit};
 ghost use Rattle.model.specs.ClaimGrammar.{title_fits, most_states, most_propositions};
 ghost use Rattle.claim.specs.LabelSays.{most_values, all_bits};
 ghost use Rattle.claim.specs.Reads.{part};
-ghost use Rattle.claim.specs.Cells.{claim_cells, moves_from, set_words, set_of, word_moves, set_moves, Added, Gathered, Led};
+ghost use Rattle.claim.specs.Cells.{claim_cells, moves_from, word_moves, set_moves, Added, Gathered, Led};
 ghost use Rattle.claim.specs.BodySays.{TitleSays, MarksSay, MarkSays, EdgeSays, EdgesSay, NumberRead, RestSays, LineSays, EndSays, DueSays, BodySays};
 
 use crate::Counts;
 use crate::header::number_at;
-use crate::labels::{ALL, Values, label, union};
+use crate::labels::{ALL, NOTHING, Values, label};
 use crate::tokens::{
     Parsed, Seen, Token, byte_at, claim_token, fault, is_symbol, past_blanks, word,
 };
 use model::Refusal;
 
 const LONGEST_TITLE: usize = 32;
-
-const LINE_FEED: u8 = 10;
-
-// Whether a line feed stands from `a` to `e`.
-fn has_line_feed(text: &[u8], a: usize, e: usize) -> bool
-    requires { e ≤ length text.now }
-    ensures { result ≡ member line_feed (part text.now a e) }
-{
-    let mut i = a;
-    while i < e {
-        if text[i] == LINE_FEED {
-            return true;
-        }
-        i += 1;
-    }
-    false
-}
 
 // Whether the bytes from `a` to `e` can be a state's name.
 fn title_fits(text: &[u8], a: usize, e: usize) -> bool
@@ -47,7 +28,7 @@ fn title_fits(text: &[u8], a: usize, e: usize) -> bool
     if LONGEST_TITLE < e - a {
         return false;
     }
-    !has_line_feed(text, a, e)
+    !text[a..e].contains(&b'\n')
 }
 
 // The name of state c, if one is at `at`; else the place past the blanks there.
@@ -112,10 +93,8 @@ fn add_all(cells: &mut [u32], first: usize, d: u32)
     requires first_in_bounds { first + 64 ≤ length cells.old }
     ensures { Added first 64 (word_moves d all_bits) cells.old cells.new }
 {
-    let mut i: usize = 0;
-    while i < 64 {
-        cells[first + i] = cells[first + i] | 1 << d;
-        i += 1;
+    for i in 0..64 {
+        cells[first + i] |= 1 << d;
     }
 }
 
@@ -133,10 +112,8 @@ fn add_word(cells: &mut [u32], first: usize, d: u32, word: u64)
         add_all(cells, first, d);
         return;
     }
-    let mut i: usize = 0;
-    while i < 64 {
-        cells[first + i] = cells[first + i] | (((word >> i) % 2) as u32) << d;
-        i += 1;
+    for i in 0..64 {
+        cells[first + i] |= (((word >> i) % 2) as u32) << d;
     }
 }
 
@@ -154,41 +131,20 @@ fn add_moves(cells: &mut [u32], c: usize, d: u32, w: Values)
     add_word(cells, first + 192, d, w.d);
 }
 
-// Sets of flag values by target, four words each.
-const SETS: usize = 60;
-
-// The set of target d.
-fn set_of(sets: &[u64], d: usize) -> Values
-    requires d_lt_most_states { d < most_states }
-    requires set_words_in_bounds { set_words ≤ length sets.now }
-    ensures { result ≡ set_of sets.now d }
-{
-    Values {
-        a: sets[4 * d],
-        b: sets[4 * d + 1],
-        c: sets[4 * d + 2],
-        d: sets[4 * d + 3],
-    }
-}
-
 // The values of w are in the set of target d too.
-fn add_values(sets: &mut [u64], d: usize, w: Values)
+fn add_values(sets: &mut [Values], d: usize, w: Values)
     requires d_lt_most_states { d < most_states }
-    requires set_words_in_bounds { set_words ≤ length sets.old }
+    requires sets_in_bounds { most_states ≤ length sets.old }
     ensures { Gathered d w sets.old sets.new }
 {
-    let v = union(set_of(sets, d), w);
-    sets[4 * d] = v.a;
-    sets[4 * d + 1] = v.b;
-    sets[4 * d + 2] = v.c;
-    sets[4 * d + 3] = v.d;
+    sets[d] = sets[d] | w;
 }
 
 // Edges lead from state c to the states of `leads`, to each on the flag values of its set.
-fn add_edges(cells: &mut [u32], c: usize, leads: u32, sets: &[u64])
+fn add_edges(cells: &mut [u32], c: usize, leads: u32, sets: &[Values])
     requires c_lt_most_states { c < most_states }
     requires claim_cells_in_bounds { claim_cells ≤ length cells.old }
-    requires set_words_in_bounds { set_words ≤ length sets.now }
+    requires sets_in_bounds { most_states ≤ length sets.now }
     requires by_index { (d : ℕ) → most_states ≤ d → bit leads d ≡ false }
     ensures { Led c leads sets.now cells.old cells.new }
 {
@@ -196,16 +152,16 @@ fn add_edges(cells: &mut [u32], c: usize, leads: u32, sets: &[u64])
         if (leads >> d) % 2 != 1 {
             continue;
         }
-        add_moves(cells, c, d, set_of(sets, d as usize));
+        add_moves(cells, c, d, sets[d as usize]);
     }
-    cells[Counts::LEADS + c] = cells[Counts::LEADS + c] | leads;
+    cells[Counts::LEADS + c] |= leads;
 }
 
 // An edge, past its [: its target and the place past that and blanks. Its label's flag values go into the target's set.
-fn edge(text: &[u8], at: usize, states: u32, count: u32, sets: &mut [u64]) -> Parsed<u32>
+fn edge(text: &[u8], at: usize, states: u32, count: u32, sets: &mut [Values]) -> Parsed<u32>
     requires states_le_most_states { states ≤ most_states }
     requires count_le_most_propositions { count ≤ most_propositions }
-    requires set_words_in_bounds { set_words ≤ length sets.old }
+    requires sets_in_bounds { most_states ≤ length sets.old }
     ensures { EdgeSays text.now states count at result sets.old sets.new }
 {
     let (w, end) = label(text, at, count)?;
@@ -236,12 +192,12 @@ fn edges(
     requires claim_cells_in_bounds { claim_cells ≤ length cells.old }
     ensures { EdgesSay text.now states count c at result cells.old cells.new }
 {
-    let mut sets = [0u64; SETS];
+    let mut sets = [NOTHING; Counts::NAMES];
     let mut leads: u32 = 0;
     let mut here = past_blanks(text, at);
     while byte_at(text, here) == b'[' {
         let (d, end) = edge(text, here + 1, states, count, &mut sets)?;
-        leads = leads | (1 << d);
+        leads |= 1 << d;
         here = end;
     }
     add_edges(cells, c, leads, &sets);
@@ -374,7 +330,7 @@ pub(crate) fn read_body(
     let mut lines: u32 = 0;
     while let Some(next) = due_at(text, here, states, lines)? {
         let (c, end) = line(text, next, states, count, listed, cells)?;
-        listed = listed | (1 << c);
+        listed |= 1 << c;
         lines += 1;
         here = end;
     }

@@ -1,9 +1,9 @@
 // The header of a claim, an item at a time.
-ghost use Rattle.std.specs.Prelude.{◌≡◌, false, [], ◌≤◌, get_or};
-ghost use Rattle.model.specs.ClaimGrammar.{most_states, most_propositions};
+ghost use Rattle.std.specs.Prelude.{◌≡◌, false, [], ◌≤◌, get_or, is_some};
+ghost use Rattle.model.specs.ClaimGrammar.{most_propositions};
 ghost use Rattle.model.specs.ClaimTable.{wants_count, wants_start, wants_propositions, wants_sets, wants_inf, wants_open, wants_set, wants_close, named, go, whole, after_start, after_acceptance};
 ghost use Rattle.claim.specs.Reads.{part};
-ghost use Rattle.claim.specs.HeaderSays.{NumberSays, StringSays, ItemSays, ItemOn, StepSays, Skips, accepted, most_states_of, passed_of, no_kind, kind_of, continues, items_end, KindSays, HeaderSays};
+ghost use Rattle.claim.specs.HeaderSays.{NumberSays, StringSays, ItemSays, ItemOn, StepSays, Skips, accepted, starts_below, counted, passed_of, no_kind, kind_of, continues, items_end, KindSays, HeaderSays};
 
 use crate::Counts;
 use crate::tokens::{
@@ -25,47 +25,57 @@ pub(crate) fn number_at(text: &[u8], at: usize) -> Parsed<u32>
     }
 }
 
-// What the header gives so far: no states are 0, no start is 15.
+// What the header gives so far.
 #[derive(Clone, Copy)]
 pub struct Given {
-    pub states: u32,
-    pub start: u32,
-    pub count: u32,
-    pub named: bool,
+    pub states: Option<u32>,
+    pub start: Option<u32>,
+    pub propositions: Option<u32>,
     pub acceptance: bool,
+}
+
+// Whether the start, if one is given, is below the count.
+fn starts_below(start: Option<u32>, count: u32) -> bool
+    ensures { result ≡ starts_below start count }
+{
+    match start {
+        Some(state) => state < count,
+        None => true,
+    }
 }
 
 // After States: the count.
 fn states_item(text: &[u8], at: usize, g: Given) -> Parsed<Given>
-    requires { g.states ≡ 0 }
+    requires { is_some g.states ≡ false }
     ensures { ItemSays text.now wants_count whole at g result }
 {
     let (n, next) = number_at(text, at)?;
-    if (1 <= n) & (n <= Counts::MOST_STATES) & ((Counts::MOST_STATES <= g.start) | (g.start < n)) {
-        return Ok((Given { states: n, ..g }, next));
+    if (1 <= n) & (n <= Counts::MOST_STATES) & starts_below(g.start, n) {
+        return Ok((
+            Given {
+                states: Some(n),
+                ..g
+            },
+            next,
+        ));
     }
     Err(Refusal::ClaimGrammar)
 }
 
-// How many states there may be: the count, once it is given.
-fn most_states(g: Given) -> u32
-    ensures { result ≡ most_states_of g }
-{
-    if 0 < g.states {
-        g.states
-    } else {
-        Counts::MOST_STATES
-    }
-}
-
 // After Start: the state.
 fn start_item(text: &[u8], at: usize, g: Given) -> Parsed<Given>
-    requires { most_states ≤ g.start }
+    requires { is_some g.start ≡ false }
     ensures { ItemSays text.now wants_start after_start at g result }
 {
     let (n, next) = number_at(text, at)?;
-    if n < most_states(g) {
-        return Ok((Given { start: n, ..g }, next));
+    if n < g.states.unwrap_or(Counts::MOST_STATES) {
+        return Ok((
+            Given {
+                start: Some(n),
+                ..g
+            },
+            next,
+        ));
     }
     Err(Refusal::ClaimGrammar)
 }
@@ -173,7 +183,7 @@ fn string_at(text: &[u8], at: usize) -> Result<usize, Refusal>
 // After AP: and the count, the names.
 fn names_on(text: &[u8], at: usize, count: u32, g: Given) -> Parsed<Given>
     requires count_le_most_propositions { count ≤ most_propositions }
-    requires named_value { g.named ≡ false }
+    requires named_value { is_some g.propositions ≡ false }
     ensures { ItemOn text.now (λ is. go (named is count [])) whole at g result }
 {
     let mut here = at;
@@ -182,8 +192,7 @@ fn names_on(text: &[u8], at: usize, count: u32, g: Given) -> Parsed<Given>
     }
     Ok((
         Given {
-            count,
-            named: true,
+            propositions: Some(count),
             ..g
         },
         here,
@@ -192,7 +201,7 @@ fn names_on(text: &[u8], at: usize, count: u32, g: Given) -> Parsed<Given>
 
 // After AP: the count and the names.
 fn propositions_item(text: &[u8], at: usize, g: Given) -> Parsed<Given>
-    requires { g.named ≡ false }
+    requires { is_some g.propositions ≡ false }
     ensures { ItemSays text.now wants_propositions whole at g result }
 {
     let (n, next) = number_at(text, at)?;
@@ -295,19 +304,19 @@ fn item(text: &[u8], at: usize, g: Given, kind: Kind) -> Parsed<Given>
 {
     match kind {
         Kind::States => {
-            if 0 < g.states {
+            if g.states.is_some() {
                 return Err(Refusal::ClaimGrammar);
             }
             states_item(text, at, g)
         }
         Kind::Start => {
-            if g.start < Counts::MOST_STATES {
+            if g.start.is_some() {
                 return Err(Refusal::NotTaken);
             }
             start_item(text, at, g)
         }
         Kind::Propositions => {
-            if g.named {
+            if g.propositions.is_some() {
                 return Err(Refusal::ClaimGrammar);
             }
             propositions_item(text, at, g)
@@ -333,17 +342,28 @@ fn continues(last: Kind, t: Token) -> bool
     }
 }
 
+// The counts that the items give, if they are whole.
+fn counted(g: Given) -> Result<Counts, Refusal>
+    ensures { result ≡ counted g }
+{
+    let states = g.states.ok_or(Refusal::ClaimGrammar)?;
+    let start = g.start.ok_or(Refusal::ClaimGrammar)?;
+    if !g.acceptance {
+        return Err(Refusal::ClaimGrammar);
+    }
+    Ok(Counts {
+        states,
+        start,
+        propositions: g.propositions.unwrap_or(0),
+    })
+}
+
 // What the items come to at a token that begins no other.
-fn items_end(t: Token, next: usize, g: Given, last: Kind) -> Parsed<Given>
+fn items_end(t: Token, next: usize, g: Given, last: Kind) -> Parsed<Counts>
     ensures { result ≡ items_end t next g last }
 {
     match t {
-        Token::Body => {
-            if (0 < g.states) & (g.start < Counts::MOST_STATES) & g.acceptance {
-                return Ok((g, next));
-            }
-            Err(Refusal::ClaimGrammar)
-        }
+        Token::Body => Ok((counted(g)?, next)),
         _ => {
             if continues(last, t) {
                 return Err(Refusal::NotTaken);
@@ -354,14 +374,13 @@ fn items_end(t: Token, next: usize, g: Given, last: Kind) -> Parsed<Given>
 }
 
 // The header from `at` on, past the version, up to past --BODY--.
-pub(crate) fn header_at(text: &[u8], at: usize) -> Parsed<Given>
+pub(crate) fn header_at(text: &[u8], at: usize) -> Parsed<Counts>
     ensures { HeaderSays text.now at result }
 {
     let mut g = Given {
-        states: 0,
-        start: Counts::MOST_STATES,
-        count: 0,
-        named: false,
+        states: None,
+        start: None,
+        propositions: None,
         acceptance: false,
     };
     // as after a skipped header: no sign goes on with it

@@ -3,13 +3,14 @@
 ghost use Rattle.std.specs.Prelude.{◌≡◌, false, ℕ, ◌<◌, ◌≤◌};
 ghost use Rattle.model.specs.ClaimLabels.{proposition, not_byte, open_byte};
 ghost use Rattle.model.specs.ClaimGrammar.{most_propositions};
-ghost use Rattle.claim.specs.LabelSays.{TruthOf, repeated_of, complement_of, intersection_of, union_of};
+ghost use Rattle.claim.specs.LabelSays.{TruthOf, complement_of, intersection_of, union_of};
 ghost use Rattle.claim.specs.Reads.{claim_tokens, Sign, starts, AtomRead, AndRead, OrRead, negated_of, Closed, LabelSays, constant_if, PropositionRead, no_atom_of};
 
 use crate::tokens::{
     Parsed, Seen, Token, byte_at, claim_token, fault, lone_digit, lone_letter, past_blanks, word,
 };
 use model::Refusal;
+use std::ops::{BitAnd, BitOr, Not};
 
 // A set of flag values, 0 to 255: value v is bit v of `a`, bit v - 64 of `b`, bit v - 128 of `c`, bit v - 192 of `d`.
 #[derive(Clone, Copy)]
@@ -25,47 +26,63 @@ pub(crate) const ALL: u64 = 0xFFFF_FFFF_FFFF_FFFF;
 
 const DEEPEST: usize = 16;
 
-fn repeated(bits: u64) -> Values
-    ensures { result ≡ repeated_of bits }
-{
-    Values {
-        a: bits,
-        b: bits,
-        c: bits,
-        d: bits,
+// No flag value, and each.
+pub(crate) const NOTHING: Values = Values {
+    a: 0,
+    b: 0,
+    c: 0,
+    d: 0,
+};
+
+const EVERYTHING: Values = Values {
+    a: ALL,
+    b: ALL,
+    c: ALL,
+    d: ALL,
+};
+
+impl Not for Values {
+    type Output = Values;
+
+    ghost not_gives = { λ w r. r ≡ complement_of w };
+
+    fn not(self) -> Values {
+        Values {
+            a: self.a ^ ALL,
+            b: self.b ^ ALL,
+            c: self.c ^ ALL,
+            d: self.d ^ ALL,
+        }
     }
 }
 
-fn complement(w: Values) -> Values
-    ensures { result ≡ complement_of w }
-{
-    Values {
-        a: w.a ^ ALL,
-        b: w.b ^ ALL,
-        c: w.c ^ ALL,
-        d: w.d ^ ALL,
+impl BitAnd for Values {
+    type Output = Values;
+
+    ghost bitand_gives = { λ v w r. r ≡ intersection_of v w };
+
+    fn bitand(self, w: Values) -> Values {
+        Values {
+            a: self.a & w.a,
+            b: self.b & w.b,
+            c: self.c & w.c,
+            d: self.d & w.d,
+        }
     }
 }
 
-fn intersection(v: Values, w: Values) -> Values
-    ensures { result ≡ intersection_of v w }
-{
-    Values {
-        a: v.a & w.a,
-        b: v.b & w.b,
-        c: v.c & w.c,
-        d: v.d & w.d,
-    }
-}
+impl BitOr for Values {
+    type Output = Values;
 
-pub(crate) fn union(v: Values, w: Values) -> Values
-    ensures { result ≡ union_of v w }
-{
-    Values {
-        a: v.a | w.a,
-        b: v.b | w.b,
-        c: v.c | w.c,
-        d: v.d | w.d,
+    ghost bitor_gives = { λ v w r. r ≡ union_of v w };
+
+    fn bitor(self, w: Values) -> Values {
+        Values {
+            a: self.a | w.a,
+            b: self.b | w.b,
+            c: self.c | w.c,
+            d: self.d | w.d,
+        }
     }
 }
 
@@ -102,7 +119,7 @@ fn negated(l: Parsed<Values>, odd: bool) -> Parsed<Values>
 {
     let (w, n) = l?;
     if odd {
-        return Ok((complement(w), n));
+        return Ok((!w, n));
     }
     Ok((w, n))
 }
@@ -124,10 +141,10 @@ fn constant(always: bool, never: bool, next: usize) -> Parsed<Values>
     ensures { result ≡ constant_if always never next }
 {
     if always {
-        return Ok((repeated(ALL), next));
+        return Ok((EVERYTHING, next));
     }
     if never {
-        return Ok((repeated(0), next));
+        return Ok((NOTHING, next));
     }
     Err(Refusal::ClaimGrammar)
 }
@@ -201,16 +218,17 @@ fn atom(text: &[u8], at: usize, deep: usize, count: u32) -> Parsed<Values>
     negated(closed(text, inside, b')'), odd)
 }
 
+// Beside `or_level` and not one with it: the two call each other, and a level passed in would hide how deep a call goes.
 #[cycle(and_level_atom_or_level)]
 fn and_level(text: &[u8], at: usize, deep: usize, count: u32) -> Parsed<Values>
     requires { count ≤ most_propositions }
     ensures { AndRead text.now count deep at result }
 {
-    let mut values = repeated(ALL);
+    let mut values = EVERYTHING;
     let mut here = at;
     loop {
         let (w, e) = atom(text, here, deep, count)?;
-        values = intersection(values, w);
+        values = values & w;
         if byte_at(text, e) != b'&' {
             return Ok((values, e));
         }
@@ -223,11 +241,11 @@ fn or_level(text: &[u8], at: usize, deep: usize, count: u32) -> Parsed<Values>
     requires { count ≤ most_propositions }
     ensures { OrRead text.now count deep at result }
 {
-    let mut values = repeated(0);
+    let mut values = NOTHING;
     let mut here = at;
     loop {
         let (w, e) = and_level(text, here, deep, count)?;
-        values = union(values, w);
+        values = values | w;
         if byte_at(text, e) != b'|' {
             return Ok((values, e));
         }

@@ -2,11 +2,11 @@
 // into cells of the caller's. Contracts cite specs/Judging.antt and specs/Cells.antt.
 #![tactic(auto)]
 
-ghost use Rattle.std.specs.Prelude.{◌≡◌, true, ◌+◌, ◌≤◌, length, replicate};
+ghost use Rattle.std.specs.Prelude.{◌≡◌, true, ◌≤◌, length, replicate};
 ghost use Rattle.model.specs.ClaimTokens.{opens};
 ghost use Rattle.model.specs.ClaimEntry.{ClaimSays, MovesSay};
 ghost use Rattle.claim.specs.Cells.{claim_cells};
-ghost use Rattle.claim.specs.Judging.{VersionSays, OpeningSays, TextRead, IntoSays, ClaimRead, Copied};
+ghost use Rattle.claim.specs.Judging.{VersionSays, OpeningSays, TextRead, IntoSays, ClaimRead};
 
 mod body;
 mod header;
@@ -19,7 +19,7 @@ use crate::tokens::{Seen, Token, fault, token_at, word};
 use model::{Claimed, Refusal};
 
 // The counts of a claim.
-#[derive(Clone, Copy)]
+#[derive(Clone, Copy, Debug, PartialEq, Eq)]
 pub struct Counts {
     pub states: u32,
     pub start: u32,
@@ -87,13 +87,9 @@ fn read_opened(text: &[u8], cells: &mut [u32]) -> Result<Counts, Refusal>
     ensures { TextRead text.now result cells.old cells.new }
 {
     let items = opening(text, Counts::LONGEST)?;
-    let (g, lines) = header_at(text, items)?;
-    read_body(text, lines, g.states, g.count, cells)?;
-    Ok(Counts {
-        states: g.states,
-        start: g.start,
-        propositions: g.count,
-    })
+    let (counts, lines) = header_at(text, items)?;
+    read_body(text, lines, counts.states, counts.propositions, cells)?;
+    Ok(counts)
 }
 
 // The same of any text: "14, the text does not open with the tokens `HOA:` and v1", however long it is.
@@ -107,16 +103,6 @@ fn read_text(text: &[u8], cells: &mut [u32]) -> Result<Counts, Refusal>
     }
 }
 
-fn clear(cells: &mut [u32])
-    ensures { cells.new ≡ replicate (length cells.old) 0 }
-{
-    let mut i: usize = 0;
-    while i < cells.len() {
-        cells[i] = 0;
-        i += 1;
-    }
-}
-
 // Reads into cells that have room, all zeros before; after a refusal they are so again.
 fn read_into(text: &[u8], cells: &mut [u32]) -> Result<Counts, Refusal>
     requires claim_cells_in_bounds { claim_cells ≤ length cells.old }
@@ -125,7 +111,7 @@ fn read_into(text: &[u8], cells: &mut [u32]) -> Result<Counts, Refusal>
 {
     let judged = read_text(text, cells);
     if judged.is_err() {
-        clear(cells);
+        cells.fill(0);
     }
     judged
 }
@@ -134,24 +120,12 @@ fn read_into(text: &[u8], cells: &mut [u32]) -> Result<Counts, Refusal>
 pub fn read_claim(text: &[u8], cells: &mut [u32]) -> Result<Counts, Refusal>
     ensures { ClaimRead text.now result cells.old cells.new }
 {
-    clear(cells);
+    cells.fill(0);
     if cells.len() < Counts::CELLS {
         let mut own = [0u32; Counts::CELLS];
         return read_into(text, &mut own);
     }
     read_into(text, &mut cells[..Counts::CELLS])
-}
-
-// A part of the cells, from `at` on.
-fn copy(cells: &[u32], at: usize, part: &mut [u32])
-    requires { at + length part.old ≤ length cells.now }
-    ensures { Copied cells.now at part.new }
-{
-    let mut i: usize = 0;
-    while i < part.len() {
-        part[i] = cells[at + i];
-        i += 1;
-    }
 }
 
 // A text as a claim: its refusal or its counts, and of each state its mark and its name's place and length.
@@ -163,27 +137,28 @@ pub fn describe_claim(text: &[u8]) -> Claimed
     let mut name_at = [0u32; 15];
     let mut name_length = [0u32; 15];
     let judged = read_into(text, &mut cells);
-    copy(&cells, 0, &mut accepting);
-    copy(&cells, Counts::NAMES, &mut name_at);
-    copy(&cells, Counts::LENGTHS, &mut name_length);
+    accepting.copy_from_slice(&cells[..Counts::NAMES]);
+    name_at.copy_from_slice(&cells[Counts::NAMES..Counts::LENGTHS]);
+    name_length.copy_from_slice(&cells[Counts::LENGTHS..Counts::LEADS]);
+    let described = Claimed {
+        refusal: 0,
+        states: 0,
+        start: 0,
+        propositions: 0,
+        accepting,
+        name_at,
+        name_length,
+    };
     match judged {
-        Err(r) => Claimed {
-            refusal: r.number(),
-            states: 0,
-            start: 0,
-            propositions: 0,
-            accepting: accepting,
-            name_at: name_at,
-            name_length: name_length,
+        Err(refusal) => Claimed {
+            refusal: refusal.number(),
+            ..described
         },
-        Ok(c) => Claimed {
-            refusal: 0,
-            states: c.states,
-            start: c.start,
-            propositions: c.propositions,
-            accepting: accepting,
-            name_at: name_at,
-            name_length: name_length,
+        Ok(counts) => Claimed {
+            states: counts.states,
+            start: counts.start,
+            propositions: counts.propositions,
+            ..described
         },
     }
 }

@@ -1,6 +1,6 @@
 // The tokens of a claim, one at a time: `token_at` reads the one at a place of a text of which `limit` bytes are looked at.
-ghost use Rattle.std.specs.Prelude.{◌≡◌, true, false, ◌&&◌, [], ◌+◌, ◌-◌, ◌<◌, min, leb, length, get_or};
-ghost use Rattle.text.specs.Lines.{equal, begins};
+ghost use Rattle.std.specs.Prelude.{◌≡◌, true, false, [], ◌+◌, ◌-◌, ◌<◌, length, get_or};
+ghost use Rattle.text.specs.Lines.{equal};
 ghost use Rattle.text.specs.Numbers.{is_digit};
 ghost use Rattle.model.specs.ClaimTokens.{longest_claim, is_blank, is_letter, is_name_byte, is_symbol, at_sign, slash, in_name, in_number, in_string, in_mark};
 ghost use Rattle.claim.specs.Reads.{part, lexed, tokens_at, claim_tokens, byte_of, LoneDigit, LoneLetter, BlanksEnd, NameEnd, Sees, is_symbol_of, fault_of};
@@ -36,72 +36,46 @@ pub(crate) type Parsed<T> = Result<(T, usize), Refusal>;
 
 const NUMBER_END: u64 = 2147483648;
 
-fn within(b: u8, low: u8, high: u8) -> bool
-    ensures { result ≡ (leb low b && leb b high) }
-{
-    (low <= b) & (b <= high)
-}
-
 fn blank(b: u8) -> bool
     ensures { result ≡ is_blank b }
 {
-    (b == b' ') | within(b, 9, 13)
-}
-
-fn digit(b: u8) -> bool
-    ensures { result ≡ is_digit b }
-{
-    within(b, b'0', b'9')
+    matches!(b, b' ' | 9..=13)
 }
 
 // Small letters first: most bytes of a name are.
 fn letter(b: u8) -> bool
     ensures { result ≡ is_letter b }
 {
-    if within(b, b'a', b'z') {
-        return true;
-    }
-    within(b, b'A', b'Z') | (b == b'_')
+    b.is_ascii_lowercase() || (b.is_ascii_uppercase() | (b == b'_'))
 }
 
 fn name_byte(b: u8) -> bool
     ensures { result ≡ is_name_byte b }
 {
-    if letter(b) {
-        return true;
-    }
-    digit(b) | (b == b'-')
+    letter(b) || (b.is_ascii_digit() | (b == b'-'))
 }
 
 fn symbol(b: u8) -> bool
     ensures { result ≡ is_symbol b }
 {
-    (b == b'[')
-        | ((b == b']')
-            | ((b == b'(')
-                | ((b == b')')
-                    | ((b == b'{') | ((b == b'}') | ((b == b'!') | ((b == b'&') | (b == b'|'))))))))
-}
-
-// The smaller of two numbers.
-fn smaller(a: usize, b: usize) -> usize
-    ensures { result ≡ min a b }
-{
-    if a < b { a } else { b }
+    matches!(
+        b,
+        b'[' | b']' | b'(' | b')' | b'{' | b'}' | b'!' | b'&' | b'|'
+    )
 }
 
 // The place of the first byte from `at` on that is no blank.
 fn blanks_end(text: &[u8], at: usize, limit: usize) -> usize
     ensures { BlanksEnd text.now limit at result }
 {
-    let stop = smaller(limit, text.len());
+    let stop = limit.min(text.len());
     let mut e = at;
+    // Over `for e in at..stop` blanks take half as long again.
     while e < stop {
-        if blank(text[e]) {
-            e += 1;
-        } else {
+        if !blank(text[e]) {
             return e;
         }
+        e += 1;
     }
     e
 }
@@ -111,16 +85,13 @@ fn name_end(text: &[u8], at: usize, limit: usize) -> usize
     requires { at < length text.now }
     ensures { NameEnd text.now limit at result }
 {
-    let stop = smaller(limit, text.len());
-    let mut e = at + 1;
-    while e < stop {
-        if name_byte(text[e]) {
-            e += 1;
-        } else {
+    let stop = limit.min(text.len());
+    for e in at + 1..stop {
+        if !name_byte(text[e]) {
             return e;
         }
     }
-    e
+    stop.max(at + 1)
 }
 
 // The name that begins at `at`, or a header's name.
@@ -159,18 +130,17 @@ fn number_from(text: &[u8], at: usize, limit: usize) -> Seen
     requires at_value { is_digit (get_or text.now at 0) ≡ true }
     ensures { Sees text.now limit at (lexed text.now limit (in_number (get_or text.now at 0 - 48)) (at + 1)) result }
 {
-    let stop = smaller(limit, text.len());
-    let mut v: u64 = (text[at] - b'0') as u64;
-    let mut e = at + 1;
-    while e < stop {
+    let stop = limit.min(text.len());
+    let mut v = u64::from(text[at] - b'0');
+    for e in at + 1..stop {
         let b = text[e];
-        if !digit(b) {
+        if !b.is_ascii_digit() {
             return Seen {
                 token: Token::Number(v as u32),
                 next: e,
             };
         }
-        let w = 10 * v + (b - b'0') as u64;
+        let w = 10 * v + u64::from(b - b'0');
         if (v == 0) | (NUMBER_END <= w) {
             return Seen {
                 token: Token::Stray,
@@ -178,17 +148,17 @@ fn number_from(text: &[u8], at: usize, limit: usize) -> Seen
             };
         }
         v = w;
-        e += 1;
     }
-    if e < text.len() {
+    let next = stop.max(at + 1);
+    if next < text.len() {
         return Seen {
             token: Token::Stray,
-            next: e,
+            next,
         };
     }
     Seen {
         token: Token::Number(v as u32),
-        next: e,
+        next,
     }
 }
 
@@ -197,7 +167,7 @@ fn string_from(text: &[u8], at: usize, limit: usize) -> Seen
     requires { at < length text.now }
     ensures { Sees text.now limit at (lexed text.now limit (in_string []) (at + 1)) result }
 {
-    let stop = smaller(limit, text.len());
+    let stop = limit.min(text.len());
     let mut e = at + 1;
     while e < stop {
         let b = text[e];
@@ -220,37 +190,20 @@ fn string_from(text: &[u8], at: usize, limit: usize) -> Seen
     }
 }
 
-// Whether `word` stands at `at`, before `limit`.
-fn stands(text: &[u8], at: usize, limit: usize, word: &[u8]) -> bool
-    ensures { result ≡ begins word.now (part text.now at limit) }
-{
-    let stop = smaller(limit, text.len());
-    let mut e = at;
-    let mut i: usize = 0;
-    while i < word.len() {
-        if stop <= e {
-            return false;
-        }
-        if text[e] != word[i] {
-            return false;
-        }
-        e += 1;
-        i += 1;
-    }
-    true
-}
-
 // The mark at `at`, of the body or the end.
 fn mark_from(text: &[u8], at: usize, limit: usize) -> Seen
+    requires at_in_bounds { at < length text.now }
+    requires at_lt_limit { at < limit }
     ensures { Sees text.now limit at (lexed text.now limit (in_mark []) at) result }
 {
-    if stands(text, at, limit, b"--BODY--") {
+    let rest = &text[at..limit.min(text.len())];
+    if rest.starts_with(b"--BODY--") {
         return Seen {
             token: Token::Body,
             next: at + 8,
         };
     }
-    if stands(text, at, limit, b"--END--") {
+    if rest.starts_with(b"--END--") {
         return Seen {
             token: Token::End,
             next: at + 7,
@@ -268,7 +221,7 @@ fn alias_from(text: &[u8], at: usize, limit: usize) -> Seen
     ensures { Sees text.now limit at (lexed text.now limit at_sign (at + 1)) result }
 {
     let e = at + 1;
-    if e < smaller(limit, text.len()) {
+    if e < limit.min(text.len()) {
         if name_byte(text[e]) {
             return Seen {
                 token: Token::Alias,
@@ -288,7 +241,7 @@ fn comment_from(text: &[u8], at: usize, limit: usize) -> Seen
     ensures { Sees text.now limit at (lexed text.now limit slash (at + 1)) result }
 {
     let e = at + 1;
-    if e < smaller(limit, text.len()) {
+    if e < limit.min(text.len()) {
         if text[e] == b'*' {
             return Seen {
                 token: Token::Comment,
@@ -310,7 +263,7 @@ fn token_from(text: &[u8], at: usize, limit: usize) -> Seen
     ensures { Sees text.now limit at (tokens_at text.now limit at) result }
 {
     let b = text[at];
-    if digit(b) {
+    if b.is_ascii_digit() {
         return number_from(text, at, limit);
     }
     if letter(b) {
@@ -378,7 +331,7 @@ pub(crate) fn past_blanks(text: &[u8], at: usize) -> usize
 pub(crate) fn byte_at(text: &[u8], at: usize) -> u8
     ensures { result ≡ byte_of text.now at }
 {
-    if at < smaller(Counts::LONGEST, text.len()) {
+    if at < Counts::LONGEST.min(text.len()) {
         text[at]
     } else {
         0
@@ -401,14 +354,14 @@ pub(crate) fn lone_digit(text: &[u8], at: usize) -> Option<u32>
     ensures { LoneDigit text.now at result }
 {
     let b = byte_at(text, at);
-    if !digit(b) {
+    if !b.is_ascii_digit() {
         return None;
     }
     let next = byte_at(text, at + 1);
-    if (next == 0) | digit(next) {
+    if (next == 0) | next.is_ascii_digit() {
         return None;
     }
-    Some((b - b'0') as u32)
+    Some(u32::from(b - b'0'))
 }
 
 // The name at `at` of a claim, where it has one letter and a byte follows it; `None` says nothing.
@@ -446,17 +399,11 @@ pub(crate) fn fault(t: Token) -> Refusal
     }
 }
 
-// Whether the bytes from `a` to `e` are `w`: by their number first, which differs for most words.
+// Whether the bytes from `a` to `e` are `w`.
 pub(crate) fn word(text: &[u8], a: usize, e: usize, w: &[u8]) -> bool
     requires { 0 < length w.now }
     ensures { result ≡ equal (part text.now a e) w.now }
 {
-    let stop = smaller(e, text.len());
-    if stop < a {
-        return false;
-    }
-    if stop - a != w.len() {
-        return false;
-    }
-    stands(text, a, e, w)
+    let stop = e.min(text.len());
+    (a <= stop) && (&text[a..stop] == w)
 }

@@ -1,4 +1,5 @@
 -- `body::add_edges` meets its contract: a target a turn. Assumes nothing.
+use mathlib.Core.Path.{refl}
 use native.Mathlib.Omega.{arith}
 use borrow.Author.Tests.{eq-eqb, ne_eqb}
 use Rattle.model.specs.ClaimLabels.{bit}
@@ -14,7 +15,7 @@ loop-d-preserved-then-leads-d-ne1 c = spread_past c.loop-d.invariant c.loop-d-te
 
 pub loop-d-preserved : goal.loop-d-preserved
 unfolding bit
-loop-d-preserved c = spread_more c.loop-d.invariant _ c.loop-d-test.true (eq-eqb _ 1 c.if-leads-d-ne1.false) c.add_moves.auto.cells c.set_of.ensures c.add_moves.ensures
+loop-d-preserved c = spread_more c.loop-d.invariant _ c.loop-d-test.true (eq-eqb _ 1 c.if-leads-d-ne1.false) c.add_moves.auto.cells refl c.add_moves.ensures
 
 pub returns : goal.returns
 returns c = let i = c.loop-d.invariant in all_led i c.requires.c_lt_most_states (omega (arith, c.requires.claim_cells_in_bounds, i.long)) c.loop-d-test.false c.requires.by_index

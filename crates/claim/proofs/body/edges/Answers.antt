@@ -26,7 +26,7 @@ pub loop-sets-preserved : goal.loop-sets-preserved
 loop-sets-preserved c = edges_more c.loop-sets.invariant (sym c.byte_at.ensures ∙ c.loop-sets-test.true) _ _ _ c.in_ok-d.ensures c.requires.states_le_most_states c.edge.auto.sets
 
 pub add_edges-requires : goal.add_edges-requires
-add_edges-requires c = let i = c.loop-sets.invariant in record { c_lt_most_states = c.requires.c_lt_most_states; claim_cells_in_bounds = c.requires.claim_cells_in_bounds; set_words_in_bounds = omega (arith, i.long); by_index = i.near_all }
+add_edges-requires c = let i = c.loop-sets.invariant in record { c_lt_most_states = c.requires.c_lt_most_states; claim_cells_in_bounds = c.requires.claim_cells_in_bounds; sets_in_bounds = omega (arith, i.long); by_index = i.near_all }
 
 pub returns : goal.returns
 returns c = edges_done c.loop-sets.invariant _ _ _ (λ q. c.loop-sets-test.false (c.byte_at.ensures ∙ q)) c.requires.c_lt_most_states c.add_edges.ensures

@@ -2,20 +2,18 @@
 use mathlib.Core.Path.{sym, ◌∙◌}
 use native.Mathlib.Omega.{arith}
 use lib.ListN.{length-set}
-use borrow.Author.Tests.{not-true, not-false}
 use Rattle.std.specs.Prelude.{Ok, Err}
 use Rattle.model.specs.declared.refusal.Refusal.TheVariants.{ClaimGrammar}
 use mathlib.Core.List.{[]}
 use Rattle.claim.proofs.BodyCode.{quoted_at, title_is, title_broken, title_none, title_past}
 use borrow.Enum.Refused.{opened}
-use Rattle.std.proofs.lemmas.Bool.{not_from_false, not_from_true}
 use Rattle.claim.proofs.body.title.Goals as goal
 
 pub title_fits-requires : goal.title_fits-requires
 title_fits-requires c = let q = quoted_at c.claim_token-token.ensures _ _ c.in-Text.is in record { a_le_e = q.ahead; e_in_bounds = q.inside }
 
 pub returns-then-not-title_fits : goal.returns-then-not-title_fits
-returns-then-not-title_fits c = title_past c.past_blanks-here.ensures _ (Err ClaimGrammar) [] [] (title_broken c.claim_token-token.ensures _ _ _ c.in-Text.is (sym c.title_fits.ensures ∙ not-true _ (not_from_false _ c.if-not-title_fits.true)))
+returns-then-not-title_fits c = title_past c.past_blanks-here.ensures _ (Err ClaimGrammar) [] [] (title_broken c.claim_token-token.ensures _ _ _ c.in-Text.is (sym c.title_fits.ensures ∙ c.if-not-title_fits.true))
 
 pub overflow_cast-cells : goal.overflow_cast-cells
 overflow_cast-cells c = let q = quoted_at c.claim_token-token.ensures _ _ c.in-Text.is in omega (arith, q.ahead, q.looked_at)
@@ -30,7 +28,7 @@ pub bounds-cells-c-2 : goal.bounds-cells-c-2
 bounds-cells-c-2 c = rw (length-set c.args.cells.now _ _) (omega (arith, c.requires.c_lt_most_states, c.requires.claim_cells_in_bounds))
 
 pub returns : goal.returns
-returns c = title_past c.past_blanks-here.ensures _ (Ok _) _ _ (title_is c.claim_token-token.ensures _ _ _ c.in-Text.is (sym c.title_fits.ensures ∙ not-false _ (not_from_true _ c.if-not-title_fits.false)) c.requires.c_lt_most_states _ c.requires.claim_cells_in_bounds)
+returns c = title_past c.past_blanks-here.ensures _ (Ok _) _ _ (title_is c.claim_token-token.ensures _ _ _ c.in-Text.is (sym c.title_fits.ensures ∙ c.if-not-title_fits.false) c.requires.c_lt_most_states _ c.requires.claim_cells_in_bounds)
 
 pub returns-in_default : goal.returns-in_default
 returns-in_default c = title_past c.past_blanks-here.ensures _ (Ok _) _ _ (title_none c.claim_token-token.ensures _ (opened c.in_default.in_default-own.keys2) _)

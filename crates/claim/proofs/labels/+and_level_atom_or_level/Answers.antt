@@ -1,5 +1,5 @@
 -- `labels::atom`, `and_level` and `or_level` meet their contracts: each call goes deeper, or one level down. Assumes nothing.
-use mathlib.Core.Path.{sym, ◌∙◌}
+use mathlib.Core.Path.{refl, sym, ◌∙◌}
 use native.Mathlib.Omega.{arith}
 use Rattle.model.specs.ClaimLabels.{not_byte, open_byte}
 use Rattle.claim.proofs.Signs.{not_sign, open_sign, close_sign, sign_inside, sign_not}
@@ -8,19 +8,19 @@ use Rattle.claim.proofs.Variants.{handed_on}
 use Rattle.claim.proofs.labels.+and_level_atom_or_level.Goals as goal
 
 pub and_level-loop-w-init : goal.and_level-loop-w-init
-and_level-loop-w-init t c = and_first_due _ _ _ _ _ c.repeated-values.ensures
+and_level-loop-w-init t c = and_first_due _ _ _ _ _ refl
 
 pub and_level-returns-in_err-w : goal.and_level-returns-in_err-w
 and_level-returns-in_err-w t c = rw (handed_on c.from_residual.ensures) (and_broken _ c.loop-w.invariant _ c.in_err-w.ensures)
 
 pub and_level-returns-then-byte_at-ne38 : goal.and_level-returns-then-byte_at-ne38
-and_level-returns-then-byte_at-ne38 t c = and_ended _ c.loop-w.invariant _ _ c.in_ok-w.ensures _ c.intersection-values.ensures (λ q. c.if-byte_at-ne38.true (c.byte_at.ensures ∙ q))
+and_level-returns-then-byte_at-ne38 t c = and_ended _ c.loop-w.invariant _ _ c.in_ok-w.ensures _ c.bitand-values.ensures (λ q. c.if-byte_at-ne38.true (c.byte_at.ensures ∙ q))
 
 pub and_level-loop-w-smaller : goal.and_level-loop-w-smaller
-and_level-loop-w-smaller t c = let h = and_ahead _ c.loop-w.invariant _ _ c.in_ok-w.ensures _ c.intersection-values.ensures (sym c.byte_at.ensures ∙ c.if-byte_at-ne38.false) in omega (arith, h.more, h.inside)
+and_level-loop-w-smaller t c = let h = and_ahead _ c.loop-w.invariant _ _ c.in_ok-w.ensures _ c.bitand-values.ensures (sym c.byte_at.ensures ∙ c.if-byte_at-ne38.false) in omega (arith, h.more, h.inside)
 
 pub and_level-loop-w-preserved : goal.and_level-loop-w-preserved
-and_level-loop-w-preserved t c = and_again _ c.loop-w.invariant _ _ c.in_ok-w.ensures _ c.intersection-values.ensures (sym c.byte_at.ensures ∙ c.if-byte_at-ne38.false)
+and_level-loop-w-preserved t c = and_again _ c.loop-w.invariant _ _ c.in_ok-w.ensures _ c.bitand-values.ensures (sym c.byte_at.ensures ∙ c.if-byte_at-ne38.false)
 
 pub atom-loop-at-init : goal.atom-loop-at-init
 atom-loop-at-init t c = nots_none _ _ _ _ _ c.past_blanks-here.ensures
@@ -59,16 +59,16 @@ pub atom-returns : goal.atom-returns
 atom-returns t c = nots_carried c.loop-at.invariant c.closed.result c.negated-2.result c.negated-2.ensures (atom_closed _ _ _ _ (sym c.byte_at-2.ensures ∙ c.if-byte_at-ne40.false) c.if-down-ge-DEEPEST-2.false c.or_level-inside.result c.closed.result c.or_level-inside.ensures c.closed.ensures)
 
 pub or_level-loop-w-init : goal.or_level-loop-w-init
-or_level-loop-w-init t c = or_first_due _ _ _ _ _ c.repeated-values.ensures
+or_level-loop-w-init t c = or_first_due _ _ _ _ _ refl
 
 pub or_level-returns-in_err-w : goal.or_level-returns-in_err-w
 or_level-returns-in_err-w t c = rw (handed_on c.from_residual.ensures) (or_broken _ c.loop-w.invariant _ c.in_err-w.ensures)
 
 pub or_level-returns-then-byte_at-ne124 : goal.or_level-returns-then-byte_at-ne124
-or_level-returns-then-byte_at-ne124 t c = or_ended _ c.loop-w.invariant _ _ c.in_ok-w.ensures _ c.union-values.ensures (λ q. c.if-byte_at-ne124.true (c.byte_at.ensures ∙ q))
+or_level-returns-then-byte_at-ne124 t c = or_ended _ c.loop-w.invariant _ _ c.in_ok-w.ensures _ c.bitor-values.ensures (λ q. c.if-byte_at-ne124.true (c.byte_at.ensures ∙ q))
 
 pub or_level-loop-w-smaller : goal.or_level-loop-w-smaller
-or_level-loop-w-smaller t c = let h = or_ahead _ c.loop-w.invariant _ _ c.in_ok-w.ensures _ c.union-values.ensures (sym c.byte_at.ensures ∙ c.if-byte_at-ne124.false) in omega (arith, h.more, h.inside)
+or_level-loop-w-smaller t c = let h = or_ahead _ c.loop-w.invariant _ _ c.in_ok-w.ensures _ c.bitor-values.ensures (sym c.byte_at.ensures ∙ c.if-byte_at-ne124.false) in omega (arith, h.more, h.inside)
 
 pub or_level-loop-w-preserved : goal.or_level-loop-w-preserved
-or_level-loop-w-preserved t c = or_again _ c.loop-w.invariant _ _ c.in_ok-w.ensures _ c.union-values.ensures (sym c.byte_at.ensures ∙ c.if-byte_at-ne124.false)
+or_level-loop-w-preserved t c = or_again _ c.loop-w.invariant _ _ c.in_ok-w.ensures _ c.bitor-values.ensures (sym c.byte_at.ensures ∙ c.if-byte_at-ne124.false)

@@ -3,7 +3,7 @@ use mathlib.Core.Path.{sym}
 use Rattle.claim.proofs.labels.constant.Goals as goal
 
 pub returns-then-always : goal.returns-then-always
-returns-then-always c = sym (rw (c.if-always.true, c.repeated.ensures))
+returns-then-always c = sym (rw c.if-always.true)
 
 pub returns-then-never : goal.returns-then-never
-returns-then-never c = sym (rw (c.if-always.false, c.if-never.true, c.repeated-then-never.ensures))
+returns-then-never c = sym (rw (c.if-always.false, c.if-never.true))

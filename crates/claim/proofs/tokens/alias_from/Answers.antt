@@ -10,5 +10,5 @@ returns-then-name_byte c = alias_is _ _ _ _ (omega arith) (sym c.name_byte.ensur
 pub returns-else-name_byte : goal.returns-else-name_byte
 returns-else-name_byte c = alias_not _ _ _ _ (omega arith) (sym c.name_byte.ensures ∙ c.if-name_byte.false)
 
-pub returns-else-e-smaller : goal.returns-else-e-smaller
-returns-else-e-smaller c = alias_torn _ _ _ _ (omega arith)
+pub returns-else-e-min : goal.returns-else-e-min
+returns-else-e-min c = alias_torn _ _ _ _ (omega arith)

@@ -9,5 +9,5 @@ returns-then-text-e-eq42 c = comment_is _ _ _ _ (omega arith) c.if-text-e-eq42.t
 pub returns-else-text-e-eq42 : goal.returns-else-text-e-eq42
 returns-else-text-e-eq42 c = comment_not _ _ _ _ (omega arith) c.if-text-e-eq42.false
 
-pub returns-else-e-smaller : goal.returns-else-e-smaller
-returns-else-e-smaller c = comment_torn _ _ _ _ (omega arith)
+pub returns-else-e-min : goal.returns-else-e-min
+returns-else-e-min c = comment_torn _ _ _ _ (omega arith)

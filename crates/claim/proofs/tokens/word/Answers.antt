@@ -1,14 +1,10 @@
 -- `tokens::word` meets its contract. Assumes nothing.
-use native.Mathlib.Omega.{arith}
-use mathlib.Core.Path.{◌∙◌}
-use Rattle.claim.proofs.Lexing.{word_other, word_as_long}
+use Rattle.claim.proofs.Lexing.{word_there, word_past}
+use borrow.Author.Tests.{lt-leb}
 use Rattle.claim.proofs.tokens.word.Goals as goal
 
-pub returns-then-stop-a : goal.returns-then-stop-a
-returns-then-stop-a c = word_other _ _ _ _ c.smaller-stop.ensures (λ q. absurd (omega (arith, c.if-stop-a.true, c.requires)))
+pub returns-then-a-stop : goal.returns-then-a-stop
+returns-then-a-stop c = word_there _ _ _ _ c.min-stop.ensures c.eq.ensures
 
-pub returns-then-stop-a-2 : goal.returns-then-stop-a-2
-returns-then-stop-a-2 c = word_other _ _ _ _ c.smaller-stop.ensures c.if-stop-a-2.true
-
-pub returns : goal.returns
-returns c = c.stands.ensures ∙ word_as_long _ _ _ _ c.smaller-stop.ensures c.if-stop-a-2.false
+pub returns-else-a-stop : goal.returns-else-a-stop
+returns-else-a-stop c = rw (lt-leb _ _ c.if-a-stop.false) (word_past _ _ _ _ c.min-stop.ensures c.if-a-stop.false c.requires)
