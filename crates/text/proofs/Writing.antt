@@ -6,15 +6,15 @@ use mathlib.Core.List.{List, [], ◌∷◌, ◌++◌, append_assoc}
 use mathlib.Core.Logic.{inl, inr}
 use Prim.Native.Nat.{ℕ, suc, ◌+◌, ◌-◌, ◌≤◌, ◌<◌}
 use native.Mathlib.Nat.{add-zero, zero-add}
+use native.Mathlib.Numerals.{add-one}
 use native.Mathlib.Omega.{arith}
 use lib.Dec.{leb}
-use lib.ListN.{length, get_or, set, take, drop, length-append}
-use lib.Seq.{append_snoc, drop-drop, length-take-le, take-suc, set_at, get_or-set_other, sets, sets-eq, length-sets}
+use lib.ListN.{length, get_or, set, take, drop, length-append, length-set}
+use lib.Seq.{append_snoc, length-take-le, take-suc, set_at, get_or-set_other, sets, sets-eq, length-sets, paste, paste-zero, paste-suc, take-length}
 use borrow.Author.Tests.{leb-true, leb-false, le-leb, lt-leb}
 use Rattle.std.specs.Prelude.{Option, Some, None}
 use Rattle.text.specs.declared.write.Writer.{Writer}
 use Rattle.text.specs.Writing.{put, end_after, granted, output_after, Writes, Reserves, Outside}
-use borrow.Rule.Slice.PartMut.{put_mid}
 use Rattle.text.specs.Promise.{OnlyThere}
 
 -- PUT is a run of stores
@@ -142,10 +142,26 @@ writes_there {bs} {w} {v} {u} {r} {at} q p e o =
 pub reserved_as : {k n : ℕ} {w v : Writer} {r : Option ℕ} → k ≡ n → Reserves k w v r → Reserves n w v r
 reserved_as e q = rw (← e) q
 
--- the part of a list that a copy took the place of
-pub mid_put : (at : ℕ) (bs o ys : List ℕ) → ys ≡ bs → put_mid at (at + length bs - at) o ys ≡ put at bs o
+-- COPYING: i bytes are copied
+pub record Copied (at : ℕ) (bs : List ℕ) (i : ℕ) (o z : List ℕ) : Type 0 where
+  pub room : at + length bs ≤ length o
+  pub kept : length z ≡ length o
+  pub holds : z ≡ paste o at bs i
+
+pub copied_start : (at : ℕ) (bs o : List ℕ) → at + length bs ≤ length o → Copied at bs 0 o o
+copied_start at bs o h = record { room = h; kept = refl; holds = paste-zero o at bs }
+
+pub copied_step : (at : ℕ) (bs : List ℕ) (i : ℕ) (o z : List ℕ) → Copied at bs i o z → i < length bs → Copied at bs (i + 1) o (set z (at + i) (get_or bs i 0))
+copied_step at bs i o z c h =
+    record {
+      room = c.room;
+      kept = length-set z (at + i) (get_or bs i 0) ∙ c.kept;
+      holds = rw (add-one i, c.holds) (paste-suc o at bs i 0 (omega (arith, c.room)) h);
+    }
+
+pub copied_end : (at : ℕ) (bs : List ℕ) (i : ℕ) (o z : List ℕ) → Copied at bs i o z → i ≡ length bs → z ≡ put at bs o
 unfolding put
-mid_put at bs o ys e = let k : at + length bs - at ≡ length bs = omega arith in rw (k, e, drop-drop (length bs) at o) (sym (append_assoc (take at o) bs (drop (at + length bs) o)))
+copied_end at bs i o z c e = c.holds ∙ rw (e, take-length bs) refl
 
 -- ONE BYTE
 pub put_one : (at b : ℕ) (o : List ℕ) → at < length o → put at (b ∷ []) o ≡ set o at b

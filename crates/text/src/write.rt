@@ -10,12 +10,15 @@ fn room(len: usize, at: usize, size: usize) -> bool
     at <= len && size <= len - at
 }
 
-// Bytes from a place on that has room for them.
+// Bytes from a place on that has room for them. Not by `copy_from_slice`, for which the library would need memmove: C is told
+// that it needs memcpy and memset alone.
 fn copy_to(output: &mut [u8], at: usize, bytes: &[u8])
     requires { at + length bytes.now ≤ length output.old }
     ensures { output.new ≡ put at bytes.now output.old }
 {
-    output[at..at + bytes.len()].copy_from_slice(bytes);
+    for i in 0..bytes.len() {
+        output[at + i] = bytes[i];
+    }
 }
 
 // An output, and the place past what is written there; it has none once something had no room, and nothing is written then.
