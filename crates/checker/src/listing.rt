@@ -12,7 +12,7 @@ use model::{Refusal, Verdict};
 use text::read::{Signed, name_line, signed_row};
 
 // The number of a vertex, if it is listed.
-fn number_of(t: &[Option<i32>], v: usize) -> Option<i32>
+fn number_of(t: &[Option<i16>], v: usize) -> Option<i16>
     ensures { result ≡ get_or t.now v None }
 {
     t.get(v).copied().flatten()
@@ -20,12 +20,12 @@ fn number_of(t: &[Option<i32>], v: usize) -> Option<i32>
 
 // A number as a distance, if it is one: no farther than can be, and not `-0`.
 #[tactic(auto, unfolding(crate::specs::Checking::distance_of))]
-fn distance(written: Signed) -> Option<i32>
+fn distance(written: Signed) -> Option<i16>
     ensures { result ≡ distance_of written }
 {
     match written {
-        Signed::Plus(d) if d <= Case::FARTHEST => Some(d as i32),
-        Signed::Minus(d) if 1 <= d && d <= Case::FARTHEST => Some(-(d as i32)),
+        Signed::Plus(d) if d <= Case::FARTHEST => Some(d as i16),
+        Signed::Minus(d) if 1 <= d && d <= Case::FARTHEST => Some(-(d as i16)),
         _ => None,
     }
 }
@@ -36,7 +36,7 @@ fn vertex_lines(
     at: usize,
     k: usize,
     n: usize,
-    numbers: &mut [Option<i32>],
+    numbers: &mut [Option<i16>],
 ) -> Result<usize, Refusal>
     requires { Blank n numbers.old }
     ensures { ListingSays text.now at k n numbers.new result }
@@ -59,7 +59,7 @@ fn vertex_lines(
 
 // Whether an edge leads right between vertices of these numbers, from one of this mark: its length is −1 where that accepts,
 // else 0.
-fn leads_right(mark: usize, a: Option<i32>, b: Option<i32>) -> bool
+fn leads_right(mark: usize, a: Option<i16>, b: Option<i16>) -> bool
     ensures { result ≡ leads (held a) (held b) (length_by mark) }
 {
     match (a, b) {
@@ -70,7 +70,7 @@ fn leads_right(mark: usize, a: Option<i32>, b: Option<i32>) -> bool
 }
 
 // Whether every edge leads right.
-fn all_lead(graph: Graph, numbers: &[Option<i32>]) -> bool
+fn all_lead(graph: Graph, numbers: &[Option<i16>]) -> bool
     ensures { LeadSays graph.entry numbers.now result }
 {
     for e in 0..graph.case.edges {

@@ -2,7 +2,7 @@
 use native.Mathlib.Omega.{arith}
 use mathlib.Core.Path.{◌∙◌, sym}
 use mir.Facts.{to_z-of_z}
-use mir.Syntax.{w32}
+use mir.Syntax.{w16}
 use mir.Val.{SFits}
 use Rattle.std.proofs.Common.{rules}
 use Rattle.text.proofs.ReadingSigned.{signed_at, signed_fault}
@@ -31,7 +31,7 @@ bounds-numbers-v c = in_table c.loop.invariant (omega arith) (signed_at c.signed
 
 pub loop-preserved : goal.loop-preserved
 loop-preserved c =
-    let fits : SFits w32 c.in_ok-number.number = search rules in
+    let fits : SFits w16 c.in_ok-number.number = search rules in
     rw (to_z-of_z fits)
     (listing_on c.loop.invariant (omega arith) (signed_at c.signed_row.ensures c.in_ok-row.ensures.ok_part) c.if-v-least.false c.if-n-v.false (sym c.distance.ensures ∙ c.in_ok-number.ensures.ok_part))
 
