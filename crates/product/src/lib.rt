@@ -66,8 +66,8 @@ pub fn build_case(chart: &[u8], claim: &[u8], workers: u32, output: &mut [u8]) -
     built(try_build(chart, claim, workers, output))
 }
 
-// The listing of an answer to the case file built, at the output's front: what the checker says of it, and a passing lasso's
-// steps. Its edges stand from line 4 to its end.
+// The listing of an answer to the case file built, at the output's front: what the checker says of it, in the C interface's
+// numbers, and a passing lasso's steps. Its edges stand from line 4 to its end.
 fn list_checked(
     chart: &[u8],
     claim: &[u8],
