@@ -55,7 +55,8 @@ fn try_build(chart: &[u8], claim: &[u8], workers: u32, output: &mut [u8]) -> Res
         follow: &follow,
         cells: &cells,
     };
-    let edges = product.edges()?;
+    let mut edges = Edges::new();
+    product.find_edges(&mut edges)?;
     Ok(product.write(output, workers as usize, &edges) as u32)
 }
 
@@ -115,7 +116,8 @@ fn list_read(
     requires { ListAsks chart.now claim.now product.now.sizes product.now.follow.now product.now.cells.now output.old }
     ensures { StepsSay chart.now claim.now answer.now (built_as result) output.old output.new }
 {
-    let edges = product.edges()?;
+    let mut edges = Edges::new();
+    product.find_edges(&mut edges)?;
     let mut case = [0u8; Case::LONGEST_FILE];
     let n = product.write(&mut case, 1, &edges);
     list_checked(chart, claim, answer, &case[..n], product, &edges, output)
