@@ -10,7 +10,7 @@ use Rattle.text.specs.Ascii.{ascii}
 use Rattle.text.specs.Lines.{put_first, fields, joined, text}
 use Rattle.text.specs.Numbers.{digits, decimal}
 use Rattle.text.specs.Writing.{Writes, Puts, Chain}
-use Rattle.text.proofs.Chains.{puts, puts_as, puts_then, Still, still_start, still_step, still_end, field_puts}
+use Rattle.text.proofs.Chains.{puts, puts_as, puts_then, Still, still_step, still_end, field_puts}
 use Rattle.text.proofs.Rows.{text_append}
 use Rattle.std.proofs.lemmas.List.{length-map}
 use Rattle.model.specs.Graph.{Edge}
@@ -65,9 +65,6 @@ marks_done ms os v h = rw (drop_of_length-le ms h) refl
 pub record VerticesLeft (at : ℕ) (ms os : List ℕ) (v here : ℕ) (o z : List ℕ) : Type 0 where
   pub still : Still at (text (mark_rows 0 ms os)) here (marks_left ms os v) o z
 
-pub vertices_start : (at : ℕ) (ms os o : List ℕ) → VerticesLeft at ms os 0 at o o
-vertices_start at ms os o = record { still = still_start at (text (mark_rows 0 ms os)) o }
-
 pub vertices_step : {at v here a b r : ℕ} {ms os o w x y z : List ℕ} → VerticesLeft at ms os v here o w → v < length ms → length os ≡ length ms
     → Chain (decimal v ∷ (32 ∷ []) ∷ []) here a w x → Chain (decimal (get_or ms v 0) ∷ (32 ∷ []) ∷ []) a b x y → Chain (decimal (get_or os v 0) ∷ (10 ∷ []) ∷ []) b r y z
     → length z ≡ length w → VerticesLeft at ms os (v + 1) r o z
@@ -92,9 +89,6 @@ ends_done es e h = rw (drop_of_length-le es h) refl
 
 pub record EdgesLeft (at : ℕ) (es : List Ends) (e here : ℕ) (o z : List ℕ) : Type 0 where
   pub still : Still at (ends_left es 0) here (ends_left es e) o z
-
-pub edges_start : (at : ℕ) (es : List Ends) (o : List ℕ) → EdgesLeft at es 0 at o o
-edges_start at es o = record { still = still_start at (ends_left es 0) o }
 
 pub edges_step : {at e here a r : ℕ} {es : List Ends} {o x y z : List ℕ} (d : Ends) → EdgesLeft at es e here o x → e < length es
     → Chain (decimal (get_or es e d).from ∷ (32 ∷ []) ∷ []) here a x y → Chain (decimal (get_or es e d).to ∷ (10 ∷ []) ∷ []) a r y z

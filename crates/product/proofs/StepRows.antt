@@ -16,7 +16,7 @@ use Rattle.text.specs.Writing.{Writes, Puts}
 use Rattle.text.proofs.Tests.{Same, same?, same, other, and_both, clash}
 use Rattle.text.proofs.Places.{skip_none, skip_last}
 use Rattle.text.proofs.Reading.{Row, NoRow, row_rest, no_lines, some_lines, lines_here}
-use Rattle.text.proofs.Chains.{puts, puts_as, puts_then, Still, still_start, still_step, still_end}
+use Rattle.text.proofs.Chains.{puts, puts_as, puts_then, Still, still_step, still_end}
 use Rattle.text.proofs.Rows.{text_append}
 use Rattle.model.specs.Graph.{Edge}
 use Rattle.model.specs.CaseFile.{column}
@@ -96,9 +96,6 @@ rows_from row s ds here v = text (rows_by row ds v (column 0 (lines (drop here s
 pub record StepsLeft (row : ℕ → List (List ℕ)) (s : List ℕ) (at v : ℕ) (ds : List Edge) (here place w : ℕ) (o z : List ℕ) : Type 0 where
   pub kept : length z ≡ length o
   pub left : all_single (lines (drop at s)) ≡ true → (all_single (lines (drop here s)) ≡ true) × Still 0 (rows_from row s ds at v) place (rows_from row s ds here w) o z
-
-pub steps_start : (row : ℕ → List (List ℕ)) (s : List ℕ) (at v : ℕ) (ds : List Edge) (o : List ℕ) → StepsLeft row s at v ds at 0 v o o
-steps_start row s at v ds o = record { kept = refl; left = λ h. (h, still_start 0 (rows_from row s ds at v) o) }
 
 pub steps_less : {s : List ℕ} {here e next : ℕ} → here < length s → Row s here (e ∷ []) next → length (lines (drop next s)) < length (lines (drop here s))
 steps_less {s} {here} h g = omega (arith, ap length (row_rest g), length-drop 1 (lines (drop here s)), some_lines s here h)
