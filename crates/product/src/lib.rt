@@ -19,6 +19,7 @@ use refused::{Refused, built};
 use steps::Names;
 use table::Edges;
 use text::read::past_head;
+use text::write::Writer;
 
 mod both;
 mod build;
@@ -56,7 +57,9 @@ fn try_build(chart: &[u8], claim: &[u8], workers: u32, output: &mut [u8]) -> Res
         cells: &cells,
     };
     let edges = product.edges()?;
-    Ok(product.write(output, workers as usize, &edges) as u32)
+    let mut page = Writer::new(output);
+    product.write(&mut page, workers as usize, &edges);
+    Ok(page.end.unwrap_or(0) as u32)
 }
 
 // The case file of the product of a chart and a claim, at the output's front.
@@ -101,7 +104,9 @@ fn list_checked(
         states: product.sizes.states,
     };
     let steps = past_head(answer);
-    Ok(names.write_steps(output, answer, steps, product.sizes.source, edges) as u32)
+    let mut page = Writer::new(output);
+    names.write_steps(&mut page, answer, steps, product.sizes.source, edges);
+    Ok(page.end.unwrap_or(0) as u32)
 }
 
 // The listing for a chart and a claim that are read. The workers of the case file built change nothing.
@@ -116,9 +121,11 @@ fn list_read(
     ensures { StepsSay chart.now claim.now answer.now (built_as result) output.old output.new }
 {
     let edges = product.edges()?;
-    let mut case = [0u8; Case::LONGEST_FILE];
-    let n = product.write(&mut case, 1, &edges);
-    list_checked(chart, claim, answer, &case[..n], product, &edges, output)
+    let mut file = [0u8; Case::LONGEST_FILE];
+    let mut page = Writer::new(&mut file);
+    product.write(&mut page, 1, &edges);
+    let case = page.written();
+    list_checked(chart, claim, answer, case, product, &edges, output)
 }
 
 // The listing at the output's front: its length.
