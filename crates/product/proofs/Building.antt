@@ -111,13 +111,13 @@ module _ (bs cs : List ℕ) (p : ℕ) (o : List ℕ) where
       build_refused r = rw (build_is, product_refused bs cs r.fails) (r.says _ o)
 
       module _ {z : Sizes} {follow cells : List ℕ} (h : BothHeld bs cs z follow cells) where
-        pub build_many : {k : Refusal} → EdgesFound z follow cells (Err k) → BuildSays bs cs p (built_as (Err (refused_by k))) o o
+        pub build_many : {k : Refusal} {es : List Edge} → EdgesFound z follow cells (Err k) es → BuildSays bs cs p (built_as (Err (refused_by k))) o o
         unfolding BuildSays names_pair
         build_many f =
             let q = f.edges (chart_in bs) (claim_in cs) h.held.given in
             rw (q.0, build_is, product_many bs cs h.passes q.1) (plain_says 21 refl refl _ _ o)
 
-        module _ {edges : List Edge} (f : EdgesFound z follow cells (Ok edges)) (few : length edges ≤ most_edges) {n : ℕ} {w v : Writer}
+        module _ {edges : List Edge} (f : EdgesFound z follow cells (Ok tt) edges) (few : length edges ≤ most_edges) {n : ℕ} {w v : Writer}
             (start : w.end ≡ Some 0) (given : w.output.now ≡ o) (puts : Puts (case_file (case_by z p cells edges)) w v) (count : n ≡ unwrap_or v.end 0) where
           found : edges ≡ (graph_in bs cs).edges
           found = f.edges (chart_in bs) (claim_in cs) h.held.given

@@ -11,7 +11,7 @@ use Rattle.text.specs.Lines.{put_first, fields, joined, text}
 use Rattle.text.specs.Numbers.{digits, decimal}
 use Rattle.text.specs.Writing.{Writes, Puts, Chain}
 use Rattle.text.specs.declared.write.Writer.{Writer}
-use Rattle.text.proofs.Chains.{puts, puts_as, puts_then, Still, still_start, still_step, still_end, field_puts}
+use Rattle.text.proofs.Chains.{puts, puts_as, puts_then, Still, still_step, still_end, field_puts}
 use Rattle.text.proofs.Rows.{text_append}
 use Rattle.std.proofs.lemmas.List.{length-map}
 use Rattle.model.specs.Graph.{Edge}
@@ -67,9 +67,6 @@ pub record VerticesLeft (ms os : List ℕ) (v : ℕ) (o z : Writer) : Type 0 whe
   pub same : z.output.ghost_name ≡ o.output.ghost_name
   pub still : Still (text (mark_rows 0 ms os)) o (marks_left ms os v) z
 
-pub vertices_start : (ms os : List ℕ) (o : Writer) → VerticesLeft ms os 0 o o
-vertices_start ms os o = record { same = refl; still = still_start (text (mark_rows 0 ms os)) o }
-
 pub vertices_step : {v : ℕ} {ms os : List ℕ} {o w x y z : Writer} → VerticesLeft ms os v o w → v < length ms → length os ≡ length ms
     → Chain (decimal v ∷ (32 ∷ []) ∷ []) w x → Chain (decimal (get_or ms v 0) ∷ (32 ∷ []) ∷ []) x y → Chain (decimal (get_or os v 0) ∷ (10 ∷ []) ∷ []) y z
     → z.output.ghost_name ≡ w.output.ghost_name → VerticesLeft ms os (v + 1) o z
@@ -95,9 +92,6 @@ ends_done es e h = rw (drop_of_length-le es h) refl
 pub record EdgesLeft (es : List Ends) (e : ℕ) (o z : Writer) : Type 0 where
   pub same : z.output.ghost_name ≡ o.output.ghost_name
   pub still : Still (ends_left es 0) o (ends_left es e) z
-
-pub edges_start : (es : List Ends) (o : Writer) → EdgesLeft es 0 o o
-edges_start es o = record { same = refl; still = still_start (ends_left es 0) o }
 
 pub edges_step : {e : ℕ} {es : List Ends} {o x y z : Writer} (d : Ends) → EdgesLeft es e o x → e < length es
     → Chain (decimal (get_or es e d).from ∷ (32 ∷ []) ∷ []) x y → Chain (decimal (get_or es e d).to ∷ (10 ∷ []) ∷ []) y z

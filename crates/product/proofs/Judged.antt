@@ -175,10 +175,10 @@ whole {t} {w} {v} e p h =
 
 -- THE LISTING of what was read and written
 module _ {bs cs : List ℕ} {z : Sizes} {follow cells o : List ℕ} (a : ListAsks bs cs z follow cells o) where
-  pub list_many : (ts : List ℕ) {k : Refusal} → EdgesFound z follow cells (Err k) → StepsSay bs cs ts (built_as (Err (refused_by k))) o o
+  pub list_many : (ts : List ℕ) {k : Refusal} {es : List Edge} → EdgesFound z follow cells (Err k) es → StepsSay bs cs ts (built_as (Err (refused_by k))) o o
   list_many ts f = let p = f.edges (chart_in bs) (claim_in cs) a.both.held.given in rw p.0 (steps_many bs cs ts o a.room a.both.passes p.1)
 
-  module _ {edges : List Edge} (f : EdgesFound z follow cells (Ok edges)) (few : length edges ≤ most_edges) where
+  module _ {edges : List Edge} (f : EdgesFound z follow cells (Ok tt) edges) (few : length edges ≤ most_edges) where
     found : edges ≡ (graph_in bs cs).edges
     found = f.edges (chart_in bs) (claim_in cs) a.both.held.given
 

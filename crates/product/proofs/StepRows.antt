@@ -17,7 +17,7 @@ use Rattle.text.specs.declared.write.Writer.{Writer}
 use Rattle.text.proofs.Tests.{Same, same?, same, other, and_both, clash}
 use Rattle.text.proofs.Places.{skip_none, skip_last}
 use Rattle.text.proofs.Reading.{Row, NoRow, row_rest, no_lines, some_lines, lines_here}
-use Rattle.text.proofs.Chains.{puts, puts_as, puts_then, Still, still_start, still_step, still_end}
+use Rattle.text.proofs.Chains.{puts, puts_as, puts_then, Still, still_step, still_end}
 use Rattle.text.proofs.Rows.{text_append}
 use Rattle.model.specs.Graph.{Edge}
 use Rattle.model.specs.CaseFile.{column}
@@ -97,9 +97,6 @@ rows_from row s ds here v = text (rows_by row ds v (column 0 (lines (drop here s
 pub record StepsLeft (row : ℕ → List (List ℕ)) (s : List ℕ) (at v : ℕ) (ds : List Edge) (here w : ℕ) (o z : Writer) : Type 0 where
   pub same : z.output.ghost_name ≡ o.output.ghost_name
   pub left : all_single (lines (drop at s)) ≡ true → (all_single (lines (drop here s)) ≡ true) × Still (rows_from row s ds at v) o (rows_from row s ds here w) z
-
-pub steps_start : (row : ℕ → List (List ℕ)) (s : List ℕ) (at v : ℕ) (ds : List Edge) (o : Writer) → StepsLeft row s at v ds at v o o
-steps_start row s at v ds o = record { same = refl; left = λ h. (h, still_start (rows_from row s ds at v) o) }
 
 pub steps_less : {s : List ℕ} {here e next : ℕ} → here < length s → Row s here (e ∷ []) next → length (lines (drop next s)) < length (lines (drop here s))
 steps_less {s} {here} h g = omega (arith, ap length (row_rest g), length-drop 1 (lines (drop here s)), some_lines s here h)

@@ -56,7 +56,8 @@ fn try_build(chart: &[u8], claim: &[u8], workers: u32, output: &mut [u8]) -> Res
         follow: &follow,
         cells: &cells,
     };
-    let edges = product.edges()?;
+    let mut edges = Edges::new();
+    product.find_edges(&mut edges)?;
     let mut page = Writer::new(output);
     product.write(&mut page, workers as usize, &edges);
     Ok(page.end.unwrap_or(0) as u32)
@@ -69,8 +70,8 @@ pub fn build_case(chart: &[u8], claim: &[u8], workers: u32, output: &mut [u8]) -
     built(try_build(chart, claim, workers, output))
 }
 
-// The listing of an answer to the case file built, at the output's front: what the checker says of it, and a passing lasso's
-// steps. Its edges stand from line 4 to its end.
+// The listing of an answer to the case file built, at the output's front: what the checker says of it, in the C interface's
+// numbers, and a passing lasso's steps. Its edges stand from line 4 to its end.
 fn list_checked(
     chart: &[u8],
     claim: &[u8],
@@ -120,7 +121,8 @@ fn list_read(
     requires { ListAsks chart.now claim.now product.now.sizes product.now.follow.now product.now.cells.now output.old }
     ensures { StepsSay chart.now claim.now answer.now (built_as result) output.old output.new }
 {
-    let edges = product.edges()?;
+    let mut edges = Edges::new();
+    product.find_edges(&mut edges)?;
     let mut file = [0u8; Case::LONGEST_FILE];
     let mut page = Writer::new(&mut file);
     product.write(&mut page, 1, &edges);

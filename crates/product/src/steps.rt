@@ -28,7 +28,8 @@ pub(crate) struct Names<'a> {
 impl Names<'_> {
     ghost use Rattle.product.specs.Names.{state_text, named_row, StepsWritten};
 
-    // Claim state s: its name, or its number where it has none, which is at place 0.
+    // Claim state s: its name, or its number where it has none. Place 0 says so in the claim's cells, which the C interface hands
+    // out.
     fn write_state(&self, page: &mut Writer, s: usize)
         requires { s < most_states }
         ensures same { page.new.output.ghost_name ≡ page.old.output.ghost_name }

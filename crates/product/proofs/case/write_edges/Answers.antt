@@ -1,11 +1,8 @@
 -- `write_edges` meets its contract: at each turn so many lines are written.
 use mathlib.Core.Path.{◌∙◌}
 use native.Mathlib.Omega.{arith}
-use Rattle.product.proofs.CaseLines.{edges_start, edges_step, edges_end}
+use Rattle.product.proofs.CaseLines.{edges_step, edges_end}
 use Rattle.product.proofs.case.write_edges.Goals as goal
-
-pub loop-edge-init : goal.loop-edge-init
-loop-edge-init c = edges_start _ _
 
 pub loop-edge-preserved : goal.loop-edge-preserved
 loop-edge-preserved c =

@@ -1,11 +1,8 @@
 -- `write_vertices` meets its contract: at each turn the lines from v on are left.
 use mathlib.Core.Path.{◌∙◌}
 use native.Mathlib.Omega.{arith}
-use Rattle.product.proofs.CaseLines.{vertices_start, vertices_step, vertices_end}
+use Rattle.product.proofs.CaseLines.{vertices_step, vertices_end}
 use Rattle.product.proofs.case.write_vertices.Goals as goal
-
-pub loop-v-init : goal.loop-v-init
-loop-v-init c = vertices_start _ _ _
 
 pub loop-v-preserved : goal.loop-v-preserved
 loop-v-preserved c =

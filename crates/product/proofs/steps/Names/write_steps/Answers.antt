@@ -1,11 +1,8 @@
 -- `write_steps` meets its contract: at each turn the lines from place `here` of the answer on are left.
 use native.Mathlib.Omega.{arith}
 use Rattle.text.proofs.Reading.{row_read, row_fault}
-use Rattle.product.proofs.StepRows.{steps_start, steps_torn, steps_on, steps_less, steps_end}
+use Rattle.product.proofs.StepRows.{steps_torn, steps_on, steps_less, steps_end}
 use Rattle.product.proofs.steps.Names.write_steps.Goals as goal
-
-pub loop-here-init : goal.loop-here-init
-loop-here-init c = steps_start _ _ _ _ _ _
 
 pub returns-in_default-clause-same : goal.returns-in_default-clause-same
 returns-in_default-clause-same c = c.loop-here.invariant.same
