@@ -8,8 +8,5 @@ pub loop-edge-preserved : goal.loop-edge-preserved
 loop-edge-preserved c =
     edges_step _ c.loop-edge.invariant c.loop-edge-test.true c.field.ensures.chain c.field-in-loop-edge.ensures.chain (c.field-in-loop-edge.ensures.same ∙ c.field.ensures.same)
 
-pub returns-clause-same : goal.returns-clause-same
-returns-clause-same c = c.loop-edge.invariant.same
-
 pub returns-clause-lines : goal.returns-clause-lines
 returns-clause-lines c = edges_end c.loop-edge.invariant (omega arith)

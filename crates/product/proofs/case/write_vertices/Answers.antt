@@ -9,8 +9,5 @@ loop-v-preserved c =
     vertices_step c.loop-v.invariant c.loop-v-test.true c.requires.0 c.field.ensures.chain c.field-in-loop-v.ensures.chain c.field-in-loop-v-2.ensures.chain
     (c.field-in-loop-v-2.ensures.same ∙ c.field-in-loop-v.ensures.same ∙ c.field.ensures.same)
 
-pub returns-clause-same : goal.returns-clause-same
-returns-clause-same c = c.loop-v.invariant.same
-
 pub returns-clause-lines : goal.returns-clause-lines
 returns-clause-lines c = vertices_end c.loop-v.invariant (omega arith)
