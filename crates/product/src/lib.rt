@@ -19,6 +19,7 @@ use refused::{Refused, built};
 use steps::Names;
 use table::Edges;
 use text::read::past_head;
+use text::write::Writer;
 
 mod both;
 mod build;
@@ -57,7 +58,9 @@ fn try_build(chart: &[u8], claim: &[u8], workers: u32, output: &mut [u8]) -> Res
     };
     let mut edges = Edges::new();
     product.find_edges(&mut edges)?;
-    Ok(product.write(output, workers as usize, &edges) as u32)
+    let mut page = Writer::new(output);
+    product.write(&mut page, workers as usize, &edges);
+    Ok(page.end.unwrap_or(0) as u32)
 }
 
 // The case file of the product of a chart and a claim, at the output's front.
@@ -102,7 +105,9 @@ fn list_checked(
         states: product.sizes.states,
     };
     let steps = past_head(answer);
-    Ok(names.write_steps(output, answer, steps, product.sizes.source, edges) as u32)
+    let mut page = Writer::new(output);
+    names.write_steps(&mut page, answer, steps, product.sizes.source, edges);
+    Ok(page.end.unwrap_or(0) as u32)
 }
 
 // The listing for a chart and a claim that are read. The workers of the case file built change nothing.
@@ -118,9 +123,11 @@ fn list_read(
 {
     let mut edges = Edges::new();
     product.find_edges(&mut edges)?;
-    let mut case = [0u8; Case::LONGEST_FILE];
-    let n = product.write(&mut case, 1, &edges);
-    list_checked(chart, claim, answer, &case[..n], product, &edges, output)
+    let mut file = [0u8; Case::LONGEST_FILE];
+    let mut page = Writer::new(&mut file);
+    product.write(&mut page, 1, &edges);
+    let case = page.written();
+    list_checked(chart, claim, answer, case, product, &edges, output)
 }
 
 // The listing at the output's front: its length.

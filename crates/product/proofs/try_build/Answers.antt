@@ -1,5 +1,6 @@
 -- `try_build` meets its contract: 11, 5, the texts' refusals, 21, or the file.
 use native.Mathlib.Omega.{arith}
+use Rattle.std.proofs.Common.{rules}
 use Rattle.std.proofs.lemmas.Result.{err_from_is_err_and}
 use Rattle.product.proofs.Building.{workers_range, build_small, build_workers, build_refused, build_many, build_fits, build_done}
 use Rattle.product.proofs.try_build.Goals as goal
@@ -28,8 +29,11 @@ pub overflow_cast-result : goal.overflow_cast-result
 overflow_cast-result c =
     omega (
       arith,
-      build_fits _ _ _ _ c.if-output-lt-LEAST_CASE_OUTPUT.false (c.if-not-workers_right.ensures {u = tt}) (c.in_ok-read_both.ensures {u = tt}) (c.in_ok-find_edges.ensures {u = tt}) c.write.ensures.few c.write.ensures.file,
+      build_fits _ _ _ _ c.if-output-lt-LEAST_CASE_OUTPUT.false (c.if-not-workers_right.ensures {u = tt}) (c.in_ok-read_both.ensures {u = tt}) (c.in_ok-find_edges.ensures {u = tt}) c.write.ensures.few
+          c.new-page.ensures.front c.new-page.ensures.bytes c.write.ensures.file c.unwrap_or.ensures,
     )
 
 pub returns : goal.returns
-returns c = build_done _ _ _ _ c.if-output-lt-LEAST_CASE_OUTPUT.false (c.if-not-workers_right.ensures {u = tt}) (c.in_ok-read_both.ensures {u = tt}) (c.in_ok-find_edges.ensures {u = tt}) c.write.ensures.few c.write.ensures.file
+returns c =
+    build_done _ _ _ _ c.if-output-lt-LEAST_CASE_OUTPUT.false (c.if-not-workers_right.ensures {u = tt}) (c.in_ok-read_both.ensures {u = tt}) (c.in_ok-find_edges.ensures {u = tt}) c.write.ensures.few
+    c.new-page.ensures.front c.new-page.ensures.bytes c.write.ensures.file c.unwrap_or.ensures (search rules)

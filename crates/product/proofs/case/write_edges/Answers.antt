@@ -6,8 +6,7 @@ use Rattle.product.proofs.case.write_edges.Goals as goal
 
 pub loop-edge-preserved : goal.loop-edge-preserved
 loop-edge-preserved c =
-    edges_step _ c.loop-edge.invariant c.loop-edge-test.true c.write_field-here.ensures c.write_field-here-in-loop-edge.ensures
-    (c.write_field-here-in-loop-edge.auto.output ∙ c.write_field-here.auto.output)
+    edges_step _ c.loop-edge.invariant c.loop-edge-test.true c.field.ensures.chain c.field-in-loop-edge.ensures.chain (c.field-in-loop-edge.ensures.same ∙ c.field.ensures.same)
 
-pub returns : goal.returns
-returns c = edges_end c.loop-edge.invariant (omega arith)
+pub returns-clause-lines : goal.returns-clause-lines
+returns-clause-lines c = edges_end c.loop-edge.invariant (omega arith)
