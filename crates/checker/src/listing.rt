@@ -57,15 +57,24 @@ fn vertex_lines(
     Ok(here)
 }
 
-// Whether an edge leads right between vertices of these numbers, from one of this mark: its length is −1 where that accepts,
-// else 0.
+// The length of an edge that leaves a vertex of this mark: −1 where it accepts, else 0.
+fn edge_length(mark: usize) -> i32
+    ensures { result ≡ length_by mark }
+{
+    if mark == 0 {
+        return 0;
+    }
+    -1
+}
+
+// Whether an edge leads right between vertices of these numbers, from one of this mark.
 fn leads_right(mark: usize, a: Option<i16>, b: Option<i16>) -> bool
     ensures { result ≡ leads (held a) (held b) (length_by mark) }
 {
     match (a, b) {
         (None, _) => true,
         (Some(_), None) => false,
-        (Some(a), Some(b)) => if mark == 0 { b <= a } else { b < a },
+        (Some(a), Some(b)) => i32::from(b) <= i32::from(a) + edge_length(mark),
     }
 }
 

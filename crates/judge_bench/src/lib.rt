@@ -1,11 +1,12 @@
-// The judges for bench/, each on its own: the refusal of a case file and that of a claim, 0 where there is none.
+// The judges for bench/, each on its own: the refusal of a case file and that of a claim. A number, 0 where there is none: bench/
+// calls them as C would.
 #![tactic(auto)]
 
 ghost use Rattle.std.specs.Prelude.{◌≡◌};
 ghost use Rattle.model.specs.CaseFile.{case_refusal};
 ghost use Rattle.model.specs.ClaimTable.{claim_refusal};
 
-use casefile::{Judged, judge};
+use casefile::judge;
 use claim::{Counts, read_claim};
 
 #[unsafe(no_mangle)]
@@ -13,8 +14,8 @@ pub extern "C" fn rezkundo_judge(text: &[u8]) -> u32
     ensures { result ≡ case_refusal text.now }
 {
     match judge(text) {
-        Judged::Refused(k) => k,
-        Judged::Accepted(_) => 0,
+        Err(refusal) => refusal.number(),
+        Ok(_) => 0,
     }
 }
 

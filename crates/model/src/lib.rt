@@ -1,4 +1,5 @@
-// What the entries return. All else of this crate is definitions (specs/) and their proofs (proofs/).
+// What the entries return, refusals and verdicts. All else of this crate is definitions (specs/) and their proofs (proofs/).
+// Refusals and verdicts are numbers in what comes back: C reads them.
 #![tactic(auto)]
 
 mod refusal;
@@ -63,9 +64,7 @@ pub struct Charted {
 }
 
 impl Charted {
-    // "17, layout, range, version not 1, or a value bit outside care; 18, no rule for a pair; 19, two rules"
-    pub const FAULTY: u32 = 17;
-
+    // "18, no rule for a pair; 19, two rules"
     pub const GAP: u32 = 18;
 
     pub const OVERLAP: u32 = 19;
@@ -83,10 +82,6 @@ pub struct Built {
 }
 
 impl Built {
-    // "20, propositions and flags differ in count; 21, too many edges"
-    pub const COUNTS_DIFFER: u32 = 20;
-
-    pub const TOO_MANY_EDGES: u32 = 21;
     // "It and the listing each need an output of 65,536 bytes, else number 11"
     pub const LEAST_CASE_OUTPUT: usize = 65536;
 

@@ -25,11 +25,11 @@ pub enum Refusal {
     NoClaim = 14,
     ClaimGrammar = 15,
     NotTaken = 16,
-    // Of a chart.
+    // Of a chart: "17, layout, range, version not 1, or a value bit outside care; 18, no rule for a pair; 19, two rules".
     ChartFault = 17,
     NoRule = 18,
     TwoRules = 19,
-    // Of a product.
+    // Of a product: "20, propositions and flags differ in count; 21, too many edges".
     CountsDiffer = 20,
     TooManyEdges = 21,
 }
