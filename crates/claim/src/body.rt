@@ -125,10 +125,10 @@ fn add_moves(cells: &mut [u32], c: usize, d: u32, w: Values)
     ensures { Added (moves_from c) most_values (set_moves d w) cells.old cells.new }
 {
     let first = Counts::MOVES + Counts::MOST_VALUES * c;
-    add_word(cells, first, d, w.a);
-    add_word(cells, first + 64, d, w.b);
-    add_word(cells, first + 128, d, w.c);
-    add_word(cells, first + 192, d, w.d);
+    let words = w.words;
+    for k in 0..4 {
+        add_word(cells, first + 64 * k, d, words[k]);
+    }
 }
 
 // The values of w are in the set of target d too.
