@@ -88,6 +88,7 @@ fn mark(text: &[u8], at: usize, c: usize, cells: &mut [u32]) -> Result<usize, Re
 }
 
 // One more target, d, for 64 cells from `first` on.
+// Beside `add_word`, not one loop with it: with a bit tested for each cell, edges `[t]` take longer (docs/DECISIONS.md).
 fn add_all(cells: &mut [u32], first: usize, d: u32)
     requires d_bound { d < 32 }
     requires first_in_bounds { first + 64 ≤ length cells.old }
