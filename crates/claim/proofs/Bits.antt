@@ -12,7 +12,7 @@ use lib.Pow.{shl_exact}
 use Rattle.text.proofs.Tests.{clash, and_both, Same, same, other, same?}
 use Rattle.model.specs.ClaimLabels.{Level, Label, always, never, proposition, bit, truth}
 use Rattle.model.proofs.Bits.{bit_of_and, bit_of_or, flip_if, bit_of_xor, bit_half, bit_zero}
-use Rattle.claim.specs.LabelSays.{most_values, holds, TruthOf, all_bits, everything, nothing, word_by_word, complement_of, intersection_of, union_of}
+use Rattle.claim.specs.LabelSays.{most_values, word_of, holds, TruthOf, all_bits, everything, nothing, word_by_word, complement_of, intersection_of, union_of}
 use Rattle.claim.specs.declared.labels.Values.{Values}
 
 -- A TABLE, entry by entry
@@ -61,7 +61,7 @@ bit_all i h = below 64 (bit all_bits) refl i h
 
 -- SETS OF FLAG VALUES
 abbrev in_word : (first second third : Bool) → Values → (x : ℕ) → Bool
-in_word p q r w x = cond p (bit w.a x) (cond q (bit w.b (x - 64)) (cond r (bit w.c (x - 128)) (bit w.d (x - 192))))
+in_word p q r w x = cond p (bit (word_of w 0) x) (cond q (bit (word_of w 1) (x - 64)) (cond r (bit (word_of w 2) (x - 128)) (bit (word_of w 3) (x - 192))))
 
 module _ (op : ℕ → ℕ → ℕ) (f : Bool → Bool → Bool) (law : (a b i : ℕ) → bit (op a b) i ≡ f (bit a i) (bit b i)) where
   holds_by : (v w : Values) (x : ℕ) → holds (word_by_word op v w) x ≡ f (holds v x) (holds w x)
@@ -69,10 +69,10 @@ module _ (op : ℕ → ℕ → ℕ) (f : Bool → Bool → Bool) (law : (a b i :
   holds_by v w x = go (ltb x 64) (ltb x 128) (ltb x 192)
     where
       go : (p q r : Bool) → in_word p q r (word_by_word op v w) x ≡ f (in_word p q r v x) (in_word p q r w x)
-      go true q r = law v.a w.a x
-      go false true r = law v.b w.b (x - 64)
-      go false false true = law v.c w.c (x - 128)
-      go false false false = law v.d w.d (x - 192)
+      go true q r = law (word_of v 0) (word_of w 0) x
+      go false true r = law (word_of v 1) (word_of w 1) (x - 64)
+      go false false true = law (word_of v 2) (word_of w 2) (x - 128)
+      go false false false = law (word_of v 3) (word_of w 3) (x - 192)
 
 pub holds_intersection : (v w : Values) (x : ℕ) → holds (intersection_of v w) x ≡ (holds v x && holds w x)
 holds_intersection = holds_by bit_and ◌&&◌ bit_of_and
@@ -115,7 +115,7 @@ flag_word k =
     k 0
 
 abbrev flag_values : ℕ → Values
-flag_values i = record { a = flag_word (i - i / 7); b = flag_word (i + i / 6 - 2 * (i / 7)); c = flag_word i; d = flag_word (i + i / 6 - i / 7) }
+flag_values i = record { words = flag_word (i - i / 7) ∷ flag_word (i + i / 6 - 2 * (i / 7)) ∷ flag_word i ∷ flag_word (i + i / 6 - i / 7) ∷ [] }
 
 pub flag_truth : (i : ℕ) → i < 8 → TruthOf (proposition i) (flag_values i)
 unfolding true_on

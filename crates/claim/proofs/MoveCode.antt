@@ -3,20 +3,21 @@ use mathlib.Core.Path.{◌≡◌, refl, sym, ap, subst, ◌∙◌}
 use mathlib.Core.Bool.{Bool, true, false, ◌&&◌, ◌||◌, or-false, and_comm, or_assoc, and-or_distrib_right}
 use mathlib.Core.List.{List, [], ◌∷◌, ◌++◌}
 use mathlib.Core.Logic.{◌⊎◌, inl, inr}
-use Prim.Native.Nat.{ℕ, ◌+◌, ◌*◌, ◌-◌, ◌^◌, ◌%◌, ◌<◌, ◌≤◌}
+use Prim.Native.Nat.{ℕ, zero, suc, ◌+◌, ◌*◌, ◌-◌, ◌^◌, ◌%◌, ◌<◌, ◌≤◌}
 use native.Mathlib.Omega.{arith}
 use lib.Bits.{bit_or}
 use lib.Dec.{ltb, eqb}
 use lib.ListN.{length, get_or, set, replicate, length-set}
 use lib.Seq.{get_or-set_same, get_or-set_other}
 use borrow.Author.Tests.{ltb-true, ltb-false, lt-ltb, le-ltb, eq-eqb, ne_eqb}
+use Rattle.std.proofs.lemmas.List.{get_or_default}
 use Rattle.text.proofs.Tests.{Same, same, other, same?, or_false as neither}
 use Rattle.model.proofs.Tools.{getD_replicate_same}
 use Rattle.model.specs.ClaimLabels.{bit, truth}
 use Rattle.model.specs.ClaimGrammar.{Edge, State, most_states}
 use Rattle.model.specs.ClaimTable.{snoc}
 use Rattle.model.specs.Claim.{some_edge, some_target, edges_of}
-use Rattle.claim.specs.LabelSays.{most_values, all_bits, holds, union_of, nothing}
+use Rattle.claim.specs.LabelSays.{most_values, all_bits, word_of, holds, union_of, nothing}
 use Rattle.claim.specs.Cells.{name_cell, length_cell, lead_cell, move_cell, moves_from, claim_cells, set_of, word_moves, set_moves, Added, Gathered, Led, LineHeld, Adds}
 use Rattle.claim.specs.BodySays.{with_edges}
 use Rattle.claim.specs.declared.labels.Values.{Values}
@@ -139,51 +140,36 @@ no_bit_added first d u =
 pub bit_of_all : (d i e : ℕ) → d < 32 → i < 64 → bit (1 * 2 ^ d % 2 ^ 32) e ≡ word_moves d all_bits i e
 bit_of_all d i e hd h = bit_shifted d e hd ∙ sym (ap (λ (b : Bool). b && eqb e d) (bit_all i h))
 
--- A SET: its four words
-first_word : (w : Values) (i : ℕ) → i < 64 → bit w.a i ≡ holds w i
+-- A SET: its words
+set_word : (w : Values) (k i : ℕ) → k < 4 → i < 64 → bit (word_of w k) i ≡ holds w (64 * k + i)
 unfolding holds
-first_word w i h = rw (lt-ltb i 64 h) refl
+set_word w zero i hk h = rw (lt-ltb (64 * 0 + i) 64 (omega (arith, h))) (ap (bit (word_of w 0)) (omega arith))
+set_word w (suc zero) i hk h = rw (le-ltb (64 + i) 64 (omega arith), lt-ltb (64 + i) 128 (omega (arith, h))) (ap (bit (word_of w 1)) (omega arith))
+set_word w (suc (suc zero)) i hk h = rw (le-ltb (128 + i) 64 (omega arith), le-ltb (128 + i) 128 (omega arith), lt-ltb (128 + i) 192 (omega (arith, h))) (ap (bit (word_of w 2)) (omega arith))
+set_word w (suc (suc (suc zero))) i hk h = rw (le-ltb (192 + i) 64 (omega arith), le-ltb (192 + i) 128 (omega arith), le-ltb (192 + i) 192 (omega arith)) (ap (bit (word_of w 3)) (omega arith))
+set_word w (suc (suc (suc (suc k)))) i hk h = absurd (omega (arith, hk))
 
-second_word : (w : Values) (i : ℕ) → i < 64 → bit w.b i ≡ holds w (64 + i)
-unfolding holds
-second_word w i h = rw (le-ltb (64 + i) 64 (omega arith), lt-ltb (64 + i) 128 (omega (arith, h))) (ap (bit w.b) (omega arith))
+-- so many words are done
+pub record AddingWords (first d : ℕ) (w : Values) (u v : List ℕ) (k : ℕ) : Type 0 where
+  pub few : k ≤ 4
+  pub long : length v ≡ length u
+  pub done : Added first (64 * k) (set_moves d w) u v
 
-third_word : (w : Values) (i : ℕ) → i < 64 → bit w.c i ≡ holds w (128 + i)
-unfolding holds
-third_word w i h = rw (le-ltb (128 + i) 64 (omega arith), le-ltb (128 + i) 128 (omega arith), lt-ltb (128 + i) 192 (omega (arith, h))) (ap (bit w.c) (omega arith))
-
-fourth_word : (w : Values) (i : ℕ) → i < 64 → bit w.d i ≡ holds w (192 + i)
-unfolding holds
-fourth_word w i h = rw (le-ltb (192 + i) 64 (omega arith), le-ltb (192 + i) 128 (omega arith), le-ltb (192 + i) 192 (omega arith)) (ap (bit w.d) (omega arith))
-
-pub set_added : (f d : ℕ) (w : Values) {u₀ u₁ u₂ u₃ u₄ : List ℕ} → Added f 64 (word_moves d w.a) u₀ u₁ → Added (f + 64) 64 (word_moves d w.b) u₁ u₂ → Added (f + 128) 64 (word_moves d w.c) u₂ u₃ → Added (f + 192) 64 (word_moves d w.d) u₃ u₄ → Added f most_values (set_moves d w) u₀ u₄
-set_added f d w a b c z = added_beside (set_moves d w) refl refl (added_beside {k = 192} (set_moves d w) refl refl (added_beside {k = 128} (set_moves d w) refl refl a b one two) c kept three) z kept four
-  where
-    with_d : (e : ℕ) {x y : Bool} → x ≡ y → (x && eqb e d) ≡ (y && eqb e d)
-    with_d e q = ap (λ (t : Bool). t && eqb e d) q
-
-    kept : {m : ℕ} (i e : ℕ) → i < m → set_moves d w i e ≡ set_moves d w i e
-    kept i e h = refl
-
-    one : (i e : ℕ) → i < 64 → word_moves d w.a i e ≡ set_moves d w i e
-    one i e h = with_d e (first_word w i h)
-
-    two : (i e : ℕ) → i < 64 → word_moves d w.b i e ≡ set_moves d w (64 + i) e
-    two i e h = with_d e (second_word w i h)
-
-    three : (i e : ℕ) → i < 64 → word_moves d w.c i e ≡ set_moves d w (128 + i) e
-    three i e h = with_d e (third_word w i h)
-
-    four : (i e : ℕ) → i < 64 → word_moves d w.d i e ≡ set_moves d w (192 + i) e
-    four i e h = with_d e (fourth_word w i h)
+pub words_more : {first d k : ℕ} {w : Values} {u v x : List ℕ} → AddingWords first d w u v k → k < 4 → length x ≡ length v → Added (first + 64 * k) 64 (word_moves d (word_of w k)) v x → AddingWords first d w u x (k + 1)
+words_more {first} {d} {k} {w} a h l b =
+    record {
+      few = omega (arith, h);
+      long = l ∙ a.long;
+      done = added_beside (set_moves d w) refl (omega arith) a.done b (λ i e q. refl) (λ i e q. ap (λ (t : Bool). t && eqb e d) (set_word w k i h q));
+    }
 
 -- THE SETS BY TARGET: one target's grows
-pub values_gathered : (d : ℕ) (u : List Values) → d < length u → (w r : Values) → r ≡ union_of (set_of u d) w → Gathered d w u (set u d r)
-values_gathered d u hd w r e = record { gathered = λ t f. go t f (same? t d) }
+pub values_gathered : (d : ℕ) (u : List Values) → d < length u → (x w r : Values) → r ≡ union_of (get_or u d x) w → Gathered d w u (set u d r)
+values_gathered d u hd x w r e = record { gathered = λ t f. go t f (same? t d) }
   where
     here_now : (f : ℕ) → holds (set_of (set u d r) d) f ≡ (holds (set_of u d) f || (holds w f && eqb d d))
     here_now f =
-        ap (λ (x : Values). holds x f) (get_or-set_same u d r nothing hd ∙ e)
+        ap (λ (x : Values). holds x f) (get_or-set_same u d r nothing hd ∙ (e ∙ ap (λ (y : Values). union_of y w) (get_or_default u d x nothing hd)))
         ∙ (holds_union (set_of u d) w f
         ∙ ap (λ (b : Bool). holds (set_of u d) f || b) (and_comm true (holds w f) ∙ ap (λ (b : Bool). holds w f && b) (sym (eq-eqb d d refl))))
 

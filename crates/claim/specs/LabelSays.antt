@@ -1,5 +1,5 @@
 -- What is said of the tokens from where an atom, a term or an expression of a label is due. Assumes nothing: these are definitions.
-use Rattle.std.specs.Prelude.{◌≡◌, Bool, cond, List, ℕ, ◌+◌, ◌-◌, ◌^◌, ◌<◌, ltb}
+use Rattle.std.specs.Prelude.{◌≡◌, Bool, cond, List, [], ◌∷◌, ℕ, ◌+◌, ◌-◌, ◌^◌, ◌<◌, ltb, get_or, replicate}
 use Rattle.std.proofs.Math.Option.{Option}
 use Rattle.std.specs.Int.Bits.{bit_and, bit_or, bit_xor}
 use Rattle.model.specs.ClaimTokens.{Token}
@@ -10,16 +10,20 @@ use Rattle.claim.specs.declared.labels.Values.{Values}
 abbrev pub most_values : ℕ
 most_values = 256
 
+-- word k of a set
+abbrev pub word_of : Values → (k : ℕ) → ℕ
+word_of w k = get_or w.words k 0
+
 -- whether a flag value is in a set
 unfoldable pub holds : Values → (v : ℕ) → Bool
-holds w v = cond (ltb v 64) (bit w.a v) (cond (ltb v 128) (bit w.b (v - 64)) (cond (ltb v 192) (bit w.c (v - 128)) (bit w.d (v - 192))))
+holds w v = cond (ltb v 64) (bit (word_of w 0) v) (cond (ltb v 128) (bit (word_of w 1) (v - 64)) (cond (ltb v 192) (bit (word_of w 2) (v - 128)) (bit (word_of w 3) (v - 192))))
 
 -- the set is where a label of any level is true
 pub record TruthOf {l : Level} (x : Label l) (w : Values) : Type 0 where
   pub agrees : (v : ℕ) → v < most_values → truth x v ≡ holds w v
 
 abbrev pub repeated_of : (bits : ℕ) → Values
-repeated_of x = record { a = x; b = x; c = x; d = x }
+repeated_of x = record { words = replicate 4 x }
 
 abbrev pub all_bits : ℕ
 all_bits = 2 ^ 64 - 1
@@ -31,7 +35,7 @@ abbrev pub nothing : Values
 nothing = repeated_of 0
 
 abbrev pub word_by_word : (ℕ → ℕ → ℕ) → Values → Values → Values
-word_by_word f v w = record { a = f v.a w.a; b = f v.b w.b; c = f v.c w.c; d = f v.d w.d }
+word_by_word f v w = record { words = f (word_of v 0) (word_of w 0) ∷ f (word_of v 1) (word_of w 1) ∷ f (word_of v 2) (word_of w 2) ∷ f (word_of v 3) (word_of w 3) ∷ [] }
 
 abbrev pub complement_of : Values → Values
 complement_of w = word_by_word bit_xor w everything

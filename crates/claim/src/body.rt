@@ -88,6 +88,7 @@ fn mark(text: &[u8], at: usize, c: usize, cells: &mut [u32]) -> Result<usize, Re
 }
 
 // One more target, d, for 64 cells from `first` on.
+// Beside `add_word`, not one loop with it: with a bit tested for each cell, edges `[t]` take longer (docs/DECISIONS.md).
 fn add_all(cells: &mut [u32], first: usize, d: u32)
     requires d_bound { d < 32 }
     requires first_in_bounds { first + 64 ≤ length cells.old }
@@ -125,10 +126,10 @@ fn add_moves(cells: &mut [u32], c: usize, d: u32, w: Values)
     ensures { Added (moves_from c) most_values (set_moves d w) cells.old cells.new }
 {
     let first = Counts::MOVES + Counts::MOST_VALUES * c;
-    add_word(cells, first, d, w.a);
-    add_word(cells, first + 64, d, w.b);
-    add_word(cells, first + 128, d, w.c);
-    add_word(cells, first + 192, d, w.d);
+    let words = w.words;
+    for k in 0..4 {
+        add_word(cells, first + 64 * k, d, words[k]);
+    }
 }
 
 // The values of w are in the set of target d too.

@@ -12,13 +12,10 @@ use crate::tokens::{
 use model::Refusal;
 use std::ops::{BitAnd, BitOr, Not};
 
-// A set of flag values, 0 to 255: value v is bit v of `a`, bit v - 64 of `b`, bit v - 128 of `c`, bit v - 192 of `d`.
+// A set of flag values, 0 to 255: value v is bit v % 64 of word v / 64.
 #[derive(Clone, Copy)]
 pub struct Values {
-    pub a: u64,
-    pub b: u64,
-    pub c: u64,
-    pub d: u64,
+    pub words: [u64; 4],
 }
 
 // A word with every bit.
@@ -27,19 +24,9 @@ pub(crate) const ALL: u64 = 0xFFFF_FFFF_FFFF_FFFF;
 const DEEPEST: usize = 16;
 
 // No flag value, and each.
-pub(crate) const NOTHING: Values = Values {
-    a: 0,
-    b: 0,
-    c: 0,
-    d: 0,
-};
+pub(crate) const NOTHING: Values = Values { words: [0; 4] };
 
-const EVERYTHING: Values = Values {
-    a: ALL,
-    b: ALL,
-    c: ALL,
-    d: ALL,
-};
+const EVERYTHING: Values = Values { words: [ALL; 4] };
 
 impl Not for Values {
     type Output = Values;
@@ -47,11 +34,9 @@ impl Not for Values {
     ghost not_gives = { λ w r. r ≡ complement_of w };
 
     fn not(self) -> Values {
+        let [a, b, c, d] = self.words;
         Values {
-            a: self.a ^ ALL,
-            b: self.b ^ ALL,
-            c: self.c ^ ALL,
-            d: self.d ^ ALL,
+            words: [a ^ ALL, b ^ ALL, c ^ ALL, d ^ ALL],
         }
     }
 }
@@ -62,11 +47,10 @@ impl BitAnd for Values {
     ghost bitand_gives = { λ v w r. r ≡ intersection_of v w };
 
     fn bitand(self, w: Values) -> Values {
+        let [a, b, c, d] = self.words;
+        let [e, f, g, h] = w.words;
         Values {
-            a: self.a & w.a,
-            b: self.b & w.b,
-            c: self.c & w.c,
-            d: self.d & w.d,
+            words: [a & e, b & f, c & g, d & h],
         }
     }
 }
@@ -77,11 +61,10 @@ impl BitOr for Values {
     ghost bitor_gives = { λ v w r. r ≡ union_of v w };
 
     fn bitor(self, w: Values) -> Values {
+        let [a, b, c, d] = self.words;
+        let [e, f, g, h] = w.words;
         Values {
-            a: self.a | w.a,
-            b: self.b | w.b,
-            c: self.c | w.c,
-            d: self.d | w.d,
+            words: [a | e, b | f, c | g, d | h],
         }
     }
 }
@@ -106,10 +89,12 @@ fn flagged(i: u32) -> Values
     let six = k / 6;
     let seven = k / 7;
     Values {
-        a: words[k - seven],
-        b: words[k + six - 2 * seven],
-        c: words[k],
-        d: words[k + six - seven],
+        words: [
+            words[k - seven],
+            words[k + six - 2 * seven],
+            words[k],
+            words[k + six - seven],
+        ],
     }
 }
 

@@ -327,7 +327,8 @@ pub(crate) fn past_blanks(text: &[u8], at: usize) -> usize
     blanks_end(text, at, Counts::LONGEST)
 }
 
-// The byte at `at` of a claim, 0 where none is looked at: no sign, digit or letter.
+// The byte at `at` of a claim, 0 where none is looked at: no sign, digit or letter, so a test for one of those needs no case
+// for the end.
 pub(crate) fn byte_at(text: &[u8], at: usize) -> u8
     ensures { result ≡ byte_of text.now at }
 {
