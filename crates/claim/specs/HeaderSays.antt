@@ -177,7 +177,7 @@ items_end Stray n g l = no_item l Stray
 items_end Done n g l = no_item l Done
 
 -- these items have those counts
-pub record Counted (is : List Item) (k : Counts) : Type 0 where
+pub record HasCounts (is : List Item) (k : Counts) : Type 0 where
   pub states : count_in is ≡ k.states
   pub start : get_some (start_state is) 0 ≡ k.start
   pub propositions : propositions_in is ≡ k.propositions
@@ -187,5 +187,5 @@ pub record Counted (is : List Item) (k : Counts) : Type 0 where
 -- THE WHOLE HEADER, from where no item stands yet up to past its --BODY--: the items, whole, and their counts; or the refusal
 abbrev pub HeaderSays : (text : List ℕ) → (at : ℕ) → Parsed Counts → Type 0
 HeaderSays s at (Ok (k, n)) =
-    (is : List Item) × Counted is k × (header_whole is ≡ true) × (told (go (in_items whole [])) (claim_tokens s at) ≡ told (go (in_lines is [])) (claim_tokens s n)) × Ahead s at n
+    (is : List Item) × HasCounts is k × (header_whole is ≡ true) × (told (go (in_items whole [])) (claim_tokens s at) ≡ told (go (in_lines is [])) (claim_tokens s n)) × Ahead s at n
 HeaderSays s at (Err j) = told (go (in_items whole [])) (claim_tokens s at) ≡ refused (number j)

@@ -8,7 +8,7 @@ use Rattle.model.specs.ClaimGrammar.{Item, State}
 use Rattle.model.specs.ClaimTable.{go, opening, version, told, taken_as, refused, claim_told, claim_refusal}
 use Rattle.model.specs.Claim.{Claim, claim_in}
 use Rattle.claim.specs.Reads.{tokens_at, Ahead}
-use Rattle.claim.specs.HeaderSays.{Counted}
+use Rattle.claim.specs.HeaderSays.{HasCounts}
 use Rattle.claim.specs.Cells.{claim_cells, LinesHeld, ClaimHeld}
 use Rattle.claim.specs.declared.Counts.{Counts}
 use Rattle.model.specs.Refusals.{number, refusal_of}
@@ -29,7 +29,7 @@ pub record TreeRead (s : List ℕ) (c : Counts) (cells cells_now : List ℕ) : T
   pub items : List Item
   pub states : List State
   pub taken_so : claim_told s ≡ taken_as (record { items = items; states = states })
-  pub counts : Counted items c
+  pub counts : HasCounts items c
   pub held : LinesHeld s [] cells → LinesHeld s states cells_now
 
 abbrev pub TextRead : (text : List ℕ) → Result Counts Refusal → (cells cells_now : List ℕ) → Type 0

@@ -19,7 +19,7 @@ use crate::tokens::{Seen, Token, fault, token_at, word};
 use model::{Claimed, Refusal};
 
 // The counts of a claim.
-#[derive(Clone, Copy)]
+#[derive(Clone, Copy, Debug, PartialEq, Eq)]
 pub struct Counts {
     pub states: u32,
     pub start: u32,

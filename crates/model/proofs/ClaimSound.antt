@@ -133,9 +133,6 @@ module _ (a : Syntax) (ok : taken a ≡ true) where
       let u = and_both (items_fit [] a.items) (header_whole a.items) h.0 in
       record { items_ok = u.0; whole_ok = u.1; lines_ok = (and_both (states_fit n k [] a.states) (eqb (length a.states) n) h.1).0 }
 
-  pub whole_header : header_whole a.items ≡ true
-  whole_header = parts.whole_ok
-
   all_states : length (claim_of a).states ≡ n
   unfolding claim_of
   all_states = length_states n 0 a.states

@@ -21,7 +21,7 @@ use Rattle.model.specs.BuiltEntry.{names_pair, BuiltSays}
 use Rattle.model.specs.declared.Charted.{Charted}
 use Rattle.model.specs.Refusals.{number}
 use Rattle.model.specs.declared.refusal.Refusal.{Refusal}
-use Rattle.model.specs.declared.refusal.Refusal.TheVariants.{ChartFault, CountsDiffer}
+use Rattle.model.specs.declared.refusal.Refusal.TheVariants.{CountsDiffer}
 use Rattle.model.proofs.Pairs.{pair_below}
 use Rattle.model.proofs.ClaimDefinite.{claims_definite}
 use Rattle.model.proofs.ClaimWhole.{claims_right}

@@ -7,8 +7,9 @@ use native.Mathlib.Nat.{zero-add, suc-mul, mul-le-mul, zero-mul}
 use native.Mathlib.Numerals.{add-one}
 use native.Mathlib.Omega.{arith}
 use lib.Bits.{bit_and, bit_or}
-use lib.ListN.{length, get_or, set, take, replicate, length-set, length-append, length-replicate}
+use lib.ListN.{length, get_or, set, take, drop, length-drop, replicate, length-set, length-append, length-replicate}
 use lib.Seq.{length-take-le, get_or-take}
+use Rattle.std.proofs.lemmas.List.{get_or-drop}
 use borrow.Author.Tests.{eq-eqb, ne_eqb}
 use Rattle.std.specs.Prelude.{Result, Ok, Err}
 use Rattle.model.specs.Graph.{Edge}
@@ -106,33 +107,29 @@ module _ {row : List ℕ} {v states r w : ℕ} {before now : List Edge} (d : Row
   }
 
 -- FILLING A ROW: f combinations are done
-pub record Filling (at from count f : ℕ) (follow cells row : List ℕ) : Type 0 where
+pub record Filling (entries masks : List ℕ) (f : ℕ) (row : List ℕ) : Type 0 where
   pub long : length row ≡ most_modes
   pub holds : (h : Chart) (k : Claim) (q s : ℕ) → s < length k.states
-      → ((i : ℕ) → i < count → get_or follow (at + i) 0 ≡ next_mode h q i + one_rule) → ((i : ℕ) → i < count → Goes k i s (get_or cells (from + i) 0)) → Row h k q s f row
+      → ((i : ℕ) → i < length entries → get_or entries i 0 ≡ next_mode h q i + one_rule) → ((i : ℕ) → i < length entries → Goes k i s (get_or masks i 0)) → Row h k q s f row
 
-pub fresh_long : {at from count : ℕ} {row follow cells : List ℕ} → RowAsks at from count row follow cells → length row ≡ most_modes
-fresh_long p = ap length p.fresh ∙ length-replicate {A = ℕ} most_modes 0
-
-pub filling_start : {at from count : ℕ} {row follow cells : List ℕ} → RowAsks at from count row follow cells → Filling at from count 0 follow cells row
-filling_start {at} {from} {count} {row} {follow} {cells} p = record {
-  long = fresh_long p;
+pub filling_start : {row entries masks : List ℕ} → RowAsks row entries masks → Filling entries masks 0 row
+filling_start p = record {
+  long = ap length p.fresh ∙ length-replicate {A = ℕ} most_modes 0;
   holds = λ h k q s hs a b. rw p.fresh (row_start h k q s most_modes);
 }
 
-pub filling_step : {at from count f : ℕ} {follow cells row : List ℕ} → Filling at from count f follow cells row → f < count
-    → Leads (get_or follow (at + f) 0)
-    → let next = get_or follow (at + f) 0 - one_rule in Filling at from count (f + 1) follow cells (set row next (bit_or (get_or row next 0) (get_or cells (from + f) 0)))
-filling_step {at} {from} {count} {f} {follow} {cells} {row} d h b =
-    let next = get_or follow (at + f) 0 - one_rule in
-    let mask = get_or cells (from + f) 0 in
+pub filling_step : {entries masks row : List ℕ} {f : ℕ} → Filling entries masks f row → f < length entries → Leads (get_or entries f 0)
+    → let next = get_or entries f 0 - one_rule in Filling entries masks (f + 1) (set row next (bit_or (get_or row next 0) (get_or masks f 0)))
+filling_step {entries} {masks} {row} {f} d h b =
+    let next = get_or entries f 0 - one_rule in
+    let mask = get_or masks f 0 in
     record {
       long = length-set row next (bit_or (get_or row next 0) mask) ∙ d.long;
       holds = λ h' k q s hs x y.
           rw (add-one f) (row_step h' k q s f next mask row hs (d.holds h' k q s hs x y) (omega (arith, x f h)) (omega (arith, d.long, b.from, b.below)) (y f h));
     }
 
-pub filling_end : {at from count f : ℕ} {follow cells row : List ℕ} → Filling at from count f follow cells row → f ≡ count → RowFilled at from count follow cells row
+pub filling_end : {entries masks row : List ℕ} {f : ℕ} → Filling entries masks f row → f ≡ length entries → RowFilled entries masks row
 filling_end {row = row} d e = record { holds = λ h k q s hs c x y. record { bits = λ r t lr lt. row_end h k q s row (rw (← c, ← e) (d.holds h k q s hs x y)) r t lr lt } }
 
 -- A VERTEX: where the entries of its mode and of its state are
@@ -156,16 +153,35 @@ module _ {v : ℕ} {z : Sizes} {follow cells : List ℕ} (p : Asks z follow cell
         few = omega (arith, few_vertices p);
       }
 
-  pub vertex_asks : RowAsks (v / z.states * z.count) (moves_from (v % z.states)) z.count (replicate most_modes 0) follow cells
-  vertex_asks = record { fresh = refl; pairs = place.pairs; masks = place.masks; leads = λ f b. p.leads _ f place.pair.first b }
+  part_long : (l : List ℕ) (at : ℕ) → at + z.count ≤ length l → length (take z.count (drop at l)) ≡ z.count
+  part_long l at h = length-take-le z.count (drop at l) (omega (arith, length-drop at l))
 
-  pub vertex_adds : {row : List ℕ} {before after : List Edge} {r : Result (Unit {0}) Refusal} → RowFilled (v / z.states * z.count) (moves_from (v % z.states)) z.count follow cells row → length row ≡ most_modes
+  part_at : (l : List ℕ) (at f : ℕ) → at + z.count ≤ length l → f < z.count → get_or (take z.count (drop at l)) f 0 ≡ get_or l (at + f) 0
+  part_at l at f h b = get_or-take z.count (drop at l) f 0 (omega (arith, part_long l at h)) ∙ get_or-drop at l f 0
+
+  pub vertex_asks : {i j : ℕ} → i ≡ z.count → j ≡ z.count → RowAsks (replicate most_modes 0) (take i (drop (v / z.states * z.count) follow)) (take j (drop (moves_from (v % z.states)) cells))
+  vertex_asks i j =
+      rw (i, j)
+      (record {
+        fresh = refl;
+        long = part_long cells _ place.masks ∙ sym (part_long follow _ place.pairs);
+        leads = λ f b.
+            let l : f < z.count = omega (arith, part_long follow _ place.pairs) in
+            rw (part_at follow _ f place.pairs l) (p.leads _ f place.pair.first l);
+      })
+
+  pub vertex_adds : {i j : ℕ} {row : List ℕ} {before after : List Edge} {r : Result (Unit {0}) Refusal} → i ≡ z.count → j ≡ z.count
+      → RowFilled (take i (drop (v / z.states * z.count) follow)) (take j (drop (moves_from (v % z.states)) cells)) row → length row ≡ most_modes
       → RowAdds (take z.modes row) v z.states before r after → VertexAdds v z follow cells before r after
-  vertex_adds {row} {before} {after} {r} w l a =
+  vertex_adds {row = row} {before = before} {after = after} {r = r} i j u l a =
+      let w = rw (i, j) at u in
       let m : length (take z.modes row) ≡ z.modes = length-take-le z.modes row (omega (arith, p.few_modes)) in
+      let n = part_long follow _ place.pairs in
       record {
         edges = λ c k g.
-            let x = w.holds c k (v / z.states) (v % z.states) (rw (← g.of_states) place.pair.second) g.of_flags (λ f b. g.next (v / z.states) f place.pair.first b) (λ f b. g.goes (v % z.states) f place.pair.second b) in
+            let x = w.holds c k (v / z.states) (v % z.states) (rw (← g.of_states) place.pair.second) (n ∙ g.of_flags)
+            (λ f b. let b' : f < z.count = omega (arith, n) in part_at follow _ f place.pairs b' ∙ g.next (v / z.states) f place.pair.first b')
+            (λ f b. let b' : f < z.count = omega (arith, n) in rw (part_at cells _ f place.masks b') (g.goes (v % z.states) f place.pair.second b')) in
             let y : Holds (both_of c k) v z.states row = rw (← g.of_states, place.pair.whole) at x in
             rw m at (a.edges (both_of c k) (record { bits = λ i t u s. rw (get_or-take z.modes row i 0 (omega (arith, m))) (y.bits i t (omega (arith, m, p.few_modes)) s) }));
       }

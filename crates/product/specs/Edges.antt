@@ -61,16 +61,15 @@ pub record Holds (a : Automaton) (v states : ℕ) (row : List ℕ) : Type 0 wher
 pub record RowAdds (row : List ℕ) (v states : ℕ) (before : List Edge) (r : Result (Unit {0}) Refusal) (after : List Edge) : Type 0 where
   pub edges : (a : Automaton) → Holds a v states row → Added (edges_to (length row * states) 0 a v) before r after
 
--- the entries of one mode start at `at`, those of one state at `from`
-pub record RowAsks (at from count : ℕ) (row follow cells : List ℕ) : Type 0 where
+-- the entries of one mode, and the masks of one state
+pub record RowAsks (row entries masks : List ℕ) : Type 0 where
   pub fresh : row ≡ replicate most_modes 0
-  pub pairs : at + count ≤ length follow
-  pub masks : from + count ≤ length cells
-  pub leads : (f : ℕ) → f < count → Leads (get_or follow (at + f) 0)
+  pub long : length masks ≡ length entries
+  pub leads : (f : ℕ) → f < length entries → Leads (get_or entries f 0)
 
-pub record RowFilled (at from count : ℕ) (follow cells row : List ℕ) : Type 0 where
-  pub holds : (h : Chart) (k : Claim) (q s : ℕ) → s < length k.states → count ≡ combinations h
-      → ((f : ℕ) → f < count → get_or follow (at + f) 0 ≡ next_mode h q f + one_rule) → ((f : ℕ) → f < count → Goes k f s (get_or cells (from + f) 0))
+pub record RowFilled (entries masks row : List ℕ) : Type 0 where
+  pub holds : (h : Chart) (k : Claim) (q s : ℕ) → s < length k.states → length entries ≡ combinations h
+      → ((f : ℕ) → f < length entries → get_or entries f 0 ≡ next_mode h q f + one_rule) → ((f : ℕ) → f < length entries → Goes k f s (get_or masks f 0))
       → Holds (both_of h k) (q * length k.states + s) (length k.states) row
 
 -- THE WHOLE: the edges that leave one vertex, and all of them, if there are not too many

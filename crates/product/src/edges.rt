@@ -29,15 +29,14 @@ pub(crate) struct Product<'a> {
     ghost near: { sizes.source < 2 ^ 32 },
 }
 
-// For each combination of flags, where the claim can go together with the chart's next mode. The entries of the vertex's mode
-// start at `at`, those of its state at `from`.
-fn fill_row(row: &mut [u32], follow: &[u8], at: usize, cells: &[u32], from: usize, count: usize)
-    requires { RowAsks at from count row.old follow.now cells.now }
-    ensures { RowFilled at from count follow.now cells.now row.new }
+// For each combination of flags, where the claim can go together with the chart's next mode, by the entries of a vertex's mode
+// and the masks of its state. By index: a zip of both takes 5 % longer.
+fn fill_row(row: &mut [u32], entries: &[u8], masks: &[u32])
+    requires { RowAsks row.old entries.now masks.now }
+    ensures { RowFilled entries.now masks.now row.new }
 {
-    for f in 0..count {
-        let next = (follow[at + f] - Chart::ONE_RULE) as usize;
-        row[next] = row[next] | cells[from + f];
+    for f in 0..entries.len() {
+        row[(entries[f] - Chart::ONE_RULE) as usize] |= masks[f];
     }
 }
 
@@ -85,7 +84,11 @@ impl Product<'_> {
         } = self.sizes;
         let at = v / states * count;
         let from = Counts::MOVES + Counts::MOST_VALUES * (v % states);
-        fill_row(&mut row, self.follow, at, self.cells, from, count);
+        fill_row(
+            &mut row,
+            &self.follow[at..at + count],
+            &self.cells[from..from + count],
+        );
         add_row(&row[..modes], v as u32, states as u32, edges)
     }
 

@@ -5,7 +5,7 @@ ghost use Rattle.text.specs.Writing.{Puts};
 ghost use Rattle.model.specs.Case.{most_vertices};
 ghost use Rattle.search.specs.Writing.{head_text, EdgesAt, EdgesSay, DistancesAt, VertexSays, VerticesSay, Reached, LassoAsks, LassoSays, EmptySays};
 
-use super::cells::{Cells, load, load_below};
+use super::cells::{self, load, load_below};
 use casefile::Case;
 use text::write::{write_byte, write_bytes, write_number, write_signed};
 
@@ -83,7 +83,7 @@ fn write_vertices(output: &mut [u8], at: usize, work: &[i32], n: usize) -> usize
 {
     let mut here = at;
     for v in 0..n {
-        here = write_vertex(output, here, v, load(work, Cells::DISTANCE + v));
+        here = write_vertex(output, here, v, load(work, cells::DISTANCE + v));
     }
     here
 }
@@ -95,14 +95,14 @@ fn reached(work: &[i32], n: usize) -> usize
 {
     let mut k: usize = 0;
     for v in 0..n {
-        if load(work, Cells::DISTANCE + v) <= 0 {
+        if load(work, cells::DISTANCE + v) <= 0 {
             k += 1;
         }
     }
     k
 }
 
-// The answer "empty": the distances stand from Cells::DISTANCE on.
+// The answer "empty": the distances stand from cells::DISTANCE on.
 pub(crate) fn write_empty(output: &mut [u8], work: &[i32], n: usize) -> usize
     requires { DistancesAt n work.now }
     ensures { EmptySays n result work.now output.old output.new }

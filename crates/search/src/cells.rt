@@ -6,45 +6,42 @@ ghost use Rattle.model.specs.Entry.{zeros};
 
 use casefile::Case;
 
-#[derive(Clone, Copy)]
-pub(crate) struct Cells {}
+// The case, written once: by vertex its mark and owner; by edge its ends, rest loops included; by vertex its first file
+// edge, and one more for the end; by vertex the number of its rest loop, if it has one.
+pub(crate) const ACCEPTING: usize = 0;
 
-impl Cells {
-    // The case, written once: by vertex its mark and owner; by edge its ends, rest loops included; by vertex its first file
-    // edge, and one more for the end; by vertex the number of its rest loop, if it has one.
-    pub const ACCEPTING: usize = 0;
+pub(crate) const OWNER: usize = ACCEPTING + Case::MOST_VERTICES;
 
-    pub const OWNER: usize = Cells::ACCEPTING + Case::MOST_VERTICES;
+pub(crate) const FROM: usize = OWNER + Case::MOST_VERTICES;
 
-    pub const FROM: usize = Cells::OWNER + Case::MOST_VERTICES;
+pub(crate) const TO: usize = FROM + Case::MOST_RUN_EDGES;
 
-    pub const TO: usize = Cells::FROM + Case::MOST_RUN_EDGES;
+pub(crate) const FIRST: usize = TO + Case::MOST_RUN_EDGES;
 
-    pub const FIRST: usize = Cells::TO + Case::MOST_RUN_EDGES;
+pub(crate) const REST: usize = FIRST + Case::MOST_VERTICES + 1;
 
-    pub const REST: usize = Cells::FIRST + Case::MOST_VERTICES + 1;
-    // The run: by vertex its distance, parent edge and queue link; by file edge its message; by worker its queue's head and
-    // tail.
-    pub const DISTANCE: usize = Cells::REST + Case::MOST_VERTICES;
+// The run: by vertex its distance, parent edge and queue link; by file edge its message; by worker its queue's head and
+// tail.
+pub(crate) const DISTANCE: usize = REST + Case::MOST_VERTICES;
 
-    pub const PARENT: usize = Cells::DISTANCE + Case::MOST_VERTICES;
+pub(crate) const PARENT: usize = DISTANCE + Case::MOST_VERTICES;
 
-    pub const LINK: usize = Cells::PARENT + Case::MOST_VERTICES;
+pub(crate) const LINK: usize = PARENT + Case::MOST_VERTICES;
 
-    pub const MESSAGE: usize = Cells::LINK + Case::MOST_VERTICES;
+pub(crate) const MESSAGE: usize = LINK + Case::MOST_VERTICES;
 
-    pub const HEAD: usize = Cells::MESSAGE + Case::MOST_EDGES;
+pub(crate) const HEAD: usize = MESSAGE + Case::MOST_EDGES;
 
-    pub const TAIL: usize = Cells::HEAD + Case::MOST_WORKERS;
-    // Scratch: the breadth-first search's first edges and its queue; stem and cycle.
-    pub const FOUND: usize = Cells::TAIL + Case::MOST_WORKERS;
+pub(crate) const TAIL: usize = HEAD + Case::MOST_WORKERS;
 
-    pub const QUEUE: usize = Cells::FOUND + Case::MOST_VERTICES;
+// Scratch: the breadth-first search's first edges and its queue; stem and cycle.
+pub(crate) const FOUND: usize = TAIL + Case::MOST_WORKERS;
 
-    pub const STEM: usize = Cells::QUEUE + Case::MOST_VERTICES;
+pub(crate) const QUEUE: usize = FOUND + Case::MOST_VERTICES;
 
-    pub const CYCLE: usize = Cells::STEM + Case::MOST_VERTICES;
-}
+pub(crate) const STEM: usize = QUEUE + Case::MOST_VERTICES;
+
+pub(crate) const CYCLE: usize = STEM + Case::MOST_VERTICES;
 
 // How the lent cells, which are signed numbers for every caller, code what may be missing (specs/Cells.antt,
 // specs/Rep.antt). A distance or a message that is not there is above every one that is.

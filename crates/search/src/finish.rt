@@ -3,7 +3,7 @@ ghost use Rattle.search.specs.Finish.{AnswerAsks, BrokenAsks, LassoDone, AnswerD
 ghost use Rattle.std.specs.Prelude.{◌≡◌};
 
 use crate::answer::{write_empty, write_lasso};
-use crate::cells::{Cells, clear};
+use crate::cells::{self, clear};
 use crate::run::Run;
 use crate::show::show_lasso;
 use casefile::Case;
@@ -23,8 +23,8 @@ fn lasso_answer(
     let shown = show_lasso(work, broken, source, n);
     let stem = shown.stem;
     let cycle = shown.cycle;
-    let end = Cells::CYCLE + Case::MOST_VERTICES;
-    write_lasso(output, work, stem, Cells::CYCLE - stem, cycle, end - cycle)
+    let end = cells::CYCLE + Case::MOST_VERTICES;
+    write_lasso(output, work, stem, cells::CYCLE - stem, cycle, end - cycle)
 }
 
 // The answer of a run that has ended.

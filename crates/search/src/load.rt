@@ -1,7 +1,7 @@
 // Loads a case from its tables into the cells: marks, owners, ends, each vertex's first edge, and then the rest loops.
 ghost use Rattle.search.specs.Loading.{LoadAsks, LoadSays, RowsAsk, RowsSay, PairAsks, PairSays, PairsAsk, PairsSay, LoopAsks, LoopSays, LoopsAsk, LoopsSay};
 
-use super::cells::{Cells, fill, load_below, store_number};
+use super::cells::{self, fill, load_below, store_number};
 use casefile::Case;
 
 // Stores the marks and the owners of the vertices, and counts the accepting ones.
@@ -12,8 +12,8 @@ fn load_vertices(work: &mut [i32], marks: &[u32], owners: &[u32]) -> usize
     let mut count: usize = 0;
     for v in 0..marks.len() {
         let mark = marks[v] as usize;
-        store_number(work, Cells::ACCEPTING + v, mark);
-        store_number(work, Cells::OWNER + v, owners[v] as usize);
+        store_number(work, cells::ACCEPTING + v, mark);
+        store_number(work, cells::OWNER + v, owners[v] as usize);
         count += mark;
     }
     count
@@ -25,12 +25,12 @@ fn load_edge(work: &mut [i32], e: usize, from: usize, to: usize, next: usize) ->
     requires { PairAsks e from to next work.old }
     ensures { PairSays e from to next result work.old work.new }
 {
-    store_number(work, Cells::FROM + e, from);
-    store_number(work, Cells::TO + e, to);
+    store_number(work, cells::FROM + e, from);
+    store_number(work, cells::TO + e, to);
     if from < next {
         return next;
     }
-    fill(work, Cells::FIRST + next, from + 1 - next, e);
+    fill(work, cells::FIRST + next, from + 1 - next, e);
     from + 1
 }
 
@@ -43,7 +43,7 @@ fn load_edges(work: &mut [i32], froms: &[u32], tos: &[u32], n: usize)
     for e in 0..froms.len() {
         next = load_edge(work, e, froms[e] as usize, tos[e] as usize, next);
     }
-    fill(work, Cells::FIRST + next, n + 1 - next, froms.len());
+    fill(work, cells::FIRST + next, n + 1 - next, froms.len());
 }
 
 // Loads a case from its tables, and counts its accepting vertices.
@@ -67,14 +67,14 @@ fn load_loop(work: &mut [i32], v: usize, k: usize) -> usize
     requires { LoopAsks v k work.old }
     ensures { LoopSays v k result work.old work.new }
 {
-    let first = load_below(work, Cells::FIRST + v, Case::MOST_EDGES + 1);
-    let end = load_below(work, Cells::FIRST + (v + 1), Case::MOST_EDGES + 1);
-    store_number(work, Cells::REST + v, k);
+    let first = load_below(work, cells::FIRST + v, Case::MOST_EDGES + 1);
+    let end = load_below(work, cells::FIRST + (v + 1), Case::MOST_EDGES + 1);
+    store_number(work, cells::REST + v, k);
     if first < end {
         return k;
     }
-    store_number(work, Cells::FROM + k, v);
-    store_number(work, Cells::TO + k, v);
+    store_number(work, cells::FROM + k, v);
+    store_number(work, cells::TO + k, v);
     k + 1
 }
 

@@ -2,7 +2,7 @@
 // are coded is in specs/Rep.antt.
 ghost use Rattle.search.specs.Asks.{PushAsks, PushSays, PopAsks, PopSays, QueuesAsk, QueuesSay};
 
-use super::cells::{Cells, NOT_QUEUED, QUEUE_END, QUEUED, load_below, store_number};
+use super::cells::{self, NOT_QUEUED, QUEUE_END, QUEUED, load_below, store_number};
 use casefile::Case;
 
 // A vertex joins the tail of its owner's queue unless it is there.
@@ -10,22 +10,22 @@ pub(crate) fn push(work: &mut [i32], v: usize)
     requires { PushAsks v work.old }
     ensures { PushSays v work.old work.new }
 {
-    let next = load_below(work, Cells::LINK + v, Case::MOST_VERTICES + QUEUED);
+    let next = load_below(work, cells::LINK + v, Case::MOST_VERTICES + QUEUED);
     if next != NOT_QUEUED {
         return;
     }
-    let p = load_below(work, Cells::OWNER + v, Case::MOST_WORKERS);
-    let head = load_below(work, Cells::HEAD + p, Case::MOST_VERTICES + QUEUED);
+    let p = load_below(work, cells::OWNER + v, Case::MOST_WORKERS);
+    let head = load_below(work, cells::HEAD + p, Case::MOST_VERTICES + QUEUED);
     if head == QUEUE_END {
-        store_number(work, Cells::LINK + v, QUEUE_END);
-        store_number(work, Cells::HEAD + p, v + QUEUED);
-        store_number(work, Cells::TAIL + p, v);
+        store_number(work, cells::LINK + v, QUEUE_END);
+        store_number(work, cells::HEAD + p, v + QUEUED);
+        store_number(work, cells::TAIL + p, v);
         return;
     }
-    let tail = load_below(work, Cells::TAIL + p, Case::MOST_VERTICES);
-    store_number(work, Cells::LINK + tail, v + QUEUED);
-    store_number(work, Cells::LINK + v, QUEUE_END);
-    store_number(work, Cells::TAIL + p, v);
+    let tail = load_below(work, cells::TAIL + p, Case::MOST_VERTICES);
+    store_number(work, cells::LINK + tail, v + QUEUED);
+    store_number(work, cells::LINK + v, QUEUE_END);
+    store_number(work, cells::TAIL + p, v);
 }
 
 // The head v of the queue of worker p leaves it.
@@ -33,9 +33,9 @@ pub(crate) fn pop(work: &mut [i32], p: usize, v: usize)
     requires { PopAsks p v work.old }
     ensures { PopSays p v work.old work.new }
 {
-    let next = load_below(work, Cells::LINK + v, Case::MOST_VERTICES + QUEUED);
-    store_number(work, Cells::HEAD + p, next);
-    store_number(work, Cells::LINK + v, NOT_QUEUED);
+    let next = load_below(work, cells::LINK + v, Case::MOST_VERTICES + QUEUED);
+    store_number(work, cells::HEAD + p, next);
+    store_number(work, cells::LINK + v, NOT_QUEUED);
 }
 
 // Whether no queue of P workers has a vertex.
@@ -44,7 +44,7 @@ pub(crate) fn none_queued(work: &[i32], p: usize) -> bool
     ensures { QueuesSay p result work.now }
 {
     for w in 0..p {
-        let head = load_below(work, Cells::HEAD + w, Case::MOST_VERTICES + QUEUED);
+        let head = load_below(work, cells::HEAD + w, Case::MOST_VERTICES + QUEUED);
         if head != QUEUE_END {
             return false;
         }

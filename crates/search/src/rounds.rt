@@ -3,7 +3,7 @@
 ghost use Rattle.std.specs.Prelude.{◌<◌, length};
 ghost use Rattle.search.specs.Asks.{Inserted, TurnsAsk, TurnsSay, EdgesAsk, EdgesSay, SweepAsks, SweepSays, RoundSays, RoundsAsk, RoundsDone, ByRoundsAsks, ByRoundsSays};
 
-use super::cells::{Cells, QUEUE_END, QUEUED, load_below};
+use super::cells::{self, QUEUE_END, QUEUED, load_below};
 use super::run::Run;
 use casefile::Case;
 
@@ -31,7 +31,7 @@ impl Run {
     {
         let mut scanned: usize = 0;
         for w in 0..p {
-            let head = load_below(work, Cells::HEAD + w, Case::MOST_VERTICES + QUEUED);
+            let head = load_below(work, cells::HEAD + w, Case::MOST_VERTICES + QUEUED);
             if head == QUEUE_END {
                 continue;
             }
@@ -47,8 +47,8 @@ impl Run {
         requires { EdgesAsk v p self.old work.old }
         ensures { EdgesSay v p self.old self.new work.old work.new }
     {
-        let end = load_below(work, Cells::FIRST + (v + 1), Case::MOST_EDGES + 1);
-        let first = load_below(work, Cells::FIRST + v, Case::MOST_EDGES + 1);
+        let end = load_below(work, cells::FIRST + (v + 1), Case::MOST_EDGES + 1);
+        let first = load_below(work, cells::FIRST + v, Case::MOST_EDGES + 1);
         for e in first..end {
             if self.broken.is_some() {
                 return;

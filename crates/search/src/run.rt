@@ -7,7 +7,7 @@ ghost use Rattle.search.specs.Cells.{message_at};
 ghost use Rattle.search.specs.Asks.{PutSays, OfferAsks, SendAsks, SendSays, RelaxSays, EdgeSays, ScanAsks, ScanSays, none_waits, OverAsks, OverSays, TurnAsks, TurnSays, DeliverAsks, DeliverSays, ActAsks, ActSays, LengthIs, OfferedAsks, OfferedIs, BlankSays, FreshAsks, FreshSays, ListAsks, ListDone};
 
 use super::cells::{
-    Cells, NO_DISTANCE, NONE, NOT_QUEUED, QUEUE_END, QUEUED, SOME, fill, load, load_below, store,
+    self, NO_DISTANCE, NONE, NOT_QUEUED, QUEUE_END, QUEUED, SOME, fill, load, load_below, store,
     store_number,
 };
 use super::edges::edges_of;
@@ -36,7 +36,7 @@ impl Run {
         ensures { FreshSays source marks result work.old work.new }
     {
         blank(work);
-        store_number(work, Cells::DISTANCE + source, 0);
+        store_number(work, cells::DISTANCE + source, 0);
         push(work, source);
         Run {
             turns: 0,
@@ -65,11 +65,11 @@ impl Run {
         requires { OfferAsks e d self.old work.old }
         ensures { RelaxSays e d self.old self.new work.old work.new }
     {
-        let v = load_below(work, Cells::TO + e, Case::MOST_VERTICES);
-        let old = load(work, Cells::DISTANCE + v);
+        let v = load_below(work, cells::TO + e, Case::MOST_VERTICES);
+        let old = load(work, cells::DISTANCE + v);
         if lower(d, old) {
-            store(work, Cells::DISTANCE + v, d);
-            store_number(work, Cells::PARENT + v, e + SOME);
+            store(work, cells::DISTANCE + v, d);
+            store_number(work, cells::PARENT + v, e + SOME);
             push(work, v);
             if below_floor(d, self.marks as usize) {
                 self.broken = Some(v);
@@ -82,8 +82,8 @@ impl Run {
         requires { SendAsks e d self.old work.old }
         ensures { EdgeSays e own d self.old self.new work.old work.new }
     {
-        let to = load_below(work, Cells::TO + e, Case::MOST_VERTICES);
-        let other = load_below(work, Cells::OWNER + to, Case::MOST_WORKERS);
+        let to = load_below(work, cells::TO + e, Case::MOST_VERTICES);
+        let other = load_below(work, cells::OWNER + to, Case::MOST_WORKERS);
         if other == own {
             self.relax(work, e, d);
             return;
@@ -96,7 +96,7 @@ impl Run {
         requires { ScanAsks v d self.old work.old }
         ensures { ScanSays v d self.old self.new work.old work.new }
     {
-        let own = load_below(work, Cells::OWNER + v, Case::MOST_WORKERS);
+        let own = load_below(work, cells::OWNER + v, Case::MOST_WORKERS);
         let offer = offered(work, v, d);
         let edges = edges_of(work, v);
         for e in edges.start..edges.end {
@@ -139,13 +139,13 @@ impl Run {
         requires { TurnAsks p self.old work.old }
         ensures { TurnSays p self.old self.new work.old work.new }
     {
-        let head = load_below(work, Cells::HEAD + p, Case::MOST_VERTICES + QUEUED);
+        let head = load_below(work, cells::HEAD + p, Case::MOST_VERTICES + QUEUED);
         if head == QUEUE_END {
             return;
         }
         let v = head - QUEUED;
         pop(work, p, v);
-        let d = load(work, Cells::DISTANCE + v);
+        let d = load(work, cells::DISTANCE + v);
         self.scan(work, v, d);
         self.turns += 1;
     }
@@ -155,11 +155,11 @@ impl Run {
         requires { DeliverAsks e self.old work.old }
         ensures { DeliverSays e self.old self.new work.old work.new }
     {
-        let d = load(work, Cells::MESSAGE + e);
+        let d = load(work, cells::MESSAGE + e);
         if missing(d) {
             return;
         }
-        store_number(work, Cells::MESSAGE + e, NO_DISTANCE);
+        store_number(work, cells::MESSAGE + e, NO_DISTANCE);
         self.delivered += 1;
         self.relax(work, e, d);
     }
@@ -196,15 +196,15 @@ pub(crate) fn blank(work: &mut [i32])
     requires { least_work ≤ length work.old }
     ensures { BlankSays work.old work.new }
 {
-    fill(work, Cells::DISTANCE, Case::MOST_VERTICES, NO_DISTANCE);
-    fill(work, Cells::PARENT, Case::MOST_VERTICES, NONE);
-    fill(work, Cells::LINK, Case::MOST_VERTICES, NOT_QUEUED);
-    fill(work, Cells::MESSAGE, Case::MOST_EDGES, NO_DISTANCE);
-    fill(work, Cells::HEAD, Case::MOST_WORKERS, QUEUE_END);
-    fill(work, Cells::TAIL, Case::MOST_WORKERS, 0);
+    fill(work, cells::DISTANCE, Case::MOST_VERTICES, NO_DISTANCE);
+    fill(work, cells::PARENT, Case::MOST_VERTICES, NONE);
+    fill(work, cells::LINK, Case::MOST_VERTICES, NOT_QUEUED);
+    fill(work, cells::MESSAGE, Case::MOST_EDGES, NO_DISTANCE);
+    fill(work, cells::HEAD, Case::MOST_WORKERS, QUEUE_END);
+    fill(work, cells::TAIL, Case::MOST_WORKERS, 0);
 }
 
-// Whether a distance is below another.
+// Whether a distance is below another. A function, since must-fail/late_offer_overwrites.edit spoils its call.
 pub(crate) fn lower(a: i32, b: i32) -> bool
     ensures { result ≡ lt_z a b }
 {
@@ -219,7 +219,7 @@ pub(crate) fn negated(n: usize) -> i32
     -(n as i32)
 }
 
-// Whether a distance is below −A.
+// Whether a distance is below −A. A function, since must-fail/floor_at_A.edit spoils it.
 pub(crate) fn below_floor(d: i32, marks: usize) -> bool
     requires { marks ≤ most_vertices }
     ensures { result ≡ lt_z d (neg_ℤ (pos marks)) }
@@ -235,7 +235,7 @@ pub(crate) fn edge_length(mark: usize) -> i32
     negated(mark)
 }
 
-// Whether a cell has no distance or message.
+// Whether a cell has no distance or message. A function, since must-fail/joined_for_fresh.edit spoils its call.
 pub(crate) fn missing(d: i32) -> bool
     ensures { result ≡ lt_z (pos 0) d }
 {
@@ -247,8 +247,8 @@ pub(crate) fn put_offer(work: &mut [i32], e: usize, d: i32) -> bool
     requires { message_at + e < length work.old }
     ensures { PutSays e d result work.old work.new }
 {
-    let waiting = load(work, Cells::MESSAGE + e);
-    store(work, Cells::MESSAGE + e, waiting.min(d));
+    let waiting = load(work, cells::MESSAGE + e);
+    store(work, cells::MESSAGE + e, waiting.min(d));
     !missing(waiting)
 }
 
@@ -257,6 +257,6 @@ pub(crate) fn offered(work: &[i32], v: usize, d: i32) -> i32
     requires { OfferedAsks v d work.now }
     ensures { OfferedIs v d result work.now }
 {
-    let length = edge_length(load_below(work, Cells::ACCEPTING + v, 2));
+    let length = edge_length(load_below(work, cells::ACCEPTING + v, 2));
     d + length
 }

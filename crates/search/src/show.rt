@@ -5,7 +5,7 @@ ghost use Rattle.model.specs.Case.{most_vertices};
 ghost use Rattle.search.specs.Show.{Backable, ParentIs, OneBackIs, Backed, Cycled};
 ghost use Rattle.search.specs.Show.{Triable, Tried, Scannable, Scans, Startable, Started, Searchable, Searched, Stemmable, StemTaken, Showable, Shows};
 
-use crate::cells::{AT_SOURCE, BY_EDGE, Cells, NOT_FOUND, SOME, fill, load_below, store_number};
+use crate::cells::{self, AT_SOURCE, BY_EDGE, NOT_FOUND, SOME, fill, load_below, store_number};
 use crate::edges::edges_of;
 use casefile::Case;
 
@@ -14,7 +14,7 @@ pub(crate) fn parent_edge(work: &[i32], v: usize) -> usize
     requires { Backable v work.now }
     ensures { ParentIs v result work.now }
 {
-    let code = load_below(work, Cells::PARENT + v, Case::MOST_RUN_EDGES + SOME);
+    let code = load_below(work, cells::PARENT + v, Case::MOST_RUN_EDGES + SOME);
     code - SOME
 }
 
@@ -24,7 +24,7 @@ pub(crate) fn one_back(work: &[i32], v: usize) -> usize
     ensures { OneBackIs v result work.now }
 {
     let e = parent_edge(work, v);
-    load_below(work, Cells::FROM + e, Case::MOST_VERTICES)
+    load_below(work, cells::FROM + e, Case::MOST_VERTICES)
 }
 
 // So many parent edges back.
@@ -45,7 +45,7 @@ pub(crate) fn take_cycle(work: &mut [i32], start: usize, n: usize) -> usize
     requires { (n ≤ most_vertices) × Backable start work.old }
     ensures { Cycled start n result work.old work.new }
 {
-    let mut at: usize = Cells::CYCLE + Case::MOST_VERTICES;
+    let mut at: usize = cells::CYCLE + Case::MOST_VERTICES;
     let mut v = start;
     for _ in 0..n {
         let e = parent_edge(work, v);
@@ -64,13 +64,13 @@ pub(crate) fn try_edge(work: &mut [i32], e: usize, tail: usize) -> usize
     requires { Triable e tail work.old }
     ensures { Tried e tail result work.old work.new }
 {
-    let v = load_below(work, Cells::TO + e, Case::MOST_VERTICES);
-    let found = load_below(work, Cells::FOUND + v, Case::MOST_RUN_EDGES + BY_EDGE);
+    let v = load_below(work, cells::TO + e, Case::MOST_VERTICES);
+    let found = load_below(work, cells::FOUND + v, Case::MOST_RUN_EDGES + BY_EDGE);
     if found != NOT_FOUND {
         return tail;
     }
-    store_number(work, Cells::FOUND + v, e + BY_EDGE);
-    store_number(work, Cells::QUEUE + tail, v);
+    store_number(work, cells::FOUND + v, e + BY_EDGE);
+    store_number(work, cells::QUEUE + tail, v);
     tail + 1
 }
 
@@ -79,7 +79,7 @@ pub(crate) fn scan_head(work: &mut [i32], head: usize, tail: usize) -> usize
     requires { Scannable head tail work.old }
     ensures { Scans head tail result work.old work.new }
 {
-    let v = load_below(work, Cells::QUEUE + head, Case::MOST_VERTICES);
+    let v = load_below(work, cells::QUEUE + head, Case::MOST_VERTICES);
     let edges = edges_of(work, v);
     let mut last = tail;
     for e in edges.start..edges.end {
@@ -93,9 +93,9 @@ pub(crate) fn start_search(work: &mut [i32], source: usize, n: usize)
     requires { Startable source n work.old }
     ensures { Started source n work.old work.new }
 {
-    fill(work, Cells::FOUND, n, NOT_FOUND);
-    store_number(work, Cells::FOUND + source, AT_SOURCE);
-    store_number(work, Cells::QUEUE, source);
+    fill(work, cells::FOUND, n, NOT_FOUND);
+    store_number(work, cells::FOUND + source, AT_SOURCE);
+    store_number(work, cells::QUEUE, source);
 }
 
 // Breadth first from the source, until the goal is found.
@@ -107,7 +107,7 @@ pub(crate) fn find_stem(work: &mut [i32], source: usize, goal: usize, n: usize)
     let mut head: usize = 0;
     let mut tail: usize = 1;
     while head < tail {
-        if load_below(work, Cells::FOUND + goal, Case::MOST_RUN_EDGES + BY_EDGE) != NOT_FOUND {
+        if load_below(work, cells::FOUND + goal, Case::MOST_RUN_EDGES + BY_EDGE) != NOT_FOUND {
             return;
         }
         tail = scan_head(work, head, tail);
@@ -121,12 +121,12 @@ pub(crate) fn take_stem(work: &mut [i32], goal: usize) -> usize
     requires { Stemmable goal work.old }
     ensures { StemTaken goal result work.old work.new }
 {
-    let mut at: usize = Cells::CYCLE;
-    let mut found = load_below(work, Cells::FOUND + goal, Case::MOST_RUN_EDGES + BY_EDGE);
+    let mut at: usize = cells::CYCLE;
+    let mut found = load_below(work, cells::FOUND + goal, Case::MOST_RUN_EDGES + BY_EDGE);
     while found > AT_SOURCE {
         let e = found - BY_EDGE;
-        let v = load_below(work, Cells::FROM + e, Case::MOST_VERTICES);
-        found = load_below(work, Cells::FOUND + v, Case::MOST_RUN_EDGES + BY_EDGE);
+        let v = load_below(work, cells::FROM + e, Case::MOST_VERTICES);
+        found = load_below(work, cells::FOUND + v, Case::MOST_RUN_EDGES + BY_EDGE);
         at -= 1;
         store_number(work, at, e);
     }

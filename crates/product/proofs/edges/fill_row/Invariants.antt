@@ -3,4 +3,4 @@ use Rattle.product.proofs.EdgeTables.{Filling}
 use Rattle.product.proofs.edges.fill_row.Given as goal
 
 abbrev pub invariant-loop-f : goal.invariant-loop-f
-invariant-loop-f l = Filling l.at l.from l.count l.f l.follow l.cells l.row
+invariant-loop-f l = Filling l.entries l.masks l.f l.row
