@@ -233,14 +233,14 @@ module _ (s xs : List ℕ) (c : Case) (marks m : ℕ) (w w₁ : List ℤ) (l : C
     list_asks = record { case = run_case s; state = fresh (run_case s); rep = begun; moment = moment_fresh (run_case s); workers = workers; below = λ i h. rw (← limit) (all_below (c.workers + c.edges) xs l.in_range i h) }
 
     module _ (k₃ : Run) (w₃ : List ℤ) (o : List ℕ) (enough : (ltb (length o) least_output || ltb (length w) least_work) ≡ false) where
-      list_gone : ListDone c.workers xs k₂ k₃ w₂ w₃ → Gone (run_case s) (by_list (run_case s) xs) k₃ c.vertices c.source w₃ o
-      list_gone d = record { rep = rep; moment = record { acts = xs; is = refl }; vertices = vertices; start = source; room = (buffers_enough (length o) (length w) enough).0 }
+      list_gone : ListDone c.workers xs k₂ k₃ w₂ w₃ → Gone (run_case s) (by_list (run_case s) xs) k₃ c.vertices c.source w₃
+      list_gone d = record { rep = rep; moment = record { acts = xs; is = refl }; vertices = vertices; start = source }
         where
           rep : Rep (run_case s) (by_list (run_case s) xs) k₃ w₃
           rep = unfold ListDone by_list in (d (run_case s) (fresh (run_case s)) begun (moment_fresh (run_case s)) workers (λ i h. rw (← limit) (all_below (c.workers + c.edges) xs l.in_range i h)))
 
-      rounds_gone : ByRoundsSays c.workers c.vertices m k₂ k₃ w₂ w₃ → Gone (run_case s) (by_rounds (run_case s)) k₃ c.vertices c.source w₃ o
-      rounds_gone d = record { rep = rep; moment = record { acts = acts; is = listed }; vertices = vertices; start = source; room = (buffers_enough (length o) (length w) enough).0 }
+      rounds_gone : ByRoundsSays c.workers c.vertices m k₂ k₃ w₂ w₃ → Gone (run_case s) (by_rounds (run_case s)) k₃ c.vertices c.source w₃
+      rounds_gone d = record { rep = rep; moment = record { acts = acts; is = listed }; vertices = vertices; start = source }
         where
           rep : Rep (run_case s) (by_rounds (run_case s)) k₃ w₃
           rep = unfold ByRoundsSays in (d (run_case s) begun workers vertices l.many)
@@ -252,10 +252,10 @@ module _ (s xs : List ℕ) (c : Case) (marks m : ℕ) (w w₁ : List ℤ) (l : C
           listed = (runs_kept (run_case s) ok).rounds_listed (most_acts (run_case s)) (omega arith)
 
       pub list_finish : ListDone c.workers xs k₂ k₃ w₂ w₃ → FinishAsks k₃ c.workers c.vertices c.source w₃ o
-      list_finish d = record { answer = record { case = run_case s; state = by_list (run_case s) xs; gone = list_gone d }; workers = workers }
+      list_finish d = record { answer = record { case = run_case s; state = by_list (run_case s) xs; gone = list_gone d }; workers = workers; room = (buffers_enough (length o) (length w) enough).0 }
 
       pub rounds_finish : ByRoundsSays c.workers c.vertices m k₂ k₃ w₂ w₃ → FinishAsks k₃ c.workers c.vertices c.source w₃ o
-      rounds_finish d = record { answer = record { case = run_case s; state = by_rounds (run_case s); gone = rounds_gone d }; workers = workers }
+      rounds_finish d = record { answer = record { case = run_case s; state = by_rounds (run_case s); gone = rounds_gone d }; workers = workers; room = (buffers_enough (length o) (length w) enough).0 }
 
       -- the cells' length alone counts in what is said of them
       as_lent : length w₃ ≡ length w → (b : Bool) (x : State) (r : Outcome) (z : List ℕ) (v : List ℤ) → RunSays 0 b (run_case s) x r o z w₃ v → RunSays 0 b (run_case s) x r o z w v

@@ -8,33 +8,30 @@ use crate::run::Run;
 use crate::show::show_lasso;
 use casefile::Case;
 use model::{Outcome, Refusal, Verdict};
+use text::write::Writer;
 
 // The answer "lasso" of a run that broke the floor at `broken`.
-fn lasso_answer(
-    output: &mut [u8],
-    work: &mut [i32],
-    broken: usize,
-    n: usize,
-    source: usize,
-) -> usize
-    requires { BrokenAsks broken n source work.old output.old }
-    ensures { LassoDone broken n source result work.old output.old output.new }
+fn lasso_answer(page: &mut Writer, work: &mut [i32], broken: usize, n: usize, source: usize)
+    requires { BrokenAsks broken n source work.old }
+    ensures same { page.new.output.ghost_name ≡ page.old.output.ghost_name }
+    ensures lasso { LassoDone broken n source work.old page.old page.new }
 {
     let shown = show_lasso(work, broken, source, n);
     let stem = shown.stem;
     let cycle = shown.cycle;
     let end = cells::CYCLE + Case::MOST_VERTICES;
-    write_lasso(output, work, stem, cells::CYCLE - stem, cycle, end - cycle)
+    write_lasso(page, work, stem, cells::CYCLE - stem, cycle, end - cycle);
 }
 
 // The answer of a run that has ended.
-fn write_answer(output: &mut [u8], work: &mut [i32], run: Run, n: usize, source: usize) -> usize
-    requires { AnswerAsks run n source work.old output.old }
-    ensures { AnswerDone run n source result work.old output.old output.new }
+fn write_answer(page: &mut Writer, work: &mut [i32], run: Run, n: usize, source: usize)
+    requires { AnswerAsks run n source work.old }
+    ensures same { page.new.output.ghost_name ≡ page.old.output.ghost_name }
+    ensures answer { AnswerDone run n source work.old page.old page.new }
 {
     match run.broken {
-        Some(broken) => lasso_answer(output, work, broken, n, source),
-        None => write_empty(output, work, n),
+        Some(broken) => lasso_answer(page, work, broken, n, source),
+        None => write_empty(page, work, n),
     }
 }
 
@@ -66,7 +63,9 @@ pub(crate) fn finish(output: &mut [u8], work: &mut [i32], run: Run, case: Case) 
             joined: run.joined,
         };
     }
-    let written = write_answer(output, work, run, case.vertices, case.source);
+    let mut page = Writer::new(output);
+    write_answer(&mut page, work, run, case.vertices, case.source);
+    let written = page.end.unwrap_or(0);
     clear(work);
     Outcome {
         refusal: 0,

@@ -2,5 +2,5 @@
 use Rattle.search.proofs.Answers.{empty_says}
 use Rattle.search.proofs.answer.write_empty.Goals as goal
 
-pub returns : goal.returns
-returns c = empty_says c.reached-k.ensures c.write_head-at.ensures c.write_bytes-at.ensures c.write_vertices.ensures
+pub returns-clause-empty : goal.returns-clause-empty
+returns-clause-empty c = empty_says c.reached-k.ensures c.write_head.ensures.head c.bytes.ensures.writes c.write_vertices.ensures.vertices

@@ -1,15 +1,15 @@
--- `write_head` meets its contract: seven writers, one after the other.
-use Rattle.text.proofs.Chains.{puts, puts_as, puts_then}
+-- `write_head` meets its contract: seven writes, one after the other.
+use Rattle.text.proofs.Chains.{puts, puts_as, puts_then, field_puts}
 use Rattle.search.proofs.Rows.{head_parts}
 use Rattle.search.proofs.answer.write_head.Goals as goal
 
-pub returns : goal.returns
-returns c =
+pub returns-clause-head : goal.returns-clause-head
+returns-clause-head c =
     puts_as (head_parts _ _ _ _)
     (puts_then
     (puts_then
     (puts_then
-    (puts_then (puts_then (puts_then (puts c.write_bytes-at.ensures) c.write_field-at.ensures) (puts c.write_bytes-at-2.ensures)) (puts c.write_byte-at.ensures))
-    c.write_field-at-2.ensures)
-    c.write_field-at-3.ensures)
-    c.write_field.ensures)
+    (puts_then (puts_then (puts_then (puts c.bytes.ensures.writes) (field_puts _ _ c.field.ensures.chain)) (puts c.bytes-2.ensures.writes)) (puts c.byte.ensures.writes))
+    (field_puts _ _ c.field-2.ensures.chain))
+    (field_puts _ _ c.field-3.ensures.chain))
+    (field_puts _ _ c.field-4.ensures.chain))

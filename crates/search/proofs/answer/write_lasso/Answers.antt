@@ -2,5 +2,5 @@
 use Rattle.search.proofs.Answers.{lasso_says}
 use Rattle.search.proofs.answer.write_lasso.Goals as goal
 
-pub returns : goal.returns
-returns c = lasso_says c.write_head-at.ensures c.write_bytes-at.ensures c.write_edges-at.ensures c.write_edges.ensures
+pub returns-clause-lasso : goal.returns-clause-lasso
+returns-clause-lasso c = lasso_says c.write_head.ensures.head c.bytes.ensures.writes c.write_edges.ensures.edges c.write_edges-2.ensures.edges

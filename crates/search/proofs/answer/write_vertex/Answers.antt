@@ -3,10 +3,10 @@ use mir.Facts.{to_z-of_z}
 use Rattle.search.proofs.Answers.{vertex_some, vertex_none}
 use Rattle.search.proofs.answer.write_vertex.Goals as goal
 
-pub returns-then-distance-le0 : goal.returns-then-distance-le0
-returns-then-distance-le0 c =
+pub returns-then-distance-le0-clause-vertex : goal.returns-then-distance-le0-clause-vertex
+returns-then-distance-le0-clause-vertex c =
     rw (to_z-of_z c.ranges.distance) at
-    (vertex_some c.if-distance-le0.true c.write_field-next.ensures c.write_signed-next.ensures c.write_byte.ensures)
+    (vertex_some c.if-distance-le0.true c.field.ensures.chain c.signed.ensures.writes c.byte.ensures.writes)
 
-pub returns : goal.returns
-returns c = vertex_none _ _ _ _ (rw (to_z-of_z c.ranges.distance) at c.if-distance-le0.false)
+pub returns-else-distance-le0-clause-vertex : goal.returns-else-distance-le0-clause-vertex
+returns-else-distance-le0-clause-vertex c = vertex_none _ _ _ (rw (to_z-of_z c.ranges.distance) at c.if-distance-le0.false)

@@ -8,12 +8,15 @@ use Rattle.search.proofs.Answers.{vertices_start, vertices_step, vertices_end}
 use Rattle.search.proofs.answer.write_vertices.Goals as goal
 
 pub loop-v-init : goal.loop-v-init
-loop-v-init c = vertices_start _ _ _ _
+loop-v-init c = vertices_start _ _ _
 
 pub loop-v-preserved : goal.loop-v-preserved
 loop-v-preserved c =
     let loaded : SFits w32 c.load.result = record { sfits = c.load.type_inv } in
-    vertices_step c.loop-v.invariant c.loop-v-test.true (to_z-of_z loaded ∙ c.load.ensures) c.write_vertex-here.ensures c.write_vertex-here.auto.output
+    vertices_step c.loop-v.invariant c.loop-v-test.true (to_z-of_z loaded ∙ c.load.ensures) c.write_vertex.ensures.same c.write_vertex.ensures.vertex
 
-pub returns : goal.returns
-returns c = vertices_end c.loop-v.invariant (omega arith)
+pub returns-clause-same : goal.returns-clause-same
+returns-clause-same c = c.loop-v.invariant.same
+
+pub returns-clause-vertices : goal.returns-clause-vertices
+returns-clause-vertices c = vertices_end c.loop-v.invariant (omega arith)

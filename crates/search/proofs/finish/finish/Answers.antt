@@ -5,6 +5,7 @@ use native.Mathlib.Omega.{arith}
 use Rattle.text.proofs.Tests.{refuted, upheld}
 use Rattle.search.proofs.Ends.{acts_small, done_written, finish_cut, finish_done}
 use Rattle.std.proofs.lemmas.Bool.{not_from_false, not_from_true}
+use Rattle.std.proofs.Common.{rules}
 use Rattle.search.proofs.finish.finish.Goals as goal
 
 pub acts_done-acts-requires : goal.acts_done-acts-requires
@@ -18,13 +19,13 @@ is_over-requires c =
 pub returns-then-not-is_over : goal.returns-then-not-is_over
 returns-then-not-is_over c = rw c.number.ensures (finish_cut c.is_over.ensures (refuted _ _ (not_from_false _ c.if-not-is_over.true) refl) c.clear.ensures c.acts_done-acts.ensures)
 
-pub write_answer-written-requires : goal.write_answer-written-requires
-write_answer-written-requires c = c.requires.answer
+pub write_answer-requires : goal.write_answer-requires
+write_answer-requires c = c.requires.answer
 
 pub overflow_cast-result : goal.overflow_cast-result
 overflow_cast-result c =
     let s = c.requires in
-    record { fits = omega (arith, done_written c.is_over.ensures s.answer.gone s.workers (upheld _ _ (not_from_true _ c.if-not-is_over.false) refl) c.write_answer-written.ensures) }
+    record { fits = omega (arith, c.unwrap_or-written.ensures, done_written c.is_over.ensures s.room c.new-page.ensures.bytes c.new-page.ensures.front (upheld _ _ (not_from_true _ c.if-not-is_over.false) refl) c.write_answer.ensures.answer s.answer.gone s.workers) }
 
 pub returns : goal.returns
-returns c = finish_done c.is_over.ensures _ (upheld _ _ (not_from_true _ c.if-not-is_over.false) refl) c.write_answer-written.ensures c.clear-2.ensures c.write_answer-written.auto.work (c.number-2.ensures ∙ ap verdict_number c.verdict.ensures) c.acts_done-acts.ensures
+returns c = rw c.unwrap_or-written.ensures (finish_done c.is_over.ensures c.requires.room c.new-page.ensures.bytes c.new-page.ensures.front (upheld _ _ (not_from_true _ c.if-not-is_over.false) refl) c.write_answer.ensures.answer _ (search rules) c.clear-2.ensures c.write_answer.auto.work (c.number-2.ensures ∙ ap verdict_number c.verdict.ensures) c.acts_done-acts.ensures)

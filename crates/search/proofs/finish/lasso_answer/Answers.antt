@@ -21,5 +21,5 @@ write_lasso-requires c =
     let s = c.requires in
     asked_written s.gone s.broke c.show_lasso-shown.ensures
 
-pub returns : goal.returns
-returns c = lasso_shown c.show_lasso-shown.ensures c.write_lasso.ensures
+pub returns-clause-lasso : goal.returns-clause-lasso
+returns-clause-lasso c = lasso_shown c.show_lasso-shown.ensures c.write_lasso.ensures.lasso
