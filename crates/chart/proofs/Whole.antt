@@ -7,14 +7,15 @@ use mathlib.Core.Logic.{◌⊎◌}
 use Rattle.std.specs.Prelude.{Option, Some, None, Result, Ok, Err}
 use Prim.Native.Nat.{ℕ, ◌+◌, ◌*◌, ◌^◌, ◌≤◌, ◌<◌}
 use native.Mathlib.Omega.{arith}
-use native.Mathlib.Nat.{pow-le-pow_right, one-le-pow}
+use native.Mathlib.Nat.{zero-add, pow-le-pow_right, one-le-pow}
 use lib.Dec.{leb, eqb, lit<}
 use lib.ListN.{length, get_or, take, drop, replicate, length-replicate, get_or-replicate, get_or-append}
-use borrow.Author.Tests.{le-leb, lt-leb, leb-true, leb-false, eq-eqb, ne_eqb, eqb-true, eqb-false}
+use borrow.Author.Tests.{le-leb, lt-leb, eq-eqb, ne_eqb, eqb-true, eqb-false}
 use Rattle.text.specs.Lines.{Line, lines, line_at, line_is, field}
 use Rattle.text.specs.Numbers.{numbers_line, number_at}
 use Rattle.text.specs.Reading.{line_here, field_here, skip}
-use Rattle.text.specs.Writing.{put, Writes}
+use Rattle.text.specs.Writing.{output_after, Writes}
+use Rattle.text.specs.declared.write.Writer.{Writer}
 use Rattle.text.proofs.Tests.{and_both, some_if, none_if}
 use Rattle.text.proofs.Writing.{put_front}
 use Rattle.text.proofs.Reading.{Row, NoRow, LineNamed}
@@ -192,13 +193,9 @@ module _ {s : List ℕ} {x : Chart} {names : ℕ} (h : Headed s x names) where
       }
 
 -- what is handed on
-handed_on : (s t : List ℕ) {r : ℕ} {t' : List ℕ} → (chart_says s).refusal ≡ 0 → Writes 0 (chart_entries (chart_in s)) r t t' → t' ≡ table_after s t
-unfolding table_after
-handed_on s t {r} {t'} z w = rw (eq-eqb (chart_says s).refusal 0 z) (go (leb (length (chart_entries (chart_in s))) (length t)) refl)
-  where
-    go : (b : Bool) → leb (length (chart_entries (chart_in s))) (length t) ≡ b → t' ≡ cond b (put 0 (chart_entries (chart_in s)) t) t
-    go true e = (w.fits (omega (arith, leb-true (length (chart_entries (chart_in s))) (length t) e))).1
-    go false e = (w.full (omega (arith, leb-false (length (chart_entries (chart_in s))) (length t) e))).1
+handed_on : (s t : List ℕ) {w v : Writer} → (chart_says s).refusal ≡ 0 → w.end ≡ Some 0 → w.output.now ≡ t → Writes (chart_entries (chart_in s)) w v → v.output.now ≡ table_after s t
+unfolding table_after output_after
+handed_on s t z e o w = w.output ∙ rw (e, o, zero-add (length (chart_entries (chart_in s))), eq-eqb (chart_says s).refusal 0 z) refl
 
 marked_by : {m m' c c' : ℕ} {rs rs' : List Rule} {t : List ℕ} → m' ≡ m → c' ≡ c → rs' ≡ rs → Marked m c rs t → Marked m' c' rs' t
 marked_by p q r k = rw (p, q, r) k
@@ -252,8 +249,8 @@ module _ {s : List ℕ} {x : Chart} {names : ℕ} (h : Headed s x names) {c : �
         ∙ table_entries (chart_in s) p marked some ((chart_in s).modes * combinations (chart_in s)) 0 (omega arith) (omega (arith, few_pairs h e, g.long, many_is))
         (ap (λ (w : Charted). w.refusal) (sym says) ∙ passes)
 
-    pub chart_passes : {r : ℕ} {t t' : List ℕ} → Writes 0 (take (x.modes * c) p) r t t' → ChartRead s (Ok x) t t'
-    chart_passes {r} {t} w = record { answer = answer; returns = unfold returned in sym (chart_passed s passes); table = handed_on s t passes (rw entries_are at w) }
+    pub chart_passes : {t z : List ℕ} {w v : Writer} → w.end ≡ Some 0 → w.output.now ≡ t → Writes (take (x.modes * c) p) w v → z ≡ v.output.now → ChartRead s (Ok x) t z
+    chart_passes {t} e o w q = record { answer = answer; returns = unfold returned in sym (chart_passed s passes); table = q ∙ handed_on s t passes e o (rw entries_are at w) }
       where
         answer : Ok x ≡ read_says s
         answer = unfold read_says in (rw (text_right, eq-eqb (chart_says s).refusal 0 passes, h.counts) refl)

@@ -13,7 +13,7 @@ use model::{Charted, Refusal};
 use names::name_block;
 use rules::rule_block;
 use text::read::{field, name_line, next_line, numbers_row, past_head};
-use text::write::write_bytes;
+use text::write::Writer;
 
 mod names;
 mod rules;
@@ -204,7 +204,7 @@ pub fn read_chart(text: &[u8], table: &mut [u8]) -> Result<Chart, NoChart>
     if let Some(said) = bad_pair(&pairs, extent) {
         return Err(NoChart::Bad(chart, said));
     }
-    write_bytes(table, 0, &pairs[..extent.modes * extent.count]);
+    Writer::new(table).bytes(&pairs[..extent.modes * extent.count]);
     Ok(chart)
 }
 

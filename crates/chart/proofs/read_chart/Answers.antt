@@ -2,6 +2,7 @@
 use mathlib.Core.Path.{sym, ◌∙◌}
 use native.Mathlib.Omega.{arith}
 use lib.Seq.{length-take-le}
+use Rattle.std.proofs.Common.{rules}
 use Rattle.chart.proofs.Whole.{headed, in_range, few_pairs, fresh, fault_read, laid_not, laid_all, pair_refused, chart_passes}
 use Rattle.chart.proofs.read_chart.Goals as goal
 
@@ -43,8 +44,8 @@ slice_bounds-pairs-end c =
     let head = headed c.read_head.ensures c.in-Some.is in
     omega (arith, few_pairs head (c.combinations.ensures.0 (in_range head).flags), c.read_rest.ensures.long)
 
-pub slice_bounds-write_bytes-end : goal.slice_bounds-write_bytes-end
-slice_bounds-write_bytes-end c =
+pub slice_bounds-bytes-end : goal.slice_bounds-bytes-end
+slice_bounds-bytes-end c =
     let head = headed c.read_head.ensures c.in-Some.is in
     sym (length-take-le _ _ (omega (arith, few_pairs head (c.combinations.ensures.0 (in_range head).flags), c.read_rest.ensures.long)))
 
@@ -52,4 +53,4 @@ pub returns : goal.returns
 returns c =
     let head = headed c.read_head.ensures c.in-Some.is in
     chart_passes head (c.combinations.ensures.0 (in_range head).flags) (laid_all c.read_rest.ensures c.if-not-read_rest.false) (sym c.bad_pair.ensures ∙ c.in_default-bad_pair.is)
-    c.write_bytes.ensures
+    c.new.ensures.front c.new.ensures.bytes c.bytes.ensures.writes (search rules)
