@@ -1,6 +1,6 @@
 -- `build_case`, way by way: each refusal in its place, and the file where none comes. Assumes nothing.
 use mathlib.Core.Path.{◌≡◌, refl, sym, ap, ◌∙◌}
-use Rattle.std.specs.Prelude.{Ok, Err}
+use Rattle.std.specs.Prelude.{Ok, Err, Some, unwrap_or}
 use mathlib.Core.Bool.{true, false, not}
 use mathlib.Core.List.{List, [], ◌∷◌}
 use Prim.Native.Nat.{ℕ, ◌≤◌, ◌<◌}
@@ -10,6 +10,7 @@ use lib.Dec.{ltb, eqb}
 use lib.ListN.{length}
 use borrow.Author.Tests.{lt-ltb, le-ltb, leb-true}
 use Rattle.text.specs.Writing.{Puts}
+use Rattle.text.specs.declared.write.Writer.{Writer}
 use Rattle.text.proofs.Tests.{and_both}
 use Rattle.text.proofs.Chains.{puts_as}
 use Rattle.text.proofs.Writing.{put_front}
@@ -40,14 +41,26 @@ use Rattle.product.specs.declared.edges.Sizes.{Sizes}
 use Rattle.product.proofs.Writing.{product_is}
 use Rattle.product.proofs.BothRead.{plain_says}
 
--- A RESULT: a text put at the front
-pub puts_says : (t : List ℕ) {n : ℕ} {o z : List ℕ} → Puts 0 t n o z → length t ≤ length o → (n ≡ length t) × (z ≡ in_front t o)
-unfolding in_front
-puts_says t {n} {o} {z} p h = let f = p.fits (omega arith) in (f.0 ∙ zero-add (length t), f.1 ∙ put_front t o)
+-- A RESULT: what a writer at the front put there, if that had room
+pub record Fronted (t : List ℕ) (n : ℕ) (o z : List ℕ) : Type 0 where
+  pub fits : length t ≤ length o → (n ≡ length t) × (z ≡ in_front t o)
 
-pub done_says : (c : Charted) (t : List ℕ) {n : ℕ} {o z : List ℕ} → Puts 0 t n o z → length t ≤ length o → BuiltSays 0 c t (built_as (Ok n)) o z
+pub fronted : {t : List ℕ} {n : ℕ} {o z : List ℕ} {w v : Writer} → w.end ≡ Some 0 → w.output.now ≡ o → Puts t w v → n ≡ unwrap_or v.end 0 → z ≡ v.output.now → Fronted t n o z
+unfolding in_front
+fronted {t} {n} {o} e q p a b =
+    record {
+      fits = λ h.
+          let f = p.fits 0 e (rw q (omega arith)) in
+          (a ∙ rw f.0 (zero-add (length t)), b ∙ f.1 ∙ rw q (put_front t o));
+    }
+
+pub fronted_none : (o : List ℕ) → Fronted [] 0 o o
+unfolding in_front
+fronted_none o = record { fits = λ h. (refl, refl) }
+
+pub done_says : (c : Charted) (t : List ℕ) {n : ℕ} {o z : List ℕ} → Fronted t n o z → length t ≤ length o → BuiltSays 0 c t (built_as (Ok n)) o z
 unfolding names_pair
-done_says c t p h = let f = puts_says t p h in record { refusal = refl; mode = refl; combination = refl; written = f.0; output = f.1 }
+done_says c t p h = let f = p.fits h in record { refusal = refl; mode = refl; combination = refl; written = f.0; output = f.1 }
 
 -- CHART AND CLAIM: 21 comes after all their other refusals
 product_last : (bs cs : List ℕ) → product_refusal bs cs ≡ first_of (texts_refusal bs cs ∷ refuse (ltb most_edges (length (graph_in bs cs).edges)) 21 ∷ [])
@@ -98,28 +111,29 @@ module _ (bs cs : List ℕ) (p : ℕ) (o : List ℕ) where
       build_refused r = rw (build_is, product_refused bs cs r.fails) (r.says _ o)
 
       module _ {z : Sizes} {follow cells : List ℕ} (h : BothHeld bs cs z follow cells) where
-        pub build_many : {k : Refusal} → EdgesFound z follow cells (Err k) → BuildSays bs cs p (built_as (Err (refused_by k))) o o
+        pub build_many : {k : Refusal} {es : List Edge} → EdgesFound z follow cells (Err k) es → BuildSays bs cs p (built_as (Err (refused_by k))) o o
         unfolding BuildSays names_pair
         build_many f =
             let q = f.edges (chart_in bs) (claim_in cs) h.held.given in
             rw (q.0, build_is, product_many bs cs h.passes q.1) (plain_says 21 refl refl _ _ o)
 
-        module _ {edges : List Edge} (f : EdgesFound z follow cells (Ok edges)) (few : length edges ≤ most_edges) {n : ℕ} {o' : List ℕ} (w : Puts 0 (case_file (case_by z p cells edges)) n o o') where
+        module _ {edges : List Edge} (f : EdgesFound z follow cells (Ok tt) edges) (few : length edges ≤ most_edges) {n : ℕ} {w v : Writer}
+            (start : w.end ≡ Some 0) (given : w.output.now ≡ o) (puts : Puts (case_file (case_by z p cells edges)) w v) (count : n ≡ unwrap_or v.end 0) where
           found : edges ≡ (graph_in bs cs).edges
           found = f.edges (chart_in bs) (claim_in cs) h.held.given
 
           passes : product_refusal bs cs ≡ 0
           passes = product_passes bs cs h.passes (rw found at few)
 
-          file : Puts 0 (case_file (built_case bs cs p)) n o o'
-          file = puts_as (ap case_file (product_is (chart_in bs) (claim_in cs) z p edges h.held h.tables.some_states found)) w
-
           short : length (case_file (built_case bs cs p)) ≤ longest_file
           short = let w = workers_range p right in case_short bs cs p passes w.0 w.1
 
-          pub build_fits : n ≤ longest_file
-          build_fits = omega (arith, (puts_says (case_file (built_case bs cs p)) file (omega (arith, short))).0, short)
+          file : {o' : List ℕ} → o' ≡ v.output.now → Fronted (case_file (built_case bs cs p)) n o o'
+          file e = fronted start given (puts_as (ap case_file (product_is (chart_in bs) (claim_in cs) z p edges h.held h.tables.some_states found)) puts) count e
 
-          pub build_done : BuildSays bs cs p (built_as (Ok n)) o o'
+          pub build_fits : n ≤ longest_file
+          build_fits = omega (arith, ((file refl).fits (omega (arith, short))).0, short)
+
+          pub build_done : {o' : List ℕ} → o' ≡ v.output.now → BuildSays bs cs p (built_as (Ok n)) o o'
           unfolding BuildSays
-          build_done = rw (build_is, passes) (done_says _ (case_file (built_case bs cs p)) file (omega (arith, short)))
+          build_done e = rw (build_is, passes) (done_says _ (case_file (built_case bs cs p)) (file e) (omega (arith, short)))

@@ -10,7 +10,8 @@ use Rattle.text.specs.Ascii.{ascii}
 use Rattle.text.specs.Lines.{put_first, fields, joined, text}
 use Rattle.text.specs.Numbers.{digits, decimal}
 use Rattle.text.specs.Writing.{Writes, Puts, Chain}
-use Rattle.text.proofs.Chains.{puts, puts_as, puts_then, Still, still_start, still_step, still_end, field_puts}
+use Rattle.text.specs.declared.write.Writer.{Writer}
+use Rattle.text.proofs.Chains.{puts, puts_as, puts_then, Still, still_step, still_end, field_puts}
 use Rattle.text.proofs.Rows.{text_append}
 use Rattle.std.proofs.lemmas.List.{length-map}
 use Rattle.model.specs.Graph.{Edge}
@@ -62,21 +63,19 @@ marks_done : (ms os : List ℕ) (v : ℕ) → length ms ≤ v → marks_left ms 
 unfolding mark_rows text
 marks_done ms os v h = rw (drop_of_length-le ms h) refl
 
-pub record VerticesLeft (at : ℕ) (ms os : List ℕ) (v here : ℕ) (o z : List ℕ) : Type 0 where
-  pub still : Still at (text (mark_rows 0 ms os)) here (marks_left ms os v) o z
+pub record VerticesLeft (ms os : List ℕ) (v : ℕ) (o z : Writer) : Type 0 where
+  pub same : z.output.ghost_name ≡ o.output.ghost_name
+  pub still : Still (text (mark_rows 0 ms os)) o (marks_left ms os v) z
 
-pub vertices_start : (at : ℕ) (ms os o : List ℕ) → VerticesLeft at ms os 0 at o o
-vertices_start at ms os o = record { still = still_start at (text (mark_rows 0 ms os)) o }
-
-pub vertices_step : {at v here a b r : ℕ} {ms os o w x y z : List ℕ} → VerticesLeft at ms os v here o w → v < length ms → length os ≡ length ms
-    → Chain (decimal v ∷ (32 ∷ []) ∷ []) here a w x → Chain (decimal (get_or ms v 0) ∷ (32 ∷ []) ∷ []) a b x y → Chain (decimal (get_or os v 0) ∷ (10 ∷ []) ∷ []) b r y z
-    → length z ≡ length w → VerticesLeft at ms os (v + 1) r o z
-vertices_step {v = v} {ms = ms} {os = os} l h e f g k n =
+pub vertices_step : {v : ℕ} {ms os : List ℕ} {o w x y z : Writer} → VerticesLeft ms os v o w → v < length ms → length os ≡ length ms
+    → Chain (decimal v ∷ (32 ∷ []) ∷ []) w x → Chain (decimal (get_or ms v 0) ∷ (32 ∷ []) ∷ []) x y → Chain (decimal (get_or os v 0) ∷ (10 ∷ []) ∷ []) y z
+    → z.output.ghost_name ≡ w.output.ghost_name → VerticesLeft ms os (v + 1) o z
+vertices_step {v} {ms} {os} l h e f g k n =
     let line = puts_as (three_fields (decimal v) (decimal (get_or ms v 0)) (decimal (get_or os v 0))) (puts_then (puts_then (field_puts v 32 f) (field_puts (get_or ms v 0) 32 g)) (field_puts (get_or os v 0) 10 k)) in
-    record { still = rw (add-one v) (still_step l.still (marks_next ms os v h (omega arith)) line n) }
+    record { same = n ∙ l.same; still = rw (add-one v) (still_step l.still (marks_next ms os v h (omega arith)) line) }
 
-pub vertices_end : {at v here : ℕ} {ms os o z : List ℕ} → VerticesLeft at ms os v here o z → length ms ≤ v → Puts at (text (mark_rows 0 ms os)) here o z
-vertices_end {v = v} {ms = ms} {os = os} l h = still_end l.still (marks_done ms os v h)
+pub vertices_end : {v : ℕ} {ms os : List ℕ} {o z : Writer} → VerticesLeft ms os v o z → length ms ≤ v → Puts (text (mark_rows 0 ms os)) o z
+vertices_end {v} {ms} {os} l h = still_end l.still (marks_done ms os v h)
 
 -- EDGE LINES: what is left from e on
 abbrev pub ends_left : (edges : List Ends) → (e : ℕ) → List ℕ
@@ -90,21 +89,19 @@ ends_done : (es : List Ends) (e : ℕ) → length es ≤ e → ends_left es e �
 unfolding end_rows text
 ends_done es e h = rw (drop_of_length-le es h) refl
 
-pub record EdgesLeft (at : ℕ) (es : List Ends) (e here : ℕ) (o z : List ℕ) : Type 0 where
-  pub still : Still at (ends_left es 0) here (ends_left es e) o z
+pub record EdgesLeft (es : List Ends) (e : ℕ) (o z : Writer) : Type 0 where
+  pub same : z.output.ghost_name ≡ o.output.ghost_name
+  pub still : Still (ends_left es 0) o (ends_left es e) z
 
-pub edges_start : (at : ℕ) (es : List Ends) (o : List ℕ) → EdgesLeft at es 0 at o o
-edges_start at es o = record { still = still_start at (ends_left es 0) o }
-
-pub edges_step : {at e here a r : ℕ} {es : List Ends} {o x y z : List ℕ} (d : Ends) → EdgesLeft at es e here o x → e < length es
-    → Chain (decimal (get_or es e d).from ∷ (32 ∷ []) ∷ []) here a x y → Chain (decimal (get_or es e d).to ∷ (10 ∷ []) ∷ []) a r y z
-    → length z ≡ length x → EdgesLeft at es (e + 1) r o z
-edges_step {e = e} {es = es} d l h f g n =
+pub edges_step : {e : ℕ} {es : List Ends} {o x y z : Writer} (d : Ends) → EdgesLeft es e o x → e < length es
+    → Chain (decimal (get_or es e d).from ∷ (32 ∷ []) ∷ []) x y → Chain (decimal (get_or es e d).to ∷ (10 ∷ []) ∷ []) y z
+    → z.output.ghost_name ≡ x.output.ghost_name → EdgesLeft es (e + 1) o z
+edges_step {e} {es} d l h f g n =
     let line = puts_as (two_fields (decimal (get_or es e d).from) (decimal (get_or es e d).to)) (puts_then (field_puts (get_or es e d).from 32 f) (field_puts (get_or es e d).to 10 g)) in
-    record { still = rw (add-one e) (still_step l.still (ends_next es e d h) line n) }
+    record { same = n ∙ l.same; still = rw (add-one e) (still_step l.still (ends_next es e d h) line) }
 
-pub edges_end : {at e here : ℕ} {es : List Ends} {o z : List ℕ} → EdgesLeft at es e here o z → length es ≤ e → Puts at (ends_left es 0) here o z
-edges_end {e = e} {es = es} l h = still_end l.still (ends_done es e h)
+pub edges_end : {e : ℕ} {es : List Ends} {o z : Writer} → EdgesLeft es e o z → length es ≤ e → Puts (ends_left es 0) o z
+edges_end {e} {es} l h = still_end l.still (ends_done es e h)
 
 -- THE WHOLE
 names_line : (rs : List (List (List ℕ))) → text (fields edge_names ∷ rs) ≡ ascii "from to\n" ++ text rs
@@ -124,9 +121,9 @@ case_parts s p ms os es =
     four (text head) (text rows) (ascii "from to\n") (text ends)
     ∙ sym (text_append head (rows ++ (fields edge_names ∷ ends)) ∙ ap (λ (l : List ℕ). text head ++ l) (text_append rows (fields edge_names ∷ ends) ∙ ap (λ (l : List ℕ). text rows ++ l) (names_line ends)))
 
-pub case_says : (s p : ℕ) (ms os : List ℕ) (es : List Ends) {a b d r : ℕ} {o w x y z : List ℕ} → Puts 0 (head_text (length ms) (length es) s p) a o w
-    → Puts a (text (mark_rows 0 ms os)) b w x → Writes b (ascii "from to\n") d x y → Puts d (text (end_rows (edges_of es))) r y z
-    → Puts 0 (case_file (tabled s p ms os (edges_of es))) r o z
+pub case_says : (s p : ℕ) (ms os : List ℕ) (es : List Ends) {o w x y z : Writer} → Puts (head_text (length ms) (length es) s p) o w
+    → Puts (text (mark_rows 0 ms os)) w x → Writes (ascii "from to\n") x y → Puts (text (end_rows (edges_of es))) y z
+    → Puts (case_file (tabled s p ms os (edges_of es))) o z
 case_says s p ms os es f g h k =
     let e : head_text (length ms) (length es) s p ≡ head_text (length ms) (length (edges_of es)) s p = ap (λ (m : ℕ). head_text (length ms) m s p) (sym (length-map es edge_of)) in
     puts_as (case_parts s p ms os (edges_of es)) (puts_then (puts_then (puts_then (puts_as e f) g) (puts h)) k)

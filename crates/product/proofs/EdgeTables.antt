@@ -208,7 +208,7 @@ module _ {z : Sizes} {v : ℕ} {follow cells : List ℕ} {now : List Edge} (d : 
   pub vertices_next : {u : Unit {0}} {after : List Edge} → VertexAdds v z follow cells now (Ok u) after → VerticesDone z (v + 1) follow cells after
   vertices_next p = record { edges = λ h k g. p.edges h k g ∙ all_but h k g }
 
-  pub vertices_many : {k : Refusal} {after : List Edge} → v < z.modes * z.states → VertexAdds v z follow cells now (Err k) after → EdgesFound z follow cells (Err k)
+  pub vertices_many : {k : Refusal} {after : List Edge} → v < z.modes * z.states → VertexAdds v z follow cells now (Err k) after → EdgesFound z follow cells (Err k) after
   unfolding graph_of
   vertices_many l p = record {
     edges = λ h k g.
@@ -218,6 +218,6 @@ module _ {z : Sizes} {v : ℕ} {follow cells : List ℕ} {now : List Edge} (d : 
         (q.0, omega (arith, rw (all_but h k g) at q.1, ap (λ (m : ℕ). length (edges_from m 0 a)) e, from_grows (a.states - (v + 1)) (v + 1) 0 a));
   }
 
-pub vertices_last : {z : Sizes} {v : ℕ} {follow cells : List ℕ} {now : List Edge} → VerticesDone z v follow cells now → z.modes * z.states ≡ v → EdgesFound z follow cells (Ok now)
+pub vertices_last : {z : Sizes} {v : ℕ} {follow cells : List ℕ} {now : List Edge} → VerticesDone z v follow cells now → z.modes * z.states ≡ v → EdgesFound z follow cells (Ok tt) now
 unfolding graph_of
 vertices_last d e = record { edges = λ h k g. d.edges h k g ∙ ap (λ (n : ℕ). edges_from n 0 (both_of h k)) (sym e ∙ states_are g) }

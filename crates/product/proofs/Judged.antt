@@ -1,29 +1,32 @@
 -- `list_steps`, way by way: each refusal in its place, the answer judged against the case built, and the listing. Assumes
 -- nothing.
 use mathlib.Core.Path.{◌≡◌, refl, sym, ap, ◌∙◌}
-use Rattle.std.specs.Prelude.{Ok, Err}
+use Rattle.std.specs.Prelude.{Ok, Err, Some, unwrap_or}
 use mathlib.Core.Bool.{Bool, true, false, cond}
-use mathlib.Core.List.{List, [], ◌∷◌}
+use mathlib.Core.List.{List, [], ◌∷◌, ◌++◌}
 use Prim.Native.Nat.{ℕ, ◌*◌, ◌≤◌, ◌<◌}
+use native.Mathlib.Nat.{zero-add}
 use native.Mathlib.Omega.{arith}
-use lib.ListN.{length, take, drop}
+use lib.ListN.{length, drop, replicate, length-append, length-replicate}
 use lib.Seq.{take-append_seam}
-use borrow.Author.Tests.{ne_eqb, lt-ltb, le-ltb, eq-eqb}
+use borrow.Author.Tests.{ne_eqb, lt-ltb, le-ltb, le-leb, eq-eqb}
 use Rattle.text.specs.Lines.{lines, line_at, text}
 use Rattle.text.specs.Reading.{skip}
-use Rattle.text.specs.Writing.{Puts}
+use Rattle.text.specs.Writing.{Puts, front, written}
+use Rattle.text.specs.declared.write.Writer.{Writer}
 use Rattle.text.proofs.Places.{skip_lines}
-use Rattle.text.proofs.Chains.{puts_as, puts_none}
+use Rattle.text.proofs.Chains.{puts_as}
+use Rattle.text.proofs.Writing.{put_front}
 use Rattle.model.specs.Graph.{Edge}
 use Rattle.model.specs.Case.{longest_file, most_edges}
 use Rattle.model.specs.CaseFile.{refuse, first_of, column}
 use Rattle.model.specs.CaseText.{case_file}
 use Rattle.model.specs.Answer.{lasso_verdict, empty_verdict}
 use Rattle.model.specs.Passing.{says_lasso, answer_refusal, check_refusal, answer_verdict}
-use Rattle.model.specs.Entry.{in_front, CheckSays}
+use Rattle.model.specs.Entry.{CheckSays}
 use Rattle.model.specs.Claim.{claim_in, ClaimSound}
 use Rattle.model.specs.Chart.{most_modes, chart_in, chart_right, ChartSound}
-use Rattle.model.specs.Product.{product, chart_automaton, claim_automaton, graph_of, graph_in, built_case, product_refusal}
+use Rattle.model.specs.Product.{product, chart_automaton, claim_automaton, graph_of, graph_in, product_refusal}
 use Rattle.model.specs.Steps.{listing, least_steps_output, steps_refusal}
 use Rattle.model.specs.BuiltEntry.{names_pair, StepsSay}
 use Rattle.model.specs.ProductPromise.{StepsCheck, StepsFit}
@@ -48,7 +51,7 @@ use Rattle.product.specs.declared.edges.Sizes.{Sizes}
 use Rattle.product.proofs.BothRead.{plain_says, unpaired}
 use Rattle.product.proofs.Listing.{edges_single, rows_listed}
 use Rattle.product.proofs.Writing.{product_is}
-use Rattle.product.proofs.Building.{puts_says, done_says, product_refused, product_many, product_passes, case_short}
+use Rattle.product.proofs.Building.{Fronted, fronted, fronted_none, done_says, product_refused, product_many, product_passes, case_short}
 
 module _ (bs cs ts o : List ℕ) where
   pub steps_small : length o < least_steps_output → StepsSay bs cs ts (built_as (Err (refused_by ShortBuffer))) o o
@@ -90,13 +93,13 @@ module _ (bs cs ts o : List ℕ) where
 
         pub empty_listed : answer_verdict ts ≡ empty_verdict → StepsSay bs cs ts (built_as (Ok 0)) o o
         unfolding StepsSay
-        empty_listed v = rw (steps_zero, steps_silent (chart_in bs) (claim_in cs) ts v) (done_says _ [] (puts_none 0 o) (omega arith))
+        empty_listed v = rw (steps_zero, steps_silent (chart_in bs) (claim_in cs) ts v) (done_says _ [] (fronted_none o) (omega arith))
 
-        pub lasso_listed : {n : ℕ} {z : List ℕ} → Puts 0 (listing bs cs ts) n o z → (n ≤ longest_file) × StepsSay bs cs ts (built_as (Ok n)) o z
+        pub lasso_listed : {n : ℕ} {z : List ℕ} → Fronted (listing bs cs ts) n o z → (n ≤ longest_file) × StepsSay bs cs ts (built_as (Ok n)) o z
         unfolding StepsSay StepsFit
         lasso_listed w =
             let f = steps_fit bs cs ts (length o) steps_zero in
-            (omega (arith, f, (puts_says (listing bs cs ts) w (omega arith)).0), rw steps_zero (done_says _ (listing bs cs ts) w (omega arith)))
+            (omega (arith, f, (w.fits (omega arith)).0), rw steps_zero (done_says _ (listing bs cs ts) w (omega arith)))
 
 source_below : (bs cs : List ℕ) → ChartSound (chart_in bs) → ClaimSound (claim_in cs) → (graph_in bs cs).source < (chart_in bs).modes * length (claim_in cs).states
 unfolding graph_of product chart_automaton claim_automaton
@@ -137,8 +140,8 @@ module _ {bs cs case : List ℕ} {z : Sizes} {cells : List ℕ} {edges : List Ed
     chart_is_right = passed_right bs (first_zero _ _ a.passes).0
 
     -- the edges stand from line 4 on
-    module _ (n : r.verdict ≡ empty_verdict → ⊥) {at : ℕ} (past : at ≡ skip 3 ts 0) {places : List ℕ} (filled : PlacesFilled bs places) (long : length places ≡ most_modes) {m : ℕ} {o' : List ℕ}
-        (w : StepsWritten (row_by bs cs places cells z.states) ts at z.source edges m o o') where
+    module _ (n : r.verdict ≡ empty_verdict → ⊥) {at : ℕ} (past : at ≡ skip 3 ts 0) {places : List ℕ} (filled : PlacesFilled bs places) (long : length places ≡ most_modes) {m : ℕ} {w v : Writer}
+        (start : w.end ≡ Some 0) (given : w.output.now ≡ o) (steps : StepsWritten (row_by bs cs places cells z.states) ts at z.source edges w v) (count : m ≡ unwrap_or v.end 0) where
       modes_fit : (chart_in bs).modes ≤ length places
       modes_fit = omega (arith, sound.chart.modes)
 
@@ -151,47 +154,49 @@ module _ {bs cs case : List ℕ} {z : Sizes} {cells : List ℕ} {edges : List Ed
       rows : text (rows_by (row_by bs cs places cells z.states) edges z.source (column 0 (lines (drop at ts)))) ≡ listing bs cs ts
       rows = rw (place, a.of_states, a.of_source, a.ends) (rows_listed bs cs chart_is_right sound.claim a.claim filled modes_fit ts right_answer lasso (source_below bs cs sound.chart sound.claim))
 
-      listed : Puts 0 (listing bs cs ts) m o o'
-      listed = puts_as rows (w.lines (rw place (edges_single bs cs chart_is_right sound.claim a.claim filled modes_fit ts right_answer lasso)))
+      listed : {o' : List ℕ} → o' ≡ v.output.now → (m ≤ longest_file) × StepsSay bs cs ts (built_as (Ok m)) o o'
+      listed e =
+          let lines = steps.lines (rw place (edges_single bs cs chart_is_right sound.claim a.claim filled modes_fit ts right_answer lasso)) in
+          lasso_listed bs cs ts o a.room a.passes right_answer (fronted start given (puts_as rows lines) count e)
 
       pub checked_fits : m ≤ longest_file
-      checked_fits = (lasso_listed bs cs ts o a.room a.passes right_answer listed).0
+      checked_fits = (listed refl).0
 
-      pub checked_lasso : StepsSay bs cs ts (built_as (Ok m)) o o'
-      checked_lasso = (lasso_listed bs cs ts o a.room a.passes right_answer listed).1
+      pub checked_lasso : {o' : List ℕ} → o' ≡ v.output.now → StepsSay bs cs ts (built_as (Ok m)) o o'
+      checked_lasso e = (listed e).1
+
+-- what a writer at the front has written is the whole text, if that had room
+whole : {t : List ℕ} {w v : Writer} → w.end ≡ Some 0 → Puts t w v → length t ≤ length w.output.now → written v ≡ t
+unfolding front
+whole {t} {w} {v} e p h =
+    let f = p.fits 0 e (omega arith) in
+    let rest = drop (length t) w.output.now in
+    rw (f.0, f.1, zero-add (length t), put_front t w.output.now, le-leb (length t) (length (t ++ rest)) (omega (arith, length-append t rest))) (take-append_seam t rest)
 
 -- THE LISTING of what was read and written
 module _ {bs cs : List ℕ} {z : Sizes} {follow cells o : List ℕ} (a : ListAsks bs cs z follow cells o) where
-  pub list_many : (ts : List ℕ) {k : Refusal} → EdgesFound z follow cells (Err k) → StepsSay bs cs ts (built_as (Err (refused_by k))) o o
+  pub list_many : (ts : List ℕ) {k : Refusal} {es : List Edge} → EdgesFound z follow cells (Err k) es → StepsSay bs cs ts (built_as (Err (refused_by k))) o o
   list_many ts f = let p = f.edges (chart_in bs) (claim_in cs) a.both.held.given in rw p.0 (steps_many bs cs ts o a.room a.both.passes p.1)
 
-  module _ {edges : List Edge} (f : EdgesFound z follow cells (Ok edges)) (few : length edges ≤ most_edges) where
+  module _ {edges : List Edge} (f : EdgesFound z follow cells (Ok tt) edges) (few : length edges ≤ most_edges) where
     found : edges ≡ (graph_in bs cs).edges
     found = f.edges (chart_in bs) (claim_in cs) a.both.held.given
 
     passes : product_refusal bs cs ≡ 0
     passes = product_passes bs cs a.both.passes (rw found at few)
 
-    module _ {n : ℕ} {w w' : List ℕ} (long : length w ≡ longest_file) (p : Puts 0 (case_file (case_by z 1 cells edges)) n w w') where
-      front : (n ≡ length (case_file (built_case bs cs 1))) × (w' ≡ in_front (case_file (built_case bs cs 1)) w)
-      front =
-          let e = ap case_file (product_is (chart_in bs) (claim_in cs) z 1 edges a.both.held a.both.tables.some_states found) in
-          puts_says (case_file (built_case bs cs 1)) (puts_as e p) (omega (arith, case_short bs cs 1 passes (omega arith) (omega arith)))
-
-      pub file_fits : n ≤ longest_file
-      file_fits = omega (arith, front.0, case_short bs cs 1 passes (omega arith) (omega arith))
-
-      pub check_asked : CheckAsks bs cs (take n w') z cells edges o
-      unfolding in_front graph_of product chart_automaton claim_automaton
-      check_asked =
-          let t = case_file (built_case bs cs 1) in
-          record {
-            passes = passes;
-            file = rw (front.1, front.0) (take-append_seam t (drop (length t) w));
-            ends = found;
-            claim = a.both.claim;
-            roomy = a.both.tables.roomy;
-            of_states = a.both.held.given.of_states;
-            of_source = a.both.held.source;
-            room = a.room;
-          }
+    pub check_asked : {case : List ℕ} {w v : Writer} → w.end ≡ Some 0 → w.output.now ≡ replicate longest_file 0 → Puts (case_file (case_by z 1 cells edges)) w v → case ≡ written v
+        → CheckAsks bs cs case z cells edges o
+    unfolding graph_of product chart_automaton claim_automaton
+    check_asked start fresh p case =
+        let e = ap case_file (product_is (chart_in bs) (claim_in cs) z 1 edges a.both.held a.both.tables.some_states found) in
+        record {
+          passes = passes;
+          file = case ∙ whole start (puts_as e p) (omega (arith, case_short bs cs 1 passes (omega arith) (omega arith), ap length fresh, length-replicate {A = ℕ} longest_file 0));
+          ends = found;
+          claim = a.both.claim;
+          roomy = a.both.tables.roomy;
+          of_states = a.both.held.given.of_states;
+          of_source = a.both.held.source;
+          room = a.room;
+        }

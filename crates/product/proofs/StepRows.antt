@@ -13,10 +13,11 @@ use Rattle.text.specs.Lines.{lines, joined, text}
 use Rattle.text.specs.Numbers.{decimal, numbers_line}
 use Rattle.text.specs.Reading.{line_here, field_here, past_line, skip}
 use Rattle.text.specs.Writing.{Writes, Puts}
+use Rattle.text.specs.declared.write.Writer.{Writer}
 use Rattle.text.proofs.Tests.{Same, same?, same, other, and_both, clash}
 use Rattle.text.proofs.Places.{skip_none, skip_last}
 use Rattle.text.proofs.Reading.{Row, NoRow, row_rest, no_lines, some_lines, lines_here}
-use Rattle.text.proofs.Chains.{puts, puts_as, puts_then, Still, still_start, still_step, still_end}
+use Rattle.text.proofs.Chains.{puts, puts_as, puts_then, Still, still_step, still_end}
 use Rattle.text.proofs.Rows.{text_append}
 use Rattle.model.specs.Graph.{Edge}
 use Rattle.model.specs.CaseFile.{column}
@@ -48,11 +49,11 @@ cut l at many s n p q =
 
 -- A LINE
 module _ (k cs : List ℕ) (s : ℕ) {a : ℕ} (p : a ≡ get_or cs (name_cell s) 0) where
-  pub state_number : {at r : ℕ} {o z : List ℕ} → a ≡ 0 → Writes at (decimal s) r o z → Puts at (state_text k cs s) r o z
+  pub state_number : {w v : Writer} → a ≡ 0 → Writes (decimal s) w v → Puts (state_text k cs s) w v
   unfolding state_text
   state_number e w = rw (eq-eqb (get_or cs (name_cell s) 0) 0 (sym p ∙ e)) (puts w)
 
-  pub state_name : {n at r : ℕ} {b o z : List ℕ} → (a ≡ 0 → ⊥) → n ≡ get_or cs (length_cell s) 0 → b ≡ take n (drop a k) → Writes at b r o z → Puts at (state_text k cs s) r o z
+  pub state_name : {n : ℕ} {b : List ℕ} {w v : Writer} → (a ≡ 0 → ⊥) → n ≡ get_or cs (length_cell s) 0 → b ≡ take n (drop a k) → Writes b w v → Puts (state_text k cs s) w v
   unfolding state_text
   state_name n q e w = rw (ne_eqb (get_or cs (name_cell s) 0) 0 (λ z. n (p ∙ z)), ← p, ← q) (puts_as e (puts w))
 
@@ -60,9 +61,9 @@ line_parts : (a b : List ℕ) → a ++ (space ∷ []) ++ b ++ (line_feed ∷ [])
 unfolding joined text
 line_parts a b = simp append_assoc
 
-pub step_puts : (n : Names) (v : ℕ) {p at a b d r : ℕ} {m o x y w z : List ℕ} → p ≡ get_or n.places.now (v / n.states) 0 → m ≡ field_here n.chart.now p
-    → Writes at m a o x → Writes a (space ∷ []) b x y → Puts b (state_text n.claim.now n.cells.now (v % n.states)) d y w → Writes d (line_feed ∷ []) r w z
-    → Puts at (text (named_row n v ∷ [])) r o z
+pub step_puts : (n : Names) (v : ℕ) {p : ℕ} {m : List ℕ} {o x y w z : Writer} → p ≡ get_or n.places.now (v / n.states) 0 → m ≡ field_here n.chart.now p
+    → Writes m o x → Writes (space ∷ []) x y → Puts (state_text n.claim.now n.cells.now (v % n.states)) y w → Writes (line_feed ∷ []) w z
+    → Puts (text (named_row n v ∷ [])) o z
 unfolding row_by
 step_puts n v {p} q e f g l c =
     rw (← q) (puts_as (line_parts (field_here n.chart.now p) (state_text n.claim.now n.cells.now (v % n.states))) (puts_then (puts_then (puts_then (puts_as e (puts f)) (puts g)) l) (puts c)))
@@ -93,18 +94,15 @@ placing_end d h = record { at = λ i l. d.done i (omega arith) }
 abbrev rows_from : (row : ℕ → List (List ℕ)) → (answer : List ℕ) (ds : List Edge) → (here v : ℕ) → List ℕ
 rows_from row s ds here v = text (rows_by row ds v (column 0 (lines (drop here s))))
 
-pub record StepsLeft (row : ℕ → List (List ℕ)) (s : List ℕ) (at v : ℕ) (ds : List Edge) (here place w : ℕ) (o z : List ℕ) : Type 0 where
-  pub kept : length z ≡ length o
-  pub left : all_single (lines (drop at s)) ≡ true → (all_single (lines (drop here s)) ≡ true) × Still 0 (rows_from row s ds at v) place (rows_from row s ds here w) o z
-
-pub steps_start : (row : ℕ → List (List ℕ)) (s : List ℕ) (at v : ℕ) (ds : List Edge) (o : List ℕ) → StepsLeft row s at v ds at 0 v o o
-steps_start row s at v ds o = record { kept = refl; left = λ h. (h, still_start 0 (rows_from row s ds at v) o) }
+pub record StepsLeft (row : ℕ → List (List ℕ)) (s : List ℕ) (at v : ℕ) (ds : List Edge) (here w : ℕ) (o z : Writer) : Type 0 where
+  pub same : z.output.ghost_name ≡ o.output.ghost_name
+  pub left : all_single (lines (drop at s)) ≡ true → (all_single (lines (drop here s)) ≡ true) × Still (rows_from row s ds at v) o (rows_from row s ds here w) z
 
 pub steps_less : {s : List ℕ} {here e next : ℕ} → here < length s → Row s here (e ∷ []) next → length (lines (drop next s)) < length (lines (drop here s))
 steps_less {s} {here} h g = omega (arith, ap length (row_rest g), length-drop 1 (lines (drop here s)), some_lines s here h)
 
-module _ {row : ℕ → List (List ℕ)} {s : List ℕ} {at v : ℕ} {ds : List Edge} {here place w : ℕ} {o z : List ℕ} (d : StepsLeft row s at v ds here place w o z) where
-  pub steps_end : length s ≤ here → StepsWritten row s at v ds place o z
+module _ {row : ℕ → List (List ℕ)} {s : List ℕ} {at v : ℕ} {ds : List Edge} {here w : ℕ} {o z : Writer} (d : StepsLeft row s at v ds here w o z) where
+  pub steps_end : length s ≤ here → StepsWritten row s at v ds o z
   unfolding text rows_by column
   steps_end h = record { lines = λ a. still_end (d.left a).1 (rw (no_lines s here h) refl) }
 
@@ -113,12 +111,12 @@ module _ {row : ℕ → List (List ℕ)} {s : List ℕ} {at v : ℕ} {ds : List 
     unfolding all_single
     right a = and_both (numbers_line 1 (line_here s here)) (all_single (drop 1 (lines (drop here s)))) (rw (lines_here s here h) at (d.left a).0)
 
-    pub steps_torn : NoRow 1 s here → StepsWritten row s at v ds place o z
+    pub steps_torn : NoRow 1 s here → StepsWritten row s at v ds o z
     steps_torn n = record { lines = λ a. clash (numbers_line 1 (line_here s here)) (right a).0 n.none }
 
-    pub steps_on : {e next r u : ℕ} {y : List ℕ} → Row s here (e ∷ []) next → Puts place (text (row w ∷ [])) r z y → length y ≡ length z → u ≡ end_of ds e w
-        → StepsLeft row s at v ds next r u o y
-    steps_on {e} {next} {r} {u} {y} g p n q = record { kept = n ∙ d.kept; left = λ a. (rw (row_rest g) (right a).1, still_step (d.left a).1 line p n) }
+    pub steps_on : {e next u : ℕ} {y : Writer} → Row s here (e ∷ []) next → Puts (text (row w ∷ [])) z y → y.output.ghost_name ≡ z.output.ghost_name → u ≡ end_of ds e w
+        → StepsLeft row s at v ds next u o y
+    steps_on {e} {next} {u} {y} g p n q = record { same = n ∙ d.same; left = λ a. (rw (row_rest g) (right a).1, still_step (d.left a).1 line p) }
       where
         walk : column 0 (lines (drop here s)) ≡ e ∷ column 0 (lines (drop next s))
         walk = unfold column in (rw (lines_here s here h, g.are 0 (omega arith), row_rest g) refl)

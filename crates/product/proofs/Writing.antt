@@ -11,6 +11,7 @@ use lib.ListN.{length, get_or, set, take, replicate, length-set, length-replicat
 use lib.Seq.{take-suc, take-suc-set, take_all, length-take-le, get_or-take, get_or-set_same, get_or-set_other, ext_get_or, take-append_seam}
 use borrow.Author.Tests.{eq-eqb, ne_eqb}
 use Rattle.text.specs.Writing.{Puts}
+use Rattle.text.specs.declared.write.Writer.{Writer}
 use Rattle.text.proofs.Tests.{Same, same?, same, other}
 use Rattle.text.proofs.Chains.{puts_as}
 use Rattle.model.specs.Case.{Case, most_vertices}
@@ -148,9 +149,9 @@ module _ (h : Chart) (k : Claim) (z : Sizes) (p : ℕ) {follow cells : List ℕ}
       same_tables (table_length rule n 0 ∙ size_is) g.source (table_same rule (state_mark (both_of h k)) n 0 (λ v l. mark_is v (omega arith)) ∙ rw size_is refl) (rw size_is refl) edges
 
 -- its tables, filled
-pub case_puts : (z : Sizes) (p : ℕ) (old rest : List ℕ) {cells marks owners : List ℕ} (es : List Edge) {r : ℕ} {o o' : List ℕ} → let n = z.modes * z.states in
+pub case_puts : (z : Sizes) (p : ℕ) (old rest : List ℕ) {cells marks owners : List ℕ} (es : List Edge) {w v : Writer} → let n = z.modes * z.states in
     n ≤ most_vertices → StartsMarked z.states cells es marks → owners ≡ table_of (remainder_by p) (length old) 0 → length old ≡ n
-    → Puts 0 (case_file (tabled z.source p (take n marks) (take n (owners ++ rest)) es)) r o o' → Puts 0 (case_file (case_by z p cells es)) r o o'
+    → Puts (case_file (tabled z.source p (take n marks) (take n (owners ++ rest)) es)) w v → Puts (case_file (case_by z p cells es)) w v
 unfolding case_by
 case_puts z p old rest {owners = owners} es l f g n w =
     let q : owners ≡ table_of (remainder_by p) (z.modes * z.states) 0 = g ∙ ap (λ (m : ℕ). table_of (remainder_by p) m 0) n in

@@ -76,9 +76,9 @@ pub record RowFilled (entries masks row : List ℕ) : Type 0 where
 pub record VertexAdds (v : ℕ) (z : Sizes) (follow cells : List ℕ) (before : List Edge) (r : Result (Unit {0}) Refusal) (after : List Edge) : Type 0 where
   pub edges : (h : Chart) (k : Claim) → Given h k z follow cells → Added (edges_to (z.modes * z.states) 0 (both_of h k) v) before r after
 
-abbrev pub AllFound : (edges : List Edge) → Result (List Edge) Refusal → Type 0
-AllFound es (Ok ds) = ds ≡ es
-AllFound es (Err k) = (k ≡ TooManyEdges) × (most_edges < length es)
+abbrev pub AllFound : (edges : List Edge) → Result (Unit {0}) Refusal → (found : List Edge) → Type 0
+AllFound es (Ok u) ds = ds ≡ es
+AllFound es (Err k) ds = (k ≡ TooManyEdges) × (most_edges < length es)
 
-pub record EdgesFound (z : Sizes) (follow cells : List ℕ) (r : Result (List Edge) Refusal) : Type 0 where
-  pub edges : (h : Chart) (k : Claim) → Given h k z follow cells → AllFound (graph_of (both_of h k)).edges r
+pub record EdgesFound (z : Sizes) (follow cells : List ℕ) (r : Result (Unit {0}) Refusal) (found : List Edge) : Type 0 where
+  pub edges : (h : Chart) (k : Claim) → Given h k z follow cells → AllFound (graph_of (both_of h k)).edges r found

@@ -6,6 +6,7 @@ use Rattle.text.specs.Lines.{Line, lines, text}
 use Rattle.text.specs.Numbers.{decimal, numbers_line}
 use Rattle.text.specs.Reading.{field_here, Part}
 use Rattle.text.specs.Writing.{Puts}
+use Rattle.text.specs.declared.write.Writer.{Writer}
 use Rattle.model.specs.Graph.{Edge}
 use Rattle.model.specs.CaseFile.{column}
 use Rattle.claim.specs.Cells.{name_cell, length_cell}
@@ -54,5 +55,5 @@ all_single [] = true
 all_single (l ∷ ls) = numbers_line 1 l && all_single ls
 
 -- the lines of all edges that stand in an answer from a place on, if nothing else stands there
-pub record StepsWritten (row : ℕ → List (List ℕ)) (answer : List ℕ) (at v : ℕ) (edges : List Edge) (r : ℕ) (o z : List ℕ) : Type 0 where
-  pub lines : all_single (lines (drop at answer)) ≡ true → Puts 0 (text (rows_by row edges v (column 0 (lines (drop at answer))))) r o z
+pub record StepsWritten (row : ℕ → List (List ℕ)) (answer : List ℕ) (at v : ℕ) (edges : List Edge) (w z : Writer) : Type 0 where
+  pub lines : all_single (lines (drop at answer)) ≡ true → Puts (text (rows_by row edges v (column 0 (lines (drop at answer))))) w z

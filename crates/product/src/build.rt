@@ -12,6 +12,7 @@ use crate::case::write_case;
 use crate::edges::Product;
 use crate::table::{Edges, Ends};
 use casefile::{Case, put};
+use text::write::Writer;
 
 // The mark of its claim state for each vertex that an edge leaves. "Accepting 0 for a product vertex with no edge": the others
 // keep the 0 that they have.
@@ -37,9 +38,10 @@ fn fill_owners(workers: usize, owners: &mut [u32])
 
 impl Product<'_> {
     // The case file of the product, which has these edges.
-    pub(crate) fn write(&self, output: &mut [u8], workers: usize, edges: &Edges) -> usize
+    pub(crate) fn write(&self, page: &mut Writer, workers: usize, edges: &Edges)
         requires { (1 ≤ workers) × (workers ≤ most_workers) }
-        ensures file { Puts 0 (case_file (case_by self.now.sizes workers self.now.cells.now edges.now)) result output.old output.new }
+        ensures same { page.new.output.ghost_name ≡ page.old.output.ghost_name }
+        ensures file { Puts (case_file (case_by self.now.sizes workers self.now.cells.now edges.now)) page.old page.new }
         ensures few { length edges.now ≤ most_edges }
     {
         let mut marks = [0u32; Case::MOST_VERTICES];
@@ -49,12 +51,12 @@ impl Product<'_> {
         mark_starts(edges, self.sizes.states, self.cells, &mut marks);
         fill_owners(workers, &mut owners[..vertices]);
         write_case(
-            output,
+            page,
             self.sizes.source as u32,
             workers as u32,
             &marks[..vertices],
             &owners[..vertices],
             edges,
-        )
+        );
     }
 }

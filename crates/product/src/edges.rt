@@ -1,6 +1,6 @@
 // The product's edges, in the order of a case file. For each vertex a row of masks is filled, one for each mode, and its edges
 // are read off. Contracts cite specs/Edges.antt.
-ghost use Rattle.std.specs.Prelude.{◌+◌, ◌*◌, ◌^◌, ◌≤◌, ◌<◌, length};
+ghost use Rattle.std.specs.Prelude.{◌≡◌, [], ◌+◌, ◌*◌, ◌^◌, ◌≤◌, ◌<◌, length};
 ghost use Rattle.model.specs.ClaimGrammar.{most_states};
 ghost use Rattle.model.specs.Chart.{most_modes};
 ghost use Rattle.product.specs.Edges.{Asks, MaskAdds, RowAdds, RowAsks, RowFilled, VertexAdds, EdgesFound};
@@ -92,14 +92,15 @@ impl Product<'_> {
         add_row(&row[..modes], v as u32, states as u32, edges)
     }
 
-    // All edges, if a case file may have so many.
-    pub(crate) fn edges(&self) -> Result<Edges, Refusal>
-        ensures { EdgesFound self.now.sizes self.now.follow.now self.now.cells.now result }
+    // All edges, if a case file may have so many, into a table of the caller's: a table in the result would be moved, and take
+    // more of the stack than the header says.
+    pub(crate) fn find_edges(&self, edges: &mut Edges) -> Result<(), Refusal>
+        requires { edges.old ≡ [] }
+        ensures { EdgesFound self.now.sizes self.now.follow.now self.now.cells.now result edges.new }
     {
-        let mut edges = Edges::new();
         for v in 0..self.sizes.modes * self.sizes.states {
-            self.add_vertex(v, &mut edges)?;
+            self.add_vertex(v, edges)?;
         }
-        Ok(edges)
+        Ok(())
     }
 }

@@ -19,6 +19,7 @@ use refused::{Refused, built};
 use steps::Names;
 use table::Edges;
 use text::read::past_head;
+use text::write::Writer;
 
 mod both;
 mod build;
@@ -55,8 +56,11 @@ fn try_build(chart: &[u8], claim: &[u8], workers: u32, output: &mut [u8]) -> Res
         follow: &follow,
         cells: &cells,
     };
-    let edges = product.edges()?;
-    Ok(product.write(output, workers as usize, &edges) as u32)
+    let mut edges = Edges::new();
+    product.find_edges(&mut edges)?;
+    let mut page = Writer::new(output);
+    product.write(&mut page, workers as usize, &edges);
+    Ok(page.end.unwrap_or(0) as u32)
 }
 
 // The case file of the product of a chart and a claim, at the output's front.
@@ -66,8 +70,8 @@ pub fn build_case(chart: &[u8], claim: &[u8], workers: u32, output: &mut [u8]) -
     built(try_build(chart, claim, workers, output))
 }
 
-// The listing of an answer to the case file built, at the output's front: what the checker says of it, and a passing lasso's
-// steps. Its edges stand from line 4 to its end.
+// The listing of an answer to the case file built, at the output's front: what the checker says of it, in the C interface's
+// numbers, and a passing lasso's steps. Its edges stand from line 4 to its end.
 fn list_checked(
     chart: &[u8],
     claim: &[u8],
@@ -101,7 +105,9 @@ fn list_checked(
         states: product.sizes.states,
     };
     let steps = past_head(answer);
-    Ok(names.write_steps(output, answer, steps, product.sizes.source, edges) as u32)
+    let mut page = Writer::new(output);
+    names.write_steps(&mut page, answer, steps, product.sizes.source, edges);
+    Ok(page.end.unwrap_or(0) as u32)
 }
 
 // The listing for a chart and a claim that are read. The workers of the case file built change nothing.
@@ -115,10 +121,13 @@ fn list_read(
     requires { ListAsks chart.now claim.now product.now.sizes product.now.follow.now product.now.cells.now output.old }
     ensures { StepsSay chart.now claim.now answer.now (built_as result) output.old output.new }
 {
-    let edges = product.edges()?;
-    let mut case = [0u8; Case::LONGEST_FILE];
-    let n = product.write(&mut case, 1, &edges);
-    list_checked(chart, claim, answer, &case[..n], product, &edges, output)
+    let mut edges = Edges::new();
+    product.find_edges(&mut edges)?;
+    let mut file = [0u8; Case::LONGEST_FILE];
+    let mut page = Writer::new(&mut file);
+    product.write(&mut page, 1, &edges);
+    let case = page.written();
+    list_checked(chart, claim, answer, case, product, &edges, output)
 }
 
 // The listing at the output's front: its length.

@@ -2,5 +2,5 @@
 use Rattle.product.proofs.CaseLines.{case_says}
 use Rattle.product.proofs.case.write_case.Goals as goal
 
-pub returns : goal.returns
-returns c = case_says _ _ _ _ _ c.write_head-at.ensures c.write_vertices-at.ensures c.write_bytes-at.ensures c.write_edges.ensures
+pub returns-clause-file : goal.returns-clause-file
+returns-clause-file c = case_says _ _ _ _ _ c.write_head.ensures.head c.write_vertices.ensures.lines c.bytes.ensures.writes c.write_edges.ensures.lines

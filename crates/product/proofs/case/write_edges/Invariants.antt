@@ -3,4 +3,4 @@ use Rattle.product.proofs.CaseLines.{EdgesLeft}
 use Rattle.product.proofs.case.write_edges.Given as goal
 
 abbrev pub invariant-loop-edge : goal.invariant-loop-edge
-invariant-loop-edge l = EdgesLeft l.at l.edges l.edge-index l.here l.initial.output l.output
+invariant-loop-edge l = EdgesLeft l.edges l.edge-index l.initial.page l.page

@@ -3,4 +3,4 @@ use Rattle.product.proofs.CaseLines.{VerticesLeft}
 use Rattle.product.proofs.case.write_vertices.Given as goal
 
 abbrev pub invariant-loop-v : goal.invariant-loop-v
-invariant-loop-v l = VerticesLeft l.at l.marks l.owners l.v l.here l.initial.output l.output
+invariant-loop-v l = VerticesLeft l.marks l.owners l.v l.initial.page l.page

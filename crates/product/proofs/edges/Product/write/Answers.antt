@@ -8,4 +8,4 @@ use Rattle.product.proofs.edges.Product.write.Goals as goal
 pub returns-clause-file : goal.returns-clause-file
 returns-clause-file c =
     let few = few_vertices c.args.self.now.asks in
-    rw (← c.as_slice-edges.ensures.ends) (case_puts _ _ _ _ _ (omega arith) c.mark_starts.ensures c.fill_owners.ensures (length-take-le _ _ (omega arith)) c.write_case.ensures)
+    rw (← c.as_slice-edges.ensures.ends) (case_puts _ _ _ _ _ (omega arith) c.mark_starts.ensures c.fill_owners.ensures (length-take-le _ _ (omega arith)) c.write_case.ensures.file)

@@ -6,7 +6,7 @@ use Rattle.product.proofs.StepRows.{StepsLeft}
 use Rattle.product.proofs.steps.Names.write_steps.Given as goal
 
 abbrev pub invariant-loop-here : goal.invariant-loop-here
-invariant-loop-here l = StepsLeft (named_row l.self) l.answer l.at l.v l.edges l.here l.place l.w l.initial.output l.output
+invariant-loop-here l = StepsLeft (named_row l.self) l.answer l.at l.v l.edges l.here l.w l.initial.page l.page
 
 abbrev pub decreases-loop-here : goal.decreases-loop-here
 decreases-loop-here l = length (lines (drop l.here l.answer))

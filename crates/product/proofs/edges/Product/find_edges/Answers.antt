@@ -1,11 +1,11 @@
--- `edges` meets its contract: at each turn the edges that leave the vertices below v are found.
+-- `find_edges` meets its contract: at each turn the edges that leave the vertices below v are found.
 use native.Mathlib.Omega.{arith}
 use Rattle.std.proofs.lemmas.Result.{err_from_is_err_and}
 use Rattle.product.proofs.EdgeTables.{vertices_first, vertices_next, vertices_last, vertices_many}
-use Rattle.product.proofs.edges.Product.edges.Goals as goal
+use Rattle.product.proofs.edges.Product.find_edges.Goals as goal
 
 pub loop-v-init : goal.loop-v-init
-loop-v-init c = rw c.new-edges.ensures (vertices_first _ _ _)
+loop-v-init c = rw c.requires (vertices_first _ _ _)
 
 pub returns-in_err-add_vertex : goal.returns-in_err-add_vertex
 returns-in_err-add_vertex c =
