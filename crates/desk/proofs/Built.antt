@@ -33,7 +33,7 @@ module _ {k : ℕ} {pair : Charted} {t : List ℕ} {b : Built} {o : List ℕ} {w
       let n : k ≡ 0 = sym s.refusal ∙ e in
       let out : v.output.now ≡ t ++ drop (length t) o = (f.built e).1 ∙ (rw n at s.output) in
       let long : v.end ≡ Some (length t) = (f.built e).0 ∙ ap Some (rw n at s.written) in
-      rw n (front_shows t (drop (length t) o) v long out)
+      rw n (front_shows t (drop (length t) o) long out)
 
   refusal_shows : (b.refusal ≡ 0 → ⊥) → written v ≡ cond (eqb k 0) t (refused_lines k pair.mode pair.combination)
   refusal_shows n =

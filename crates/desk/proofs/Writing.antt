@@ -25,13 +25,13 @@ front_at : (e : Option ℕ) (n : ℕ) (z : List ℕ) → e ≡ Some n → n ≤ 
 unfolding front
 front_at e n z p h = rw (p, le-leb n (length z) h) refl
 
-pub front_shows : (bs rest : List ℕ) (v : Writer) → v.end ≡ Some (length bs) → v.output.now ≡ bs ++ rest → written v ≡ bs
-front_shows bs rest v e o = front_at v.end (length bs) v.output.now e (omega (arith, ap length o, length-append bs rest)) ∙ rw o (take-append_seam bs rest)
+pub front_shows : (bs rest : List ℕ) {e : Option ℕ} {z : List ℕ} → e ≡ Some (length bs) → z ≡ bs ++ rest → front e z ≡ bs
+front_shows bs rest {e} {z} p q = front_at e (length bs) z p (omega (arith, ap length q, length-append bs rest)) ∙ rw q (take-append_seam bs rest)
 
 pub puts_shows : {bs : List ℕ} {w v : Writer} → Puts bs w v → w.end ≡ Some 0 → length bs ≤ length w.output.now → written v ≡ bs
 puts_shows {bs} {w} {v} p e h =
     let f = p.fits 0 e (omega arith) in
-    front_shows bs (drop (length bs) w.output.now) v (f.0 ∙ ap Some (zero-add (length bs))) (f.1 ∙ put_front bs w.output.now)
+    front_shows bs (drop (length bs) w.output.now) (f.0 ∙ ap Some (zero-add (length bs))) (f.1 ∙ put_front bs w.output.now)
 
 -- A NUMBER BETWEEN WORDS, as it is written
 pub between_puts : (a : List ℕ) (v : ℕ) (b : List ℕ) {w u : Writer} → Chain (a ∷ decimal v ∷ b ∷ []) w u → Puts (a ++ decimal v ++ b) w u
