@@ -2,7 +2,7 @@
 // `refused` and the number, and the chart's first bad pair where there is one.
 #![tactic(auto)]
 
-ghost use Rattle.std.specs.Prelude.{◌≡◌, ◌≤◌, length};
+ghost use Rattle.std.specs.Prelude.{◌≡◌, ◌≤◌, length, Some};
 ghost use Rattle.casebuild.specs.Printing.{page_room, printed};
 
 use desk::{ENOUGH, ErrorOutput};
@@ -10,6 +10,7 @@ use model::Built;
 use product::{build_case, workers_right};
 use std::io;
 use std::rt::{Env, Files};
+use text::write::Writer;
 
 // The least that a case file is built in, and more than the lines of a refusal.
 const PAGE: usize = Built::LEAST_CASE_OUTPUT;
@@ -21,18 +22,19 @@ const CLAIM: usize = 2;
 
 const WORKERS: usize = 3;
 
-// What is to be printed of a chart and a claim, at the page's front.
-fn show<'a>(chart: &[u8], claim: &[u8], workers: u32, page: &'a mut [u8]) -> &'a [u8]
-    requires { page_room ≤ length page.old }
+// What is to be printed of a chart and a claim, as the page's first bytes.
+fn show<'a>(chart: &[u8], claim: &[u8], workers: u32, page: &'a mut Writer) -> &'a [u8]
+    requires { (page.old.end ≡ Some 0) × (page_room ≤ length page.old.output.now) }
     ensures { result.now ≡ printed chart.now claim.now workers }
 {
-    let built = build_case(chart, claim, workers, page);
-    let n = desk::finish_page(page, built);
-    &page[..n]
+    let built = build_case(chart, claim, workers, page.output);
+    desk::finish_page(page, built);
+    page.written()
 }
 
 fn print_built<R: Print + ErrorOutput>(rt: &R, chart: &[u8], claim: &[u8], workers: u32) {
-    let mut page = [0u8; PAGE];
+    let mut output = [0u8; PAGE];
+    let mut page = Writer::new(&mut output);
     desk::print(rt, show(chart, claim, workers, &mut page));
 }
 

@@ -1,6 +1,6 @@
 -- From what the chart's reader says to what is printed. Assumes nothing.
 use mathlib.Core.Path.{◌≡◌, refl, sym, ap, ◌∙◌}
-use Rattle.std.specs.Prelude.{Result}
+use Rattle.std.specs.Prelude.{Result, Some}
 use mathlib.Core.Bool.{Bool, true, false, cond}
 use mathlib.Core.List.{List, [], ◌∷◌, ◌++◌}
 use mathlib.Core.Logic.{◌⊎◌, inl, inr}
@@ -10,11 +10,12 @@ use lib.Dec.{eqb}
 use lib.ListN.{length, length-append}
 use borrow.Author.Tests.{eq-eqb, ne_eqb, lt-ltb, le-ltb}
 use Rattle.text.specs.Ascii.{ascii}
-use Rattle.text.specs.Writing.{Writes, Puts, Chain}
+use Rattle.text.specs.declared.write.Writer.{Writer}
+use Rattle.text.specs.Writing.{Writes, Puts, Chain, written}
 use Rattle.text.proofs.Chains.{puts, puts_as}
 use Rattle.model.specs.Chart.{most_flags, longest_name, mode_name, chart_in, chart_says}
 use Rattle.model.specs.declared.Charted.{Charted}
-use Rattle.desk.specs.Lines.{refused_lines, all_parts, Shows}
+use Rattle.desk.specs.Lines.{refused_lines, all_parts}
 use Rattle.desk.proofs.Writing.{puts_shows, all_puts, all_short}
 use Rattle.text.specs.Reading.{field_here}
 use Rattle.chart.specs.Reading.{name_place, returned, ChartRead}
@@ -24,12 +25,12 @@ use Rattle.chart.proofs.Whole.{read_returns, BadRead, bad_mode, bad_flags, name_
 use Rattle.chartcheck.specs.Printing.{charted_lines, printed, bit_digit, bits, fault_words, pair_words, told, page_room}
 
 -- STANDARD OUTPUT, as it is written
-module _ (c : Charted) {r : ℕ} {o z : List ℕ} where
-  pub writes_pass : c.refusal ≡ 0 → Writes 0 (ascii "pass\n") r o z → Puts 0 (charted_lines c) r o z
+module _ (c : Charted) {v u : Writer} where
+  pub writes_pass : c.refusal ≡ 0 → Writes (ascii "pass\n") v u → Puts (charted_lines c) v u
   unfolding charted_lines
   writes_pass e w = puts_as (sym (rw (eq-eqb c.refusal 0 e) refl)) (puts w)
 
-  pub writes_refused : (c.refusal ≡ 0 → ⊥) → Chain (all_parts c.refusal c.mode c.combination) 0 r o z → Puts 0 (charted_lines c) r o z
+  pub writes_refused : (c.refusal ≡ 0 → ⊥) → Chain (all_parts c.refusal c.mode c.combination) v u → Puts (charted_lines c) v u
   unfolding charted_lines
   writes_refused n w = puts_as (sym (rw (ne_eqb c.refusal 0 n) refl)) (all_puts c.refusal c.mode c.combination w)
 
@@ -41,9 +42,9 @@ charted_short c = go (eqb c.refusal 0)
     go true = omega arith
     go false = omega (arith, all_short c.refusal c.mode c.combination)
 
-pub charted_shows : (bs : List ℕ) {c : Charted} {r : ℕ} {o z : List ℕ} → c ≡ chart_says bs → Puts 0 (charted_lines c) r o z → page_room ≤ length o → Shows (printed bs) r z
+pub charted_shows : (bs : List ℕ) {c : Charted} {w v : Writer} → c ≡ chart_says bs → Puts (charted_lines c) w v → w.end ≡ Some 0 → page_room ≤ length w.output.now → written v ≡ printed bs
 unfolding printed
-charted_shows bs {c} e p h = rw (← e) (puts_shows p (omega (arith, charted_short c)))
+charted_shows bs {c} e p begins h = rw (← e) (puts_shows p begins (omega (arith, charted_short c)))
 
 -- STANDARD ERROR, as it is written: bits one after the other
 pub bits_more : (i f : ℕ) {d : ℕ} → 0 < i → d ≡ bit_digit f (i - 1) → bits i f ≡ (d ∷ []) ++ bits (i - 1) f
@@ -62,12 +63,12 @@ bits_long zero f = refl
 bits_long (suc i) f = ap suc (bits_long i f)
 
 -- the words of the fault
-module _ (k : ℕ) {at r : ℕ} {o z : List ℕ} where
-  pub writes_gap : k ≡ 18 → Writes at (ascii ": no rule\n") r o z → Puts at (fault_words k) r o z
+module _ (k : ℕ) {v u : Writer} where
+  pub writes_gap : k ≡ 18 → Writes (ascii ": no rule\n") v u → Puts (fault_words k) v u
   unfolding fault_words
   writes_gap e w = puts_as (sym (rw (eq-eqb k 18 e) refl)) (puts w)
 
-  pub writes_overlap : (k ≡ 18 → ⊥) → Writes at (ascii ": more than one rule\n") r o z → Puts at (fault_words k) r o z
+  pub writes_overlap : (k ≡ 18 → ⊥) → Writes (ascii ": more than one rule\n") v u → Puts (fault_words k) v u
   unfolding fault_words
   writes_overlap n w = puts_as (sym (rw (ne_eqb k 18 n) refl)) (puts w)
 
@@ -96,12 +97,12 @@ module _ {bs : List ℕ} {h : Chart} {c : Charted} (g : BadRead bs h c) where
       go (inl e) = omega arith
       go (inr e) = omega arith
 
-  pub tells_pair : {w : List ℕ} {r : ℕ} {o z : List ℕ} → w ≡ field_here bs (name_place bs c.mode) → Puts 0 (pair_words w h.flags c) r o z → page_room ≤ length o → Shows (told bs) r z
+  pub tells_pair : {w : List ℕ} {v u : Writer} → w ≡ field_here bs (name_place bs c.mode) → Puts (pair_words w h.flags c) v u → v.end ≡ Some 0 → page_room ≤ length v.output.now → written u ≡ told bs
   unfolding told pair_words mode_name
-  tells_pair {w} q p room =
+  tells_pair {w} q p begins room =
       let n : w ≡ mode_name (chart_in bs) c.mode = q ∙ name_part bs g.right c.mode (bad_mode g) in
       let short : length w ≤ longest_name = rw n (name_short bs g.right c.mode (bad_mode g)) in
-      rw (g.said, lt-ltb 17 c.refusal above, (bad_flags g).0, ← n) (puts_shows p (omega (arith, pair_short w h.flags c short (bad_flags g).1)))
+      rw (g.said, lt-ltb 17 c.refusal above, (bad_flags g).0, ← n) (puts_shows p begins (omega (arith, pair_short w h.flags c short (bad_flags g).1)))
 
 pub tells_nothing : {bs t t' : List ℕ} {r x : Result Chart NoChart} → ChartRead bs r t t' → r ≡ x → (returned x).refusal ≤ 17 → told bs ≡ []
 unfolding told

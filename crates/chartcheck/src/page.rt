@@ -6,16 +6,18 @@ ghost use Rattle.chartcheck.specs.Printing.{charted_lines, bit_digit, bits, faul
 
 use desk::write_refused;
 use model::Charted;
-use text::write::{write_byte, write_bytes};
+use text::write::Writer;
 
 // `pass`; or the refusal, a number as in the C interface's `Charted`, and the pair where there is one.
-pub(crate) fn write_charted(page: &mut [u8], said: Charted) -> usize
-    ensures { Puts 0 (charted_lines said) result page.old page.new }
+pub(crate) fn write_charted(page: &mut Writer, said: Charted)
+    ensures same { page.new.output.ghost_name ≡ page.old.output.ghost_name }
+    ensures puts { Puts (charted_lines said) page.old page.new }
 {
     if said.refusal == 0 {
-        return write_bytes(page, 0, b"pass\n");
+        page.bytes(b"pass\n");
+        return;
     }
-    write_refused(page, said)
+    write_refused(page, said);
 }
 
 // Flag i as a digit.
@@ -31,34 +33,35 @@ fn bit_digit(flags: u32, i: usize) -> u8
 }
 
 // So many flags, flag 0 last.
-fn write_bits(page: &mut [u8], at: usize, many: usize, flags: u32) -> usize
+fn write_bits(page: &mut Writer, many: usize, flags: u32)
     requires { many ≤ most_flags }
-    ensures { Puts at (bits many flags) result page.old page.new }
+    ensures same { page.new.output.ghost_name ≡ page.old.output.ghost_name }
+    ensures puts { Puts (bits many flags) page.old page.new }
 {
-    let mut place = at;
     for i in (0..many).rev() {
-        place = write_byte(page, place, bit_digit(flags, i));
+        page.byte(bit_digit(flags, i));
     }
-    place
 }
 
-fn write_fault(page: &mut [u8], at: usize, refusal: u32) -> usize
-    ensures { Puts at (fault_words refusal) result page.old page.new }
+fn write_fault(page: &mut Writer, refusal: u32)
+    ensures same { page.new.output.ghost_name ≡ page.old.output.ghost_name }
+    ensures puts { Puts (fault_words refusal) page.old page.new }
 {
     match refusal {
-        Charted::GAP => write_bytes(page, at, b": no rule\n"),
-        _ => write_bytes(page, at, b": more than one rule\n"),
+        Charted::GAP => page.bytes(b": no rule\n"),
+        _ => page.bytes(b": more than one rule\n"),
     }
 }
 
 // The bad pair: its mode by name, its flags bit by bit.
-pub(crate) fn write_pair(page: &mut [u8], name: &[u8], flags: usize, said: Charted) -> usize
+pub(crate) fn write_pair(page: &mut Writer, name: &[u8], flags: usize, said: Charted)
     requires { flags ≤ most_flags }
-    ensures { Puts 0 (pair_words name.now flags said) result page.old page.new }
+    ensures same { page.new.output.ghost_name ≡ page.old.output.ghost_name }
+    ensures puts { Puts (pair_words name.now flags said) page.old page.new }
 {
-    let a = write_bytes(page, 0, b"mode ");
-    let b = write_bytes(page, a, name);
-    let c = write_bytes(page, b, b", flags ");
-    let d = write_bits(page, c, flags, said.combination);
-    write_fault(page, d, said.refusal)
+    page.bytes(b"mode ");
+    page.bytes(name);
+    page.bytes(b", flags ");
+    write_bits(page, flags, said.combination);
+    write_fault(page, said.refusal);
 }

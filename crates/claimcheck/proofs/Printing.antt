@@ -11,7 +11,8 @@ use lib.Seq.{take-suc, take_all, length-take-le}
 use Rattle.text.specs.Ascii.{ascii, space, line_feed}
 use Rattle.text.specs.Lines.{joined, text}
 use Rattle.text.specs.Numbers.{decimal}
-use Rattle.text.specs.Writing.{Writes, Puts, Chain}
+use Rattle.text.specs.declared.write.Writer.{Writer}
+use Rattle.text.specs.Writing.{Writes, Puts, Chain, written}
 use Rattle.text.proofs.Chains.{puts, puts_none, puts_then, puts_as}
 use Rattle.text.proofs.Decimals.{decimal_most}
 use Rattle.text.proofs.Rows.{text_append}
@@ -24,14 +25,14 @@ use Rattle.model.proofs.ClaimWhole.{claims_right}
 use Rattle.claim.specs.Cells.{name_cell, length_cell, claim_cells}
 use Rattle.claim.specs.Judging.{counts_of, ClaimRead}
 use Rattle.claim.specs.declared.Counts.{Counts}
-use Rattle.std.specs.Prelude.{Result, Ok, Err}
+use Rattle.std.specs.Prelude.{Result, Ok, Err, Some}
 use Rattle.model.specs.Refusals.{number}
 use Rattle.model.specs.declared.refusal.Refusal.{Refusal}
 use Rattle.model.specs.ClaimTable.{claim_told, refused}
 use Rattle.model.proofs.ClaimDefinite.{refused_some}
 use Rattle.claim.proofs.EntryCode.{SomeClaim, judged_by}
 use borrow.Author.Tests.{ne_eqb}
-use Rattle.desk.specs.Lines.{refused_line, refused_parts, Shows}
+use Rattle.desk.specs.Lines.{refused_line, refused_parts}
 use Rattle.desk.proofs.Writing.{puts_shows, refused_puts, refused_short}
 use Rattle.claimcheck.specs.Printing.{name_fields, state_row, state_rows, count_names, state_names, count_row, claim_lines, printed, name_end, head_lines, ClaimThere, page_room}
 
@@ -51,15 +52,14 @@ module _ (s cells : List ℕ) (c : ℕ) (h : ClaimThere s cells) (low : c < most
   there : (l : ℕ) → l ≡ get_or cells (length_cell c) 0 → NameAt s (state (claim_in s) c).name a l
   there l e = rw (found, e) (h.held.names c low)
 
-  pub writes_unnamed : a ≡ 0 → {at r : ℕ} {o z : List ℕ} → Writes at (line_feed ∷ []) r o z → Puts at (name_end (state (claim_in s) c).name) r o z
+  pub writes_unnamed : a ≡ 0 → {v u : Writer} → Writes (line_feed ∷ []) v u → Puts (name_end (state (claim_in s) c).name) v u
   writes_unnamed e w = puts_as (unnamed s (state (claim_in s) c).name a _ (there (get_or cells (length_cell c) 0) refl) e) (puts w)
 
   module _ (off : a ≡ 0 → ⊥) (l : ℕ) (long : l ≡ get_or cells (length_cell c) 0) where
     pub name_inside : a + l ≤ length s
     name_inside = (named s (state (claim_in s) c).name a l (there l long) off).0
 
-    pub writes_named : {at p q r : ℕ} {o x y z : List ℕ} → Writes at (space ∷ []) p o x → Writes p (take (a + l - a) (drop a s)) q x y → Writes q (line_feed ∷ []) r y z
-        → Puts at (name_end (state (claim_in s) c).name) r o z
+    pub writes_named : {t x y z : Writer} → Writes (space ∷ []) t x → Writes (take (a + l - a) (drop a s)) x y → Writes (line_feed ∷ []) y z → Puts (name_end (state (claim_in s) c).name) t z
     writes_named u v w =
         let e : a + l - a ≡ l = omega arith in
         puts_as (named s (state (claim_in s) c).name a l (there l long) off).1 (puts_then (puts_then (puts u) (puts (rw e at v))) (puts w))
@@ -97,7 +97,7 @@ pub claim_parts : (k : Claim) → head_lines (length k.states) k.start k.proposi
 unfolding claim_lines head_lines
 claim_parts k = sym (text_append (count_names ∷ count_row (length k.states) k.start k.propositions ∷ state_names ∷ []) (state_rows 0 k.states))
 
-pub marked : (s cells : List ℕ) (c : ℕ) → ClaimThere s cells → c < most_states → {at r : ℕ} {o z : List ℕ} → Writes at (decimal (get_or cells c 0)) r o z → Puts at (decimal (mark_of (state (claim_in s) c).accepting)) r o z
+pub marked : (s cells : List ℕ) (c : ℕ) → ClaimThere s cells → c < most_states → {v u : Writer} → Writes (decimal (get_or cells c 0)) v u → Puts (decimal (mark_of (state (claim_in s) c).accepting)) v u
 marked s cells c h low w = puts_as (ap decimal (h.held.marks c low)) (puts w)
 
 -- the counts
@@ -132,19 +132,19 @@ lines_more k c h =
     ∙ text_append (state_rows 0 f) (state_row c s ∷ []))
 
 -- the first c states are written
-pub record Listed (k : Claim) (at c place : ℕ) (o z : List ℕ) : Type 0 where
+pub record Listed (k : Claim) (c : ℕ) (w v : Writer) : Type 0 where
   pub within : c ≤ length k.states
-  pub kept : length z ≡ length o
-  pub puts_so : Puts at (text (state_rows 0 (take c k.states))) place o z
+  pub same : v.output.ghost_name ≡ w.output.ghost_name
+  pub puts_so : Puts (text (state_rows 0 (take c k.states))) w v
 
-pub listed_start : (k : Claim) (at : ℕ) (o : List ℕ) → Listed k at 0 at o o
+pub listed_start : (k : Claim) (w : Writer) → Listed k 0 w w
 unfolding text state_rows
-listed_start k at o = record { within = omega arith; kept = refl; puts_so = puts_none at o }
+listed_start k w = record { within = omega arith; same = refl; puts_so = puts_none w }
 
-pub listed_step : {k : Claim} {at c p q : ℕ} {o y z : List ℕ} → Listed k at c p o y → c < length k.states → length z ≡ length y → Puts p (text (state_row c (state k c) ∷ [])) q y z → Listed k at (c + 1) q o z
-listed_step {k} {c = c} l h e p = record { within = omega arith; kept = e ∙ l.kept; puts_so = puts_as (lines_more k c h) (puts_then l.puts_so p) }
+pub listed_step : {k : Claim} {c : ℕ} {w v u : Writer} → Listed k c w v → c < length k.states → u.output.ghost_name ≡ v.output.ghost_name → Puts (text (state_row c (state k c) ∷ [])) v u → Listed k (c + 1) w u
+listed_step {k} {c = c} l h e p = record { within = omega arith; same = e ∙ l.same; puts_so = puts_as (lines_more k c h) (puts_then l.puts_so p) }
 
-pub listed_end : {k : Claim} {at c p : ℕ} {o z : List ℕ} → Listed k at c p o z → length k.states ≤ c → Puts at (text (state_rows 0 k.states)) p o z
+pub listed_end : {k : Claim} {c : ℕ} {w v : Writer} → Listed k c w v → length k.states ≤ c → Puts (text (state_rows 0 k.states)) w v
 listed_end {k} {c = c} l h = puts_as (ap (λ (s : List ClaimState). text (state_rows 0 s)) (take_all c k.states h)) l.puts_so
 
 -- SHORT
@@ -238,10 +238,10 @@ unfolding printed
 print_taken bs e = rw e refl
 
 module _ (bs : List ℕ) {r : Result Counts Refusal} {cells cells_now : List ℕ} (h : ClaimRead bs r cells cells_now) where
-  pub refused_shows : (j : Refusal) → r ≡ Err j → (k : ℕ) → k ≡ number j → {n : ℕ} {o z : List ℕ} → page_room ≤ length o → Chain (refused_parts k) 0 n o z → Shows (printed bs) n z
-  refused_shows j e k q room c =
+  pub refused_shows : (j : Refusal) → r ≡ Err j → (k : ℕ) → k ≡ number j → {w v : Writer} → w.end ≡ Some 0 → page_room ≤ length w.output.now → Chain (refused_parts k) w v → written v ≡ printed bs
+  refused_shows j e k q begins room c =
       let u = judged_by bs r (Err j) h.answer e in
-      rw (print_refused bs k (u.told ∙ ap refused (sym q)) (q ∙ u.by_number)) (puts_shows (refused_puts k c) (omega (arith, refused_short k)))
+      rw (print_refused bs k (u.told ∙ ap refused (sym q)) (q ∙ u.by_number)) (puts_shows (refused_puts k c) begins (omega (arith, refused_short k)))
 
   module _ (n : Counts) (e : r ≡ Ok n) where
     taken : SomeClaim bs n
@@ -250,5 +250,5 @@ module _ (bs : List ℕ) {r : Result Counts Refusal} {cells cells_now : List ℕ
     pub claim_there : claim_cells ≤ length cells → length cells_now ≡ length cells → ClaimThere bs cells_now
     claim_there room kept = record { taken = taken.by_number; roomy = omega arith; held = h.held room }
 
-    pub accepted_shows : {m : ℕ} {o z : List ℕ} → page_room ≤ length o → Puts 0 (claim_lines (claim_in bs)) m o z → Shows (printed bs) m z
-    accepted_shows room p = rw (print_taken bs taken.by_number) (puts_shows p (omega (arith, claim_short (claim_in bs) (sound bs taken.by_number))))
+    pub accepted_shows : {w v : Writer} → w.end ≡ Some 0 → page_room ≤ length w.output.now → Puts (claim_lines (claim_in bs)) w v → written v ≡ printed bs
+    accepted_shows begins room p = rw (print_taken bs taken.by_number) (puts_shows p begins (omega (arith, claim_short (claim_in bs) (sound bs taken.by_number))))

@@ -6,29 +6,35 @@ use Prim.Native.Nat.{ℕ, ◌+◌, ◌≤◌}
 use native.Mathlib.Nat.{zero-add}
 use native.Mathlib.Omega.{arith}
 use lib.ListN.{length, take, drop, length-append}
-use lib.Seq.{take-append_seam, length-take-le}
+use lib.Seq.{take-append_seam}
+use borrow.Author.Tests.{le-leb}
+use Rattle.std.specs.Prelude.{Option, Some}
 use Rattle.text.specs.Ascii.{ascii}
 use Rattle.text.specs.Lines.{text, joined}
 use Rattle.text.specs.Numbers.{decimal}
-use Rattle.text.specs.Writing.{put, Puts, Chain}
-use Rattle.text.proofs.Writing.{put_front, length_put}
+use Rattle.text.specs.declared.write.Writer.{Writer}
+use Rattle.text.specs.Writing.{Puts, Chain, front, written}
+use Rattle.text.proofs.Writing.{put_front}
 use Rattle.text.proofs.Chains.{puts_as, chain_puts, chain_then}
 use Rattle.text.proofs.Decimals.{decimal_most}
 use Rattle.model.specs.BuiltEntry.{names_pair}
-use Rattle.desk.specs.Lines.{count_line, refused_line, pair_lines, refused_lines, count_parts, refused_parts, pair_parts, all_parts, Shows}
+use Rattle.desk.specs.Lines.{count_line, refused_line, pair_lines, refused_lines, count_parts, refused_parts, pair_parts, all_parts}
 
 -- A WHOLE TEXT at the front
-pub puts_shows : {bs : List ℕ} {r : ℕ} {o z : List ℕ} → Puts 0 bs r o z → length bs ≤ length o → Shows bs r z
-puts_shows {bs} {r} {o} {z} p h = record { within = omega (arith, f.0, ap length f.1, length_put 0 bs o (omega arith)); bytes = rw (f.0, f.1, zero-add, put_front bs o) (take-append_seam bs (drop (length bs) o)) }
-  where
-    f : (r ≡ 0 + length bs) × (z ≡ put 0 bs o)
-    f = p.fits (omega arith)
+front_at : (e : Option ℕ) (n : ℕ) (z : List ℕ) → e ≡ Some n → n ≤ length z → front e z ≡ take n z
+unfolding front
+front_at e n z p h = rw (p, le-leb n (length z) h) refl
 
-pub shown_size : {bs : List ℕ} {r : ℕ} {z : List ℕ} → Shows bs r z → r ≡ length (take r z)
-shown_size s = sym (length-take-le _ _ s.within)
+pub front_shows : (bs rest : List ℕ) {e : Option ℕ} {z : List ℕ} → e ≡ Some (length bs) → z ≡ bs ++ rest → front e z ≡ bs
+front_shows bs rest {e} {z} p q = front_at e (length bs) z p (omega (arith, ap length q, length-append bs rest)) ∙ rw q (take-append_seam bs rest)
+
+pub puts_shows : {bs : List ℕ} {w v : Writer} → Puts bs w v → w.end ≡ Some 0 → length bs ≤ length w.output.now → written v ≡ bs
+puts_shows {bs} {w} {v} p e h =
+    let f = p.fits 0 e (omega arith) in
+    front_shows bs (drop (length bs) w.output.now) (f.0 ∙ ap Some (zero-add (length bs))) (f.1 ∙ put_front bs w.output.now)
 
 -- A NUMBER BETWEEN WORDS, as it is written
-pub between_puts : (a : List ℕ) (v : ℕ) (b : List ℕ) {at r : ℕ} {o z : List ℕ} → Chain (a ∷ decimal v ∷ b ∷ []) at r o z → Puts at (a ++ decimal v ++ b) r o z
+pub between_puts : (a : List ℕ) (v : ℕ) (b : List ℕ) {w u : Writer} → Chain (a ∷ decimal v ∷ b ∷ []) w u → Puts (a ++ decimal v ++ b) w u
 unfolding flatten
 between_puts a v b c = puts_as (ap (λ (x : List ℕ). a ++ (decimal v ++ x)) (append-nil b) ∙ sym (append_assoc a (decimal v) b)) (chain_puts c)
 
@@ -37,7 +43,7 @@ refused_flat : (k : ℕ) → flatten (refused_parts k) ≡ refused_line k
 unfolding refused_line count_line text joined flatten
 refused_flat k = refl
 
-pub refused_puts : (k : ℕ) {r : ℕ} {o z : List ℕ} → Chain (refused_parts k) 0 r o z → Puts 0 (refused_line k) r o z
+pub refused_puts : (k : ℕ) {w v : Writer} → Chain (refused_parts k) w v → Puts (refused_line k) w v
 refused_puts k c = puts_as (refused_flat k) (chain_puts c)
 
 pub refused_short : (k : ℕ) → length (refused_line k) ≤ 19
@@ -45,11 +51,11 @@ unfolding flatten
 refused_short k = omega (arith, ap length (sym (refused_flat k)), length-append (ascii "refused ") (decimal k ++ (10 ∷ [])), length-append (decimal k) (10 ∷ []), decimal_most k)
 
 -- WITH ITS PAIR, as it is written
-module _ (k q f : ℕ) {r : ℕ} {o : List ℕ} where
-  pub chain_alone : {z : List ℕ} → names_pair k ≡ false → Chain (refused_parts k) 0 r o z → Chain (all_parts k q f) 0 r o z
+module _ (k q f : ℕ) {w v : Writer} where
+  pub chain_alone : names_pair k ≡ false → Chain (refused_parts k) w v → Chain (all_parts k q f) w v
   chain_alone e c = rw e c
 
-  pub chain_pair : {s t : ℕ} {x y z : List ℕ} → names_pair k ≡ true → Chain (refused_parts k) 0 r o x → Chain (count_parts (ascii "mode ") q) r s x y → Chain (count_parts (ascii "flags ") f) s t y z → Chain (all_parts k q f) 0 t o z
+  pub chain_pair : {x y : Writer} → names_pair k ≡ true → Chain (refused_parts k) w x → Chain (count_parts (ascii "mode ") q) x y → Chain (count_parts (ascii "flags ") f) y v → Chain (all_parts k q f) w v
   chain_pair e c d b = rw e (chain_then c (chain_then d b))
 
 flat_append : (ps qs : List (List ℕ)) → flatten (ps ++ qs) ≡ flatten ps ++ flatten qs
@@ -69,7 +75,7 @@ all_flat k q f = flat_append (refused_parts k) (cond (names_pair k) (pair_parts 
     go true = pair_flat q f
     go false = unfold flatten in refl
 
-pub all_puts : (k q f : ℕ) {r : ℕ} {o z : List ℕ} → Chain (all_parts k q f) 0 r o z → Puts 0 (refused_lines k q f) r o z
+pub all_puts : (k q f : ℕ) {w v : Writer} → Chain (all_parts k q f) w v → Puts (refused_lines k q f) w v
 all_puts k q f c = puts_as (all_flat k q f) (chain_puts c)
 
 count_short : (s : List ℕ) (n : ℕ) → length (count_line s n) ≤ length s + 12

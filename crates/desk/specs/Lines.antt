@@ -1,9 +1,10 @@
 -- The lines that the desk programs print. Assumes nothing: these are definitions.
-use Rattle.std.specs.Prelude.{◌≡◌, cond, List, [], ◌∷◌, ◌++◌, ℕ, ◌≤◌, length, take}
+use Rattle.std.specs.Prelude.{◌≡◌, cond, List, [], ◌∷◌, ◌++◌, ℕ, Some}
 use Rattle.text.specs.Ascii.{ascii, line_feed}
 use Rattle.text.specs.Lines.{text}
 use Rattle.text.specs.Numbers.{decimal}
 use Rattle.text.specs.Writing.{Chain}
+use Rattle.text.specs.declared.write.Writer.{Writer}
 use Rattle.model.specs.BuiltEntry.{names_pair}
 use Rattle.model.specs.declared.Built.{Built}
 
@@ -35,12 +36,7 @@ pair_parts q f = count_parts (ascii "mode ") q ++ count_parts (ascii "flags ") f
 abbrev pub all_parts : (refusal mode flags : ℕ) → List (List ℕ)
 all_parts k q f = refused_parts k ++ cond (names_pair k) (pair_parts q f) []
 
--- a whole text at a buffer's front, r bytes long
-pub record Shows (bs : List ℕ) (r : ℕ) (z : List ℕ) : Type 0 where
-  pub within : r ≤ length z
-  pub bytes : take r z ≡ bs
-
--- a page after building: as it is and as long as was said, or the lines of the refusal written over it
-pub record Finishes (b : Built) (r : ℕ) (y z : List ℕ) : Type 0 where
-  pub built : b.refusal ≡ 0 → (r ≡ b.written) × (z ≡ y)
-  pub refused : (b.refusal ≡ 0 → ⊥) → Chain (all_parts b.refusal b.mode b.combination) 0 r y z
+-- a page after building: its end is as was said, or the lines of the refusal are written
+pub record Finishes (b : Built) (w v : Writer) : Type 0 where
+  pub built : b.refusal ≡ 0 → (v.end ≡ Some b.written) × (v.output.now ≡ w.output.now)
+  pub refused : (b.refusal ≡ 0 → ⊥) → Chain (all_parts b.refusal b.mode b.combination) w v

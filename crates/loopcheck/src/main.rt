@@ -2,7 +2,7 @@
 // number.
 #![tactic(auto)]
 
-ghost use Rattle.std.specs.Prelude.{◌≡◌, ◌≤◌, length};
+ghost use Rattle.std.specs.Prelude.{◌≡◌, ◌≤◌, length, Some};
 ghost use Rattle.text.specs.Writing.{Puts};
 ghost use Rattle.loopcheck.specs.Printing.{checked_line, printed};
 
@@ -11,7 +11,7 @@ use desk::{ENOUGH, ErrorOutput};
 use model::{Checked, Outcome};
 use std::io;
 use std::rt::{Env, Files};
-use text::write::write_bytes;
+use text::write::Writer;
 
 // More than the longest line.
 const LINE: usize = 32;
@@ -21,26 +21,29 @@ const CASE: usize = 1;
 
 const ANSWER: usize = 2;
 
-// The line of a check at the buffer's front; its length. Refusal and verdict are numbers, as in the C interface's `Checked`.
-fn write_checked(line: &mut [u8], checked: Checked) -> usize
-    ensures { Puts 0 (checked_line checked.refusal checked.verdict) result line.old line.new }
+// The line of a check. Refusal and verdict are numbers, as in the C interface's `Checked`.
+fn write_checked(line: &mut Writer, checked: Checked)
+    ensures same { line.new.output.ghost_name ≡ line.old.output.ghost_name }
+    ensures puts { Puts (checked_line checked.refusal checked.verdict) line.old line.new }
 {
     if checked.refusal != 0 {
-        return desk::write_refusal(line, checked.refusal);
+        desk::write_refusal(line, checked.refusal);
+        return;
     }
     if checked.verdict == Outcome::LASSO {
-        return write_bytes(line, 0, b"pass lasso\n");
+        line.bytes(b"pass lasso\n");
+        return;
     }
-    write_bytes(line, 0, b"pass empty\n")
+    line.bytes(b"pass empty\n");
 }
 
-// What is to be printed of a case and an answer, at the buffer's front.
-fn check<'a>(case: &[u8], answer: &[u8], line: &'a mut [u8]) -> &'a [u8]
-    requires { 32 ≤ length line.old }
+// What is to be printed of a case and an answer, as the line's first bytes.
+fn check<'a>(case: &[u8], answer: &[u8], line: &'a mut Writer) -> &'a [u8]
+    requires { (line.old.end ≡ Some 0) × (32 ≤ length line.old.output.now) }
     ensures { result.now ≡ printed case.now answer.now }
 {
-    let n = write_checked(line, check_answer(case, answer));
-    &line[..n]
+    write_checked(line, check_answer(case, answer));
+    line.written()
 }
 
 // Each file is read once the one before has been.
@@ -49,7 +52,8 @@ fn check_files<R: Env + Files + Print + ErrorOutput>(rt: &R) -> io::Result<()> {
     let case = desk::read_argument(rt, CASE, &mut case)?;
     let mut answer = [0u8; ENOUGH];
     let answer = desk::read_argument(rt, ANSWER, &mut answer)?;
-    let mut line = [0u8; LINE];
+    let mut output = [0u8; LINE];
+    let mut line = Writer::new(&mut output);
     desk::print(rt, check(case, answer, &mut line));
     Ok(())
 }

@@ -1,31 +1,34 @@
 // Reads a case from standard input, runs it by rounds and prints its answer; on a refusal, `refused` and the number.
 #![tactic(auto)]
 
-ghost use Rattle.std.specs.Prelude.{◌≡◌, ◌≤◌, length};
+ghost use Rattle.std.specs.Prelude.{◌≡◌, ◌≤◌, length, Some};
 ghost use Rattle.model.specs.Case.{least_output, least_work};
 ghost use Rattle.loopfind.specs.Printing.{printed};
 
 use casefile::Case;
 use desk::{ENOUGH, ErrorOutput};
 use search::run_rounds;
+use text::write::Writer;
 
-// What is to be printed of a case, at the output's front. The refusal is a number, as in the C interface's `Outcome`.
-fn find<'a>(case: &[u8], output: &'a mut [u8], work: &mut [i32]) -> &'a [u8]
-    requires { (least_output ≤ length output.old) × (least_work ≤ length work.old) }
+// What is to be printed of a case, as the page's first bytes. The refusal is a number, as in the C interface's `Outcome`.
+fn find<'a>(case: &[u8], page: &'a mut Writer, work: &mut [i32]) -> &'a [u8]
+    requires { (page.old.end ≡ Some 0) × (least_output ≤ length page.old.output.now) × (least_work ≤ length work.old) }
     ensures { result.now ≡ printed case.now }
 {
-    let outcome = run_rounds(case, output, work);
+    let outcome = run_rounds(case, page.output, work);
     if outcome.refusal == 0 {
-        return &output[..outcome.written as usize];
+        page.end = Some(outcome.written as usize);
+        return page.written();
     }
-    let n = desk::write_refusal(output, outcome.refusal);
-    &output[..n]
+    desk::write_refusal(page, outcome.refusal);
+    page.written()
 }
 
 fn print_found<R: Print + ErrorOutput>(rt: &R, case: &[u8]) {
     let mut output = [0u8; Case::LEAST_OUTPUT];
     let mut work = [0i32; Case::LEAST_WORK];
-    desk::print(rt, find(case, &mut output, &mut work));
+    let mut page = Writer::new(&mut output);
+    desk::print(rt, find(case, &mut page, &mut work));
 }
 
 fn main(rt: HostRuntime) {

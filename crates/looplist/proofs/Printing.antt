@@ -12,7 +12,9 @@ use borrow.Author.Tests.{ne_eqb}
 use Rattle.text.specs.Ascii.{ascii}
 use Rattle.text.specs.Lines.{text, joined}
 use Rattle.text.specs.Numbers.{decimal}
-use Rattle.text.specs.Writing.{Writes, Puts}
+use Rattle.std.specs.Prelude.{Some}
+use Rattle.text.specs.declared.write.Writer.{Writer}
+use Rattle.text.specs.Writing.{Writes, Puts, Chain, written}
 use Rattle.text.proofs.Chains.{puts, puts_then, puts_as}
 use Rattle.text.proofs.Decimals.{decimal_most}
 use Rattle.model.specs.Case.{Case, least_output, least_work}
@@ -22,18 +24,17 @@ use Rattle.model.specs.Answer.{lasso_word, empty_word, answer}
 use Rattle.model.specs.Entry.{acts_refusal, list_refusal, in_front, tallies_of, RunSays, ListSays}
 use Rattle.model.specs.declared.Outcome.{Outcome}
 use Rattle.model.proofs.ActRules.{count_few}
-use Rattle.desk.specs.Lines.{Shows}
 use Rattle.desk.proofs.Buffers.{long_buffers}
 use Rattle.desk.specs.Lines.{count_line}
-use Rattle.desk.proofs.Writing.{puts_shows}
+use Rattle.desk.proofs.Writing.{puts_shows, between_puts}
 use Rattle.looplist.specs.Printing.{verdict_word, verdict_line, tally_lines, head, head_room, page, printed}
 
--- A NUMBER BETWEEN WORDS is no longer than the words and the longest number, and ends where there is room for them
+-- A NUMBER BETWEEN WORDS is no longer than the words and the longest number, and shows where there is room for them
 between_short : (a : List ℕ) (v : ℕ) (b : List ℕ) → length (a ++ decimal v ++ b) ≤ length a + 10 + length b
 between_short a v b = omega (arith, length-append (a ++ decimal v) b, length-append a (decimal v), decimal_most v)
 
-pub between_within : (a : List ℕ) (v : ℕ) (b : List ℕ) {r : ℕ} {o z : List ℕ} → Puts 0 (a ++ decimal v ++ b) r o z → length a + 10 + length b ≤ length o → r ≤ length z
-between_within a v b p h = (puts_shows p (omega (arith, between_short a v b))).within
+pub between_shows : (a : List ℕ) (v : ℕ) (b : List ℕ) {w u : Writer} → Chain (a ∷ decimal v ∷ b ∷ []) w u → w.end ≡ Some 0 → length a + 10 + length b ≤ length w.output.now → written u ≡ a ++ decimal v ++ b
+between_shows a v b c e h = puts_shows (between_puts a v b c) e (omega (arith, between_short a v b))
 
 -- THE LINE OF THE VERDICT
 lasso_line : (v : ℕ) → v ≡ 1 → ascii "verdict lasso" ++ (10 ∷ []) ≡ verdict_line v
@@ -48,15 +49,15 @@ none_line : (v : ℕ) → (v ≡ 1 → ⊥) → (v ≡ 2 → ⊥) → ascii "ver
 unfolding verdict_line verdict_word text joined
 none_line v n m = sym (rw (ne_eqb v 1 n, ne_eqb v 2 m) refl)
 
-module _ (v : ℕ) {at r : ℕ} {o z : List ℕ} where
-  pub writes_lasso : v ≡ 1 → Writes at (ascii "verdict lasso" ++ (10 ∷ [])) r o z → Puts at (verdict_line v) r o z
-  writes_lasso e w = puts_as (lasso_line v e) (puts w)
+module _ (v : ℕ) {w u : Writer} where
+  pub writes_lasso : v ≡ 1 → Writes (ascii "verdict lasso" ++ (10 ∷ [])) w u → Puts (verdict_line v) w u
+  writes_lasso e p = puts_as (lasso_line v e) (puts p)
 
-  pub writes_empty : v ≡ 2 → Writes at (ascii "verdict empty" ++ (10 ∷ [])) r o z → Puts at (verdict_line v) r o z
-  writes_empty e w = puts_as (empty_line v e) (puts w)
+  pub writes_empty : v ≡ 2 → Writes (ascii "verdict empty" ++ (10 ∷ [])) w u → Puts (verdict_line v) w u
+  writes_empty e p = puts_as (empty_line v e) (puts p)
 
-  pub writes_none : (v ≡ 1 → ⊥) → (v ≡ 2 → ⊥) → Writes at (ascii "verdict none" ++ (10 ∷ [])) r o z → Puts at (verdict_line v) r o z
-  writes_none n m w = puts_as (none_line v n m) (puts w)
+  pub writes_none : (v ≡ 1 → ⊥) → (v ≡ 2 → ⊥) → Writes (ascii "verdict none" ++ (10 ∷ [])) w u → Puts (verdict_line v) w u
+  writes_none n m p = puts_as (none_line v n m) (puts p)
 
 verdict_short : (v : ℕ) → length (verdict_line v) ≤ 14
 unfolding verdict_line verdict_word text joined
@@ -141,8 +142,8 @@ list_leaves bs xs {r} o {z} w v a b s =
     (rw (long_buffers (length o) (length w) a b, first_skip (case_refusal bs ∷ acts_refusal (case_in bs) xs ∷ [])) at s)
 
 -- THE PAGE: the head and then the answer
-pub page_shows : {most : ℕ} {all : List ℕ} {r : Outcome} {z : List ℕ} {at n : ℕ} {p q y : List ℕ} → Leaves most all r z → head_room + length z ≤ length p
-    → Puts 0 (head r.refusal r.verdict r.acts (tallies_of r)) at p q → Writes at (take r.written z) n q y → Shows all n y
-page_shows {most} {all} {r} {z} l room h w =
-    rw (← l.whole) (puts_shows (puts_then h (puts w))
+pub page_shows : {most : ℕ} {all : List ℕ} {r : Outcome} {z : List ℕ} {w v u : Writer} → Leaves most all r z → w.end ≡ Some 0 → head_room + length z ≤ length w.output.now
+    → Puts (head r.refusal r.verdict r.acts (tallies_of r)) w v → Writes (take r.written z) v u → written u ≡ all
+page_shows {most} {all} {r} {z} l begins room h p =
+    rw (← l.whole) (puts_shows (puts_then h (puts p)) begins
     (omega (arith, length-append (head r.refusal r.verdict r.acts (tallies_of r)) (take r.written z), head_short r.refusal r.verdict r.acts (tallies_of r), length-take-le r.written z l.within, l.within)))

@@ -6,7 +6,7 @@ mod acts;
 mod complaint;
 mod page;
 
-ghost use Rattle.std.specs.Prelude.{◌≡◌, ◌+◌, ◌≤◌, ◌<◌, ◌^◌, length};
+ghost use Rattle.std.specs.Prelude.{◌≡◌, ◌+◌, ◌≤◌, ◌<◌, ◌^◌, length, Some};
 ghost use Rattle.model.specs.Case.{least_output, least_work};
 ghost use Rattle.looplist.specs.Printing.{head_room, printed};
 
@@ -17,7 +17,7 @@ use desk::{ENOUGH, ErrorOutput};
 use page::write_head;
 use search::run_list;
 use std::rt::{Env, Files};
-use text::write::write_bytes;
+use text::write::Writer;
 
 // The most acts of a list: with its text, which has at most 10 bytes a line, what 8 MB of stack hold.
 pub(crate) const MOST_ACTS: usize = 400000;
@@ -34,22 +34,21 @@ const CASE: usize = 1;
 
 pub(crate) const ACTS: usize = 2;
 
-// What is to be printed of a case and a list, at the page's front.
+// What is to be printed of a case and a list, as the page's first bytes.
 fn replay<'a>(
     case: &[u8],
     acts: &[u32],
     output: &mut [u8],
     work: &mut [i32],
-    page: &'a mut [u8],
+    page: &'a mut Writer,
 ) -> &'a [u8]
-    requires { (least_output ≤ length output.old) × (least_work ≤ length work.old) × (head_room + length output.old ≤ length page.old) × (length acts.now < 2 ^ 32) }
+    requires { (least_output ≤ length output.old) × (least_work ≤ length work.old) × (page.old.end ≡ Some 0) × (head_room + length output.old ≤ length page.old.output.now) × (length acts.now < 2 ^ 32) }
     ensures { result.now ≡ printed case.now acts.now }
 {
     let outcome = run_list(case, acts, output, work);
-    let at = write_head(page, outcome);
-    let size = outcome.written as usize;
-    let n = write_bytes(page, at, &output[..size]);
-    &page[..n]
+    write_head(page, outcome);
+    page.bytes(&output[..outcome.written as usize]);
+    page.written()
 }
 
 fn print_replay<R: Print + ErrorOutput>(rt: &R, case: &[u8], acts: &[u32])
@@ -58,6 +57,7 @@ fn print_replay<R: Print + ErrorOutput>(rt: &R, case: &[u8], acts: &[u32])
     let mut output = [0u8; Case::LEAST_OUTPUT];
     let mut work = [0i32; Case::LEAST_WORK];
     let mut page = [0u8; PAGE];
+    let mut page = Writer::new(&mut page);
     desk::print(rt, replay(case, acts, &mut output, &mut work, &mut page));
 }
 

@@ -3,7 +3,7 @@
 // pair where there is one.
 #![tactic(auto)]
 
-ghost use Rattle.std.specs.Prelude.{◌≡◌, ◌≤◌, length};
+ghost use Rattle.std.specs.Prelude.{◌≡◌, ◌≤◌, length, Some};
 ghost use Rattle.loopsteps.specs.Printing.{page_room, printed};
 
 use desk::{ENOUGH, ErrorOutput};
@@ -11,6 +11,7 @@ use model::Built;
 use product::list_steps;
 use std::io;
 use std::rt::{Env, Files};
+use text::write::Writer;
 
 // The least that steps are listed in, and more than the lines of a refusal.
 const PAGE: usize = Built::LEAST_STEPS_OUTPUT;
@@ -22,14 +23,14 @@ const CLAIM: usize = 2;
 
 const ANSWER: usize = 3;
 
-// What is to be printed of a chart, a claim and an answer, at the page's front.
-fn show<'a, 'p>(chart: &'a [u8], claim: &'a [u8], answer: &[u8], page: &'p mut [u8]) -> &'p [u8]
-    requires { page_room ≤ length page.old }
+// What is to be printed of a chart, a claim and an answer, as the page's first bytes.
+fn show<'a, 'p>(chart: &'a [u8], claim: &'a [u8], answer: &[u8], page: &'p mut Writer) -> &'p [u8]
+    requires { (page.old.end ≡ Some 0) × (page_room ≤ length page.old.output.now) }
     ensures { result.now ≡ printed chart.now claim.now answer.now }
 {
-    let listed = list_steps(chart, claim, answer, page);
-    let n = desk::finish_page(page, listed);
-    &page[..n]
+    let listed = list_steps(chart, claim, answer, page.output);
+    desk::finish_page(page, listed);
+    page.written()
 }
 
 // Each file is read once the one before has been.
@@ -40,7 +41,8 @@ fn list_files<R: Env + Files + Print + ErrorOutput>(rt: &R) -> io::Result<()> {
     let claim = desk::read_argument(rt, CLAIM, &mut claim)?;
     let mut answer = [0u8; ENOUGH];
     let answer = desk::read_argument(rt, ANSWER, &mut answer)?;
-    let mut page = [0u8; PAGE];
+    let mut output = [0u8; PAGE];
+    let mut page = Writer::new(&mut output);
     desk::print(rt, show(chart, claim, answer, &mut page));
     Ok(())
 }

@@ -1,10 +1,7 @@
 -- `show`: the lines of what the check returns.
-use Rattle.desk.proofs.Writing.{shown_size}
+use mathlib.Core.Path.{◌∙◌}
 use Rattle.chartcheck.proofs.Printing.{charted_shows}
 use Rattle.chartcheck.proofs.show.Goals as goal
 
-pub slice_bounds-result-end : goal.slice_bounds-result-end
-slice_bounds-result-end c = shown_size (charted_shows _ c.check_chart.ensures c.write_charted-n.ensures c.requires)
-
 pub returns : goal.returns
-returns c = (charted_shows _ c.check_chart.ensures c.write_charted-n.ensures c.requires).bytes
+returns c = c.written.ensures ∙ charted_shows _ c.check_chart.ensures c.write_charted.ensures.puts c.requires.0 c.requires.1

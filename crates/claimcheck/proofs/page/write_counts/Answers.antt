@@ -3,5 +3,5 @@ use Rattle.text.proofs.Chains.{puts_then, puts_as, field_puts}
 use Rattle.claimcheck.proofs.Printing.{count_parts}
 use Rattle.claimcheck.proofs.page.write_counts.Goals as goal
 
-pub returns : goal.returns
-returns c = puts_as (count_parts _ _ _) (puts_then (puts_then (field_puts _ _ c.write_field-a.ensures) (field_puts _ _ c.write_field-b.ensures)) (field_puts _ _ c.write_field.ensures))
+pub returns-clause-puts : goal.returns-clause-puts
+returns-clause-puts c = puts_as (count_parts _ _ _) (puts_then (puts_then (field_puts _ _ c.field.ensures.chain) (field_puts _ _ c.field-2.ensures.chain)) (field_puts _ _ c.field-3.ensures.chain))

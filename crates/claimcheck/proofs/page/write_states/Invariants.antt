@@ -4,4 +4,4 @@ use Rattle.claimcheck.proofs.Printing.{Listed}
 use Rattle.claimcheck.proofs.page.write_states.Given as goal
 
 abbrev pub invariant-loop-c : goal.invariant-loop-c
-invariant-loop-c l = Listed (claim_in l.text) l.at l.c l.place l.initial.page l.page
+invariant-loop-c l = Listed (claim_in l.text) l.c l.initial.page l.page

@@ -3,5 +3,5 @@ use Rattle.text.proofs.Chains.{puts_then, puts_as}
 use Rattle.looplist.proofs.Printing.{head_parts}
 use Rattle.looplist.proofs.page.write_head.Goals as goal
 
-pub returns : goal.returns
-returns c = puts_as (head_parts _ _ _ _) (puts_then (puts_then (puts_then c.write_count-a.ensures c.write_verdict-b.ensures) c.write_count-c.ensures) c.write_tallies.ensures)
+pub returns-clause-puts : goal.returns-clause-puts
+returns-clause-puts c = puts_as (head_parts _ _ _ _) (puts_then (puts_then (puts_then c.write_count.ensures.puts c.write_verdict.ensures.puts) c.write_count-2.ensures.puts) c.write_tallies.ensures.puts)
