@@ -12,7 +12,7 @@ args = [a for a in sys.argv[1:] if a != '-l']
 LIST = '-l' in sys.argv[1:]
 ROOT = pathlib.Path(args[0]) if args else pathlib.Path(__file__).resolve().parent.parent
 
-# Parameters that travel together, as the first commit of the pass had them.
+# Parameters that travel together, as docs/DESIGN-PASS.md counts them.
 GROUPS = [('text', 'at'), ('output', 'at'), ('page', 'at'), ('buffer', 'at'), ('out', 'at'), ('work', 'run'),
           ('froms', 'tos'), ('marks', 'owners'), ('edges', 'marks'), ('chart', 'claim', 'cells'), ('modes', 'states'),
           ('states', 'count'), ('case', 'want', 'one'), ('pairs', 'many'), ('mode', 'care', 'value', 'next')]

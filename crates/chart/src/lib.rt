@@ -55,7 +55,7 @@ pub enum NoChart {
     Bad(Chart, Charted),
 }
 
-// Of a text without a bad pair: a refusal that is of the whole, or none.
+// Of a text without a bad pair: a refusal that is of the whole, or none, by its number, as C gets it.
 fn without_pair(refusal: u32) -> Charted
     ensures { result ≡ record { refusal = refusal; mode = 0; combination = 0 } }
 {

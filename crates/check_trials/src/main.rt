@@ -26,7 +26,7 @@ const ONE_LOOP: &str = case!("1 2 1 0 1\nvertex accepting owner\n0 0 0\n1 0 0\nf
 
 const APART: &str = case!("1 2 1 0 1\nvertex accepting owner\n0 0 0\n1 1 0\nfrom to\n0 0\n");
 
-// What a check said, as a line's end.
+// What a check said, by its numbers, as C gets them: a line's end.
 #[derive(Clone, Copy)]
 struct Said(Checked);
 

@@ -203,7 +203,8 @@ fn atom(text: &[u8], at: usize, deep: usize, count: u32) -> Parsed<Values>
     negated(closed(text, inside, b')'), odd)
 }
 
-// Beside `or_level` and not one with it: the two call each other, and a level passed in would hide how deep a call goes.
+// Beside `or_level` and not one with it: a reader for each level is asked for, and a level passed in would hide how deep a
+// call goes.
 #[cycle(and_level_atom_or_level)]
 fn and_level(text: &[u8], at: usize, deep: usize, count: u32) -> Parsed<Values>
     requires { count ≤ most_propositions }

@@ -18,6 +18,7 @@ fn write_name(page: &mut Writer, text: &[u8], cells: &[u32], c: usize)
     ensures puts { Puts (name_end (state (claim_in text.now) c).name) page.old page.new }
 {
     let from = cells[Counts::NAMES + c] as usize;
+    // place 0 is no name in a claim's cells, as in the C interface's result
     if from == 0 {
         page.byte(b'\n');
         return;

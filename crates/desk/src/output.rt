@@ -30,7 +30,7 @@ pub fn write_between(page: &mut Writer, before: &[u8], number: u32, after: &[u8]
     page.bytes(after);
 }
 
-// The line of a refusal.
+// The line of a refusal, by its number, as the entries for C give it.
 pub fn write_refusal(page: &mut Writer, refusal: u32)
     ensures same { page.new.output.ghost_name ≡ page.old.output.ghost_name }
     ensures chain { Chain (refused_parts refusal) page.old page.new }

@@ -36,6 +36,7 @@ impl Names<'_> {
         ensures name { Puts (state_text self.now.claim.now self.now.cells.now s) page.old page.new }
     {
         let place = self.cells[Counts::NAMES + s] as usize;
+        // place 0 is no name in a claim's cells, as in the C interface's result
         if place == 0 {
             page.number(s as u32);
             return;

@@ -1,5 +1,5 @@
 // Random graphs.
-ghost use Rattle.std.specs.Prelude.{◌<◌};
+ghost use Rattle.std.specs.Prelude.{◌<◌, ◌≤◌};
 
 use bench_kit::graph::{Edge, Graph};
 use std::alloc::{AllocError, Global};
@@ -25,7 +25,9 @@ impl Random {
 }
 
 // A number below the limit, or 0 where that is 0.
-pub(crate) fn below(x: u32, limit: usize) -> usize {
+pub(crate) fn below(x: u32, limit: usize) -> usize
+    ensures { result ≤ limit }
+{
     (x as usize).checked_rem(limit).unwrap_or(0)
 }
 

@@ -37,6 +37,7 @@ pub(crate) struct Trial<'a> {
     pub one: &'a [u8],
 }
 
+// An entry tells refusal and verdict by their numbers, as C gets them.
 // Whether no more messages are delivered and joined than sent, and all that were sent where none waits any more.
 fn tallies_right(o: Outcome) -> bool {
     let gone = u64::from(o.delivered) + u64::from(o.joined);

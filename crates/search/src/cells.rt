@@ -91,7 +91,8 @@ pub(crate) fn store(work: &mut [i32], i: usize, z: i32)
     work[i] = z;
 }
 
-// Puts a number into a cell: below a limit, which a signed number needs none of.
+// Puts a number into a cell, below a limit, which a signed number needs none of. Over a trait the two would be a trait, two impls
+// and this function.
 pub(crate) fn store_number(work: &mut [i32], i: usize, v: usize)
     requires { (i < length work.old) × (v < 2 ^ 31) }
     ensures { work.new ≡ set work.old i (pos v) }

@@ -1,5 +1,5 @@
 // Readers of a text at a place: lines, fields, rows of numbers. Each reads where it stands, once, and answers at any
-// place, past the text's end too.
+// place, past the text's end too. Text and place stay two parameters here: `Reader` carries both, and calls these.
 ghost use Rattle.std.specs.Prelude.{◌≡◌, true, ◌+◌, length, drop};
 ghost use Rattle.text.specs.Lines.{equal, begins};
 ghost use Rattle.text.specs.Numbers.{has_minus};
