@@ -59,8 +59,8 @@ pub fn write_refused(page: &mut Writer, said: Charted)
     write_between(page, b"flags ", said.combination, b"\n");
 }
 
-// The end of what was built at the page's front; or the lines of its refusal. Refusals are numbers here, as in the C
-// interface's `Built` and `Charted`.
+// Ends the page past what was built at its front; or writes the lines of its refusal. Refusals are numbers here, as in the
+// C interface's `Built` and `Charted`.
 pub fn finish_page(page: &mut Writer, built: Built)
     ensures same { page.new.output.ghost_name ≡ page.old.output.ghost_name }
     ensures finishes { Finishes built page.old page.new }
