@@ -1,10 +1,10 @@
 -- Rest loops in tables: which vertices an edge leaves, and the loops of the others behind the edges. Assumes nothing.
 use mathlib.Core.Path.{◌≡◌, refl, sym, ap, subst, ◌∙◌}
-use mathlib.Core.Bool.{true, false}
+use mathlib.Core.Bool.{Bool, true, false}
 use mathlib.Core.List.{List, [], ◌∷◌, ◌++◌, append-nil}
 use Prim.Native.Nat.{ℕ, zero, suc, ◌+◌, ◌-◌, ◌≤◌, ◌<◌}
 use native.Mathlib.Omega.{arith}
-use lib.ListN.{length, get_or, set, replicate, length-set, length-append, get_or-append}
+use lib.ListN.{length, get_or, set, replicate, length-append, get_or-append}
 use lib.Seq.{append_snoc, get_or_at, get_or-set_same, get_or-set_other}
 use borrow.Author.Tests.{eq-eqb, ne_eqb}
 use Rattle.text.proofs.Tests.{Same, same?, same, other}
@@ -13,46 +13,20 @@ use Rattle.model.specs.Case.{answer_version}
 use Rattle.model.proofs.Rests.{leaves_at, leaves_none, rests_skip, rests_take, rested_edge}
 use Rattle.casefile.specs.declared.Case.{Case}
 use Rattle.checker.specs.declared.tables.Graph as code
-use Rattle.checker.specs.Checking.{Ends, Unmarked, Starts, Stands, meant_by, Tables}
+use Rattle.checker.specs.Checking.{Ends, Starts, Stands, meant_by, Tables}
 
--- a new table of zeros
-pub zeros : (n v : ℕ) → ◌≡◌ {A = ℕ} (get_or (replicate n 0) v 0) 0
-zeros zero v = refl
-zeros (suc n) zero = refl
-zeros (suc n) (suc v) = zeros n v
-
--- MARKS of the vertices that the first e edges leave
-pub no_starts : {froms starts : List ℕ} → Unmarked starts → Starts 0 froms starts
-no_starts u = record { none = λ v l z e h q. absurd (omega arith); some = λ v n. absurd (n (u.none v)) }
-
-pub starts_more : {e : ℕ} {froms starts starts' : List ℕ} {u : ℕ} → Starts e froms starts → u ≡ get_or froms e 0 → starts' ≡ set starts u 1 → Starts (e + 1) froms starts'
-starts_more {e} {froms} {starts} {starts'} {u} l f w = rw w (record { none = λ v b z i h q. free v b z i h q (same? v u); some = λ v n. marked v n (same? v u) })
-  where
-    free : (v : ℕ) → v < length (set starts u 1) → get_or (set starts u 1) v 0 ≡ 0 → (i : ℕ) → i < e + 1 → get_or froms i 0 ≡ v → Same v u → ⊥
-    free v b z i h q (same s) =
-        let p : u < length starts = omega (arith, length-set starts u 1) in
-        let w : get_or (set starts u 1) v 0 ≡ 1 = ap (λ (k : ℕ). get_or (set starts u 1) k 0) s ∙ get_or-set_same starts u 1 0 p in
-        omega arith
-    free v b z i h q (other n) =
-        l.none v (omega (arith, length-set starts u 1)) (sym (get_or-set_other starts u v 1 0 n) ∙ z) i (earlier (same? i e)) q
-      where
-        earlier : Same i e → i < e
-        earlier (same s) = absurd (n (sym q ∙ ap (λ (k : ℕ). get_or froms k 0) s ∙ sym f))
-        earlier (other m) = omega (arith, m)
-
-    marked : (v : ℕ) → (get_or (set starts u 1) v 0 ≡ 0 → ⊥) → Same v u → (i : ℕ) × (i < e + 1) × (get_or froms i 0 ≡ v)
-    marked v n (same s) = (e, omega arith, sym f ∙ sym s)
-    marked v n (other m) = let (i, h, q) = l.some v (λ z. n (get_or-set_other starts u v 1 0 m ∙ z)) in (i, omega arith, q)
-
-pub starts_all : {e m : ℕ} {froms starts : List ℕ} → e ≤ m → m ≤ e → Starts e froms starts → Starts m froms starts
-starts_all {e} {m} a b l = let q : m ≡ e = omega arith in rw q l
+-- a new table
+pub unmarked : (n v : ℕ) → get_or (replicate n false) v false ≡ false
+unmarked zero v = refl
+unmarked (suc n) zero = refl
+unmarked (suc n) (suc v) = unmarked n v
 
 -- of edges in tables: whether one leaves a vertex
-module _ {es : List Edge} {m : ℕ} {froms tos starts : List ℕ} (e : Ends es m froms tos) (l : Starts m froms starts) where
-  pub rests : (v : ℕ) → v < length starts → get_or starts v 0 ≡ 0 → leaves es v ≡ false
+module _ {es : List Edge} {m : ℕ} {froms tos : List ℕ} {starts : List Bool} (e : Ends es m froms tos) (l : Starts m froms starts) where
+  pub rests : (v : ℕ) → v < length starts → get_or starts v false ≡ false → leaves es v ≡ false
   rests v b z = leaves_none es v (λ i h q. l.none v b z i (omega (arith, e.many)) (e.from_at i (omega (arith, e.many)) ∙ q))
 
-  pub is_start : (v : ℕ) → (get_or starts v 0 ≡ 0 → ⊥) → leaves es v ≡ true
+  pub is_start : (v : ℕ) → get_or starts v false ≡ true → leaves es v ≡ true
   is_start v n = let (i, h, q) = l.some v n in leaves_at es i v (omega (arith, e.many)) (sym (e.from_at i h) ∙ q)
 
 -- LOOPS: the edges so far, behind which those of v and the vertices after it come, and their ends

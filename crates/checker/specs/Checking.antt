@@ -84,12 +84,12 @@ pub record Room (n m : ℕ) (froms tos : List ℕ) : Type 0 where
   pub to_room : most_run_edges ≤ length tos
 
 -- marks of vertices: none; those that one of m edges leaves
-pub record Unmarked (starts : List ℕ) : Type 0 where
-  pub none : (v : ℕ) → get_or starts v 0 ≡ 0
+pub record Unmarked (starts : List Bool) : Type 0 where
+  pub none : (v : ℕ) → get_or starts v false ≡ false
 
-pub record Starts (m : ℕ) (froms starts : List ℕ) : Type 0 where
-  pub none : (v : ℕ) → v < length starts → get_or starts v 0 ≡ 0 → (e : ℕ) → e < m → get_or froms e 0 ≡ v → ⊥
-  pub some : (v : ℕ) → (get_or starts v 0 ≡ 0 → ⊥) → (e : ℕ) × (e < m) × (get_or froms e 0 ≡ v)
+pub record Starts (m : ℕ) (froms : List ℕ) (starts : List Bool) : Type 0 where
+  pub none : (v : ℕ) → v < length starts → get_or starts v false ≡ false → (e : ℕ) → e < m → get_or froms e 0 ≡ v → ⊥
+  pub some : (v : ℕ) → get_or starts v false ≡ true → (e : ℕ) × (e < m) × (get_or froms e 0 ≡ v)
 
 -- the loops of n vertices behind their m edges
 abbrev pub RestedSays : (n m : ℕ) → (froms froms' tos tos' : List ℕ) → ℕ → Type 0

@@ -6,23 +6,26 @@ use crate::tables::cell;
 use casefile::{Case, put};
 
 // Marks each vertex that one of m edges leaves, as far as the table has room.
-fn mark_starts(m: usize, froms: &[u32], starts: &mut [u32])
+fn mark_starts(m: usize, froms: &[u32], starts: &mut [bool])
     requires { Unmarked starts.old }
     ensures { Starts m froms.now starts.new }
 {
     for e in 0..m {
-        put(starts, cell(froms, e), 1);
+        let from = cell(froms, e);
+        if from < starts.len() {
+            starts[from] = true;
+        }
     }
 }
 
 // Puts the loop of each vertex that is not marked behind the edges: how many there are then.
-fn add_loops(case: Case, starts: &[u32], froms: &mut [u32], tos: &mut [u32]) -> usize
+fn add_loops(case: Case, starts: &[bool], froms: &mut [u32], tos: &mut [u32]) -> usize
     requires { Room case.vertices case.edges froms.old tos.old × Starts case.edges froms.old starts.now × (case.vertices ≤ length starts.now) }
     ensures { RestedSays case.vertices case.edges froms.old froms.new tos.old tos.new result }
 {
     let mut k = case.edges;
     for v in 0..case.vertices {
-        if cell(starts, v) != 0 {
+        if starts[v] {
             continue;
         }
         put(froms, k, v as u32);
@@ -37,7 +40,7 @@ fn rest_loops(case: Case, froms: &mut [u32], tos: &mut [u32]) -> usize
     requires { Room case.vertices case.edges froms.old tos.old }
     ensures { RestedSays case.vertices case.edges froms.old froms.new tos.old tos.new result }
 {
-    let mut starts = [0; Case::MOST_VERTICES];
+    let mut starts = [false; Case::MOST_VERTICES];
     mark_starts(case.edges, froms, &mut starts);
     add_loops(case, &starts, froms, tos)
 }

@@ -27,7 +27,7 @@ use Rattle.model.specs.Refusals.{number}
 use Rattle.model.specs.declared.refusal.Refusal.{Refusal}
 use Rattle.std.specs.Prelude.{Result, Ok, Err}
 use Rattle.casefile.specs.Tables.{CaseRead, Holds}
-use Rattle.casefile.proofs.Refusals.{first_decides, first_one}
+use Rattle.casefile.proofs.Refusals.{first_decides}
 use Rattle.casefile.proofs.Whole.{turned, taken}
 use Rattle.casefile.proofs.Tables.{held}
 use Rattle.search.specs.Rep.{Rep}
@@ -72,42 +72,38 @@ first_skip : (ks : List ℕ) → first_of (0 ∷ ks) ≡ first_of ks
 unfolding first_of
 first_skip ks = refl
 
--- with no acts the case alone decides
-no_acts : (s : List ℕ) → load_refusal s [] ≡ case_refusal s
-unfolding load_refusal acts_refusal any_at_or_above refuse
-no_acts s = go (case_refusal s)
-  where
-    go : (k : ℕ) → first_of (k ∷ 0 ∷ []) ≡ k
-    go zero = unfold first_of in refl
-    go (suc k) = first_decides (suc k) _ (λ z. omega arith)
-
 refused_so : (k j : ℕ) (b : Bool) (c : model.Case) (x : State) (o : List ℕ) (w : List ℤ) → k ≡ j → 0 < j → RunSays k b c x (refused_by j) o o w w
 unfolding RunSays
 refused_so zero j b c x o w e n = absurd (omega arith)
 refused_so (suc k) j b c x o w e n = record { refusal = sym e; verdict = refl; acts = refl; written = refl; tallies = refl; output = refl; work = refl }
 
-module _ (s xs : List ℕ) (o : List ℕ) (w : List ℤ) where
-  pub list_short : (ltb (length o) least_output || ltb (length w) least_work) ≡ true → ListSays s xs (refused_by 11) o o w w
-  unfolding ListSays list_refusal
-  list_short e = refused_so _ 11 _ _ _ o w (rw (buffers_short (length o) (length w) e) (first_decides 11 _ (λ z. omega arith))) (omega arith)
+-- with room in the buffers loading decides
+module _ (s xs : List ℕ) (o : ℕ) (w : List ℤ) where
+  pub short : (ltb o least_output || ltb (length w) least_work) ≡ true → (list_refusal s xs o (length w) ≡ 11) × (0 < 11) × (w ≡ w)
+  unfolding list_refusal
+  short e = (rw (buffers_short o (length w) e) (first_decides 11 _ (λ z. omega arith)), omega arith, refl)
 
-  pub rounds_short : (ltb (length o) least_output || ltb (length w) least_work) ≡ true → RoundsSay s (refused_by 11) o o w w
-  unfolding RoundsSay rounds_refusal
-  rounds_short e = refused_so _ 11 _ _ _ o w (rw (buffers_short (length o) (length w) e) (first_decides 11 _ (λ z. omega arith))) (omega arith)
+  pub turned_away : (ltb o least_output || ltb (length w) least_work) ≡ false → (k : ℕ) (v : List ℤ) → (load_refusal s xs ≡ k) × (0 < k) × (v ≡ w) → (list_refusal s xs o (length w) ≡ k) × (0 < k) × (v ≡ w)
+  turned_away e k v t = (as_loaded ∙ t.0, t.1, t.2)
+    where
+      as_loaded : list_refusal s xs o (length w) ≡ load_refusal s xs
+      as_loaded = unfold list_refusal load_refusal in (rw (buffers_long o (length w) e) (first_skip _))
 
-  module _ (enough : (ltb (length o) least_output || ltb (length w) least_work) ≡ false) where
-    list_as_loaded : list_refusal s xs (length o) (length w) ≡ load_refusal s xs
-    unfolding list_refusal load_refusal
-    list_as_loaded = rw (buffers_long (length o) (length w) enough) (first_skip _)
+-- by rounds no act can refuse
+rounds_as_list : (s : List ℕ) (o w : ℕ) → rounds_refusal s o w ≡ list_refusal s [] o w
+rounds_as_list s o w = unfold rounds_refusal list_refusal acts_refusal any_at_or_above refuse in go (buffer_refusal o w) (case_refusal s)
+  where
+    go : (j k : ℕ) → first_of (j ∷ k ∷ []) ≡ first_of (j ∷ k ∷ 0 ∷ [])
+    go zero zero = unfold first_of in refl
+    go zero (suc k) = unfold first_of in refl
+    go (suc j) k = unfold first_of in refl
 
-    rounds_as_loaded : rounds_refusal s (length o) (length w) ≡ load_refusal s []
-    rounds_as_loaded = unfold rounds_refusal in (rw (buffers_long (length o) (length w) enough) (first_skip _ ∙ first_one (case_refusal s))) ∙ sym (no_acts s)
+module _ (s : List ℕ) (o : List ℕ) (w v : List ℤ) (k : ℕ) where
+  pub list_turned : (xs : List ℕ) → (list_refusal s xs (length o) (length w) ≡ k) × (0 < k) × (v ≡ w) → ListSays s xs (refused_by k) o o w v
+  list_turned xs t = rw t.2 (unfold ListSays in (refused_so _ k _ _ _ o w t.0 t.1))
 
-    pub list_turned : (k : ℕ) (v : List ℤ) → (load_refusal s xs ≡ k) × (0 < k) × (v ≡ w) → ListSays s xs (refused_by k) o o w v
-    list_turned k v t = rw t.2 (unfold ListSays in (refused_so _ k _ _ _ o w (list_as_loaded ∙ t.0) t.1))
-
-    pub rounds_turned : (k : ℕ) (v : List ℤ) → (load_refusal s [] ≡ k) × (0 < k) × (v ≡ w) → RoundsSay s (refused_by k) o o w v
-    rounds_turned k v t = rw t.2 (unfold RoundsSay in (refused_so _ k _ _ _ o w (rounds_as_loaded ∙ t.0) t.1))
+  pub rounds_turned : (list_refusal s [] (length o) (length w) ≡ k) × (0 < k) × (v ≡ w) → RoundsSay s (refused_by k) o o w v
+  rounds_turned t = rw t.2 (unfold RoundsSay in (refused_so _ k _ _ _ o w (rounds_as_list s (length o) (length w) ∙ t.0) t.1))
 
 -- LOADING: what the reader says
 module _ (s : List ℕ) {r : Result Case Refusal} (p : r ≡ judged s) where

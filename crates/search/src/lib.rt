@@ -16,7 +16,7 @@ ghost use Rattle.std.specs.Prelude.{◌≡◌, ◌||◌, ◌≤◌, ltb, length}
 ghost use Rattle.model.specs.Case.{least_output, least_work};
 ghost use Rattle.model.specs.Entry.{any_at_or_above, ListSays, RoundsSay};
 ghost use Rattle.model.specs.Refusals.{number};
-ghost use Rattle.search.specs.Entries.{refused_by, Loads};
+ghost use Rattle.search.specs.Entries.{refused_by, Loads, Begins};
 
 use casefile::{Case, CaseTables, read_case};
 use finish::finish;
@@ -92,38 +92,54 @@ fn load_text(text: &[u8], acts: &[u32], work: &mut [i32]) -> Result<Loaded, Refu
     })
 }
 
-// Runs a case by a list of acts: 11 first, then 1 to 8, then 9, then the run, then 10.
+// A fresh run of a case that stands in the cells.
+#[derive(Clone, Copy)]
+struct Begun {
+    case: Case,
+    edges: usize,
+    run: Run,
+}
+
+// What the runs share: 11 first, then 1 to 8, then 9, then the case's fresh run.
+fn begin(text: &[u8], acts: &[u32], output: usize, work: &mut [i32]) -> Result<Begun, Refusal>
+    ensures { Begins text.now acts.now output result work.old work.new }
+{
+    if too_short(output, work.len()) {
+        return Err(Refusal::ShortBuffer);
+    }
+    let loaded = load_text(text, acts, work)?;
+    let run = Run::fresh(work, loaded.case.source, loaded.marks);
+    Ok(Begun {
+        case: loaded.case,
+        edges: loaded.edges,
+        run: run,
+    })
+}
+
+// Runs a case by a list of acts: refusals 1 to 9 and 11, then the run, then 10.
 pub fn run_list(case: &[u8], acts: &[u32], output: &mut [u8], work: &mut [i32]) -> Outcome
     ensures { ListSays case.now acts.now result output.old output.new work.old work.new }
 {
-    if too_short(output.len(), work.len()) {
-        return refused(Refusal::ShortBuffer);
-    }
-    match load_text(case, acts, work) {
+    match begin(case, acts, output.len(), work) {
         Err(refusal) => refused(refusal),
-        Ok(loaded) => {
-            let case = loaded.case;
-            let mut run = Run::fresh(work, case.source, loaded.marks);
-            run.act_list(work, acts, case.workers);
-            finish(output, work, run, case)
+        Ok(begun) => {
+            let mut run = begun.run;
+            run.act_list(work, acts, begun.case.workers);
+            finish(output, work, run, begun.case)
         }
     }
 }
 
-// Runs a case by rounds to its end: 11 first, then 1 to 8, then the run.
+// Runs a case by rounds to its end: refusals 1 to 8 and 11, then the run.
 pub fn run_rounds(case: &[u8], output: &mut [u8], work: &mut [i32]) -> Outcome
     ensures { RoundsSay case.now result output.old output.new work.old work.new }
 {
-    if too_short(output.len(), work.len()) {
-        return refused(Refusal::ShortBuffer);
-    }
-    match load_text(case, &[], work) {
+    match begin(case, &[], output.len(), work) {
         Err(refusal) => refused(refusal),
-        Ok(loaded) => {
-            let case = loaded.case;
-            let mut run = Run::fresh(work, case.source, loaded.marks);
-            run.run_by_rounds(work, case.workers, case.vertices, loaded.edges);
-            finish(output, work, run, case)
+        Ok(begun) => {
+            let mut run = begun.run;
+            run.run_by_rounds(work, begun.case.workers, begun.case.vertices, begun.edges);
+            finish(output, work, run, begun.case)
         }
     }
 }

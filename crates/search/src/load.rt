@@ -10,6 +10,7 @@ fn load_vertices(work: &mut [i32], marks: &[u32], owners: &[u32]) -> usize
     ensures { RowsSay marks.now owners.now result work.old work.new }
 {
     let mut count: usize = 0;
+    // By index, as in `load_edges`: std has laws for a loop over a zip, but none for one that is enumerated.
     for v in 0..marks.len() {
         let mark = marks[v] as usize;
         store_number(work, cells::ACCEPTING + v, mark);
