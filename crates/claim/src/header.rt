@@ -239,10 +239,7 @@ fn is_passed(text: &[u8], t: Token) -> bool
 {
     match t {
         Token::Name(_, _) | Token::Number(_) | Token::Text(_, _) => true,
-        Token::Header(a, e) => {
-            let b = first_byte(text, a, e);
-            (b'a' <= b) & (b <= b'z')
-        }
+        Token::Header(a, e) => first_byte(text, a, e).is_ascii_lowercase(),
         _ => false,
     }
 }
@@ -265,7 +262,7 @@ fn skipped_end(text: &[u8], at: usize) -> usize
 fn no_kind(b: u8) -> Refusal
     ensures { result ≡ no_kind b }
 {
-    if (b'A' <= b) & (b <= b'Z') {
+    if b.is_ascii_uppercase() {
         Refusal::NotTaken
     } else {
         Refusal::ClaimGrammar
@@ -277,7 +274,7 @@ fn kind_of(text: &[u8], a: usize, e: usize) -> Result<Kind, Refusal>
     ensures { result ≡ kind_of (part text.now a e) }
 {
     let b = first_byte(text, a, e);
-    if (b'a' <= b) & (b <= b'z') {
+    if b.is_ascii_lowercase() {
         return Ok(Kind::Skipped);
     }
     if word(text, a, e, b"HOA") {
