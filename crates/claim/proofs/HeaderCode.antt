@@ -20,14 +20,14 @@ use Rattle.model.specs.ClaimGrammar.{Item, states, start, acceptance, state_coun
 use Rattle.model.specs.ClaimTable.{is_sign, otherwise, wants_sets, wants_inf, wants_open, wants_set, wants_close, is_any_name, Last, whole, after_start, after_acceptance, Place, in_items, wants_count, wants_start, Next, go, fault, on_number, snoc, with_item, step, ended, told, refused}
 use Rattle.model.proofs.ClaimItems.{first_given, given_none, count_append, start_append, names_append, acceptance_append}
 use Rattle.claim.specs.Reads.{Stands, part, claim_tokens, spelt, reads_on, is_symbol_of, fault_of, Sees}
-use Rattle.claim.specs.HeaderSays.{WantsNumber, NumberSays, shown, Gives, ItemSays, StepSays, accepted, most_states_of, starts_below}
+use Rattle.claim.specs.HeaderSays.{WantsNumber, NumberSays, WantsSign, SignSays, shown, Gives, ItemSays, StepSays, accepted, most_states_of, starts_below}
 use Rattle.claim.specs.declared.tokens.Token.{Token}
 use Rattle.claim.specs.declared.tokens.Token.TheVariants.{Name, Header, Number, Text, Symbol, Body, End, Alias, Comment, Stray, Done}
 use Rattle.claim.specs.declared.tokens.Seen.{Seen}
 use Rattle.claim.specs.declared.header.Given.{Given}
 use Rattle.claim.proofs.Places.{ahead}
 use Rattle.claim.specs.contracts.tokens.Token.{the_type}
-use Rattle.claim.proofs.Seeing.{symbol_is, reads_as, goes_past}
+use Rattle.claim.proofs.Seeing.{symbol_is, symbol_next, symbol_past, reads_as, goes_past}
 use Rattle.std.specs.Prelude.{is_some as given, unwrap_or, Option as Maybe, Some, None, Result, Ok, Err}
 use Rattle.model.specs.Refusals.{number}
 use Rattle.model.specs.declared.refusal.Refusal.{Refusal}
@@ -249,18 +249,9 @@ module _ {s : List ℕ} {at : ℕ} {r : Seen} (n : Sees s T.longest_claim at (cl
   passes t e d u c m f q (Ok z) (a, past) = (λ is. ap (λ (ts : List T.Token). told (go (p is)) ts) (reads_as n t e d ∙ c) ∙ (stepped (p is) u _ (go (m is)) (f is) ∙ a is), ahead (goes_past n t e d) past)
   passes t e d u c m f q (Err j) a = λ is. ap (λ (ts : List T.Token). told (go (p is)) ts) (reads_as n t e d ∙ c) ∙ (stepped (p is) u _ (go (m is)) (f is) ∙ a is)
 
-  -- the last one
-  pub passes_last : (t : Token) → r.token ≡ t → reads_on t ≡ true → (u : T.Token) → spelt s t (claim_tokens s r.next) ≡ u ∷ claim_tokens s r.next → (m : List Item → Place) → ((is : List Item) → step (p is) u ≡ go (m is)) → StepSays s p m at (Ok r.next)
-  passes_last t e d u c m f = (λ is. ap (λ (ts : List T.Token). told (go (p is)) ts) (reads_as n t e d ∙ c) ∙ stepped (p is) u _ (go (m is)) (f is), goes_past n t e d)
-
   -- a token is refused
   pub tears : (j : Refusal) → ((is : List Item) → told (go (p is)) (spelt s r.token n.rest) ≡ refused (number j)) → (q : List Item → Place) → StepSays s p q at (Err j)
   tears j f q is = ap (λ (ts : List T.Token). told (go (p is)) ts) n.reads ∙ f is
-
--- a place that takes a sign and nothing else
-pub record WantsSign (p : Place) (b : ℕ) (m : Place) : Type 0 where
-  pub steps : (t : T.Token) → step p t ≡ cond (is_sign (T.symbol b) t) (go m) (otherwise t)
-  pub open_ended : ended p ≡ refused 15
 
 module _ {p : Place} {b : ℕ} {m : Place} (w : WantsSign p b m) where
   sign_steps : step p (T.symbol b) ≡ go m
@@ -350,19 +341,26 @@ no_inf is s r Comment h e = refuses (wants_inf is) _ r 16 refl
 no_inf is s r Stray h e = refuses (wants_inf is) _ r 15 refl
 no_inf is s r Done h e = told_end (wants_inf is)
 
+module _ {s : List ℕ} {at : ℕ} {r : Seen} (n : Sees s T.longest_claim at (claim_tokens s at) r) (b : ℕ) where
+  pub sign_passed : is_symbol_of r.token b ≡ true → SignSays s b at (Ok r.next)
+  sign_passed e = (symbol_next n b e, symbol_past n b e)
+
+  pub sign_missed : is_symbol_of r.token b ≡ false → (j : Refusal) → j ≡ fault_of r.token → SignSays s b at (Err j)
+  sign_missed e j f p m w = ap (λ (ts : List T.Token). told (go p) ts) n.reads ∙ (no_sign w s n.rest r.token e ∙ ap (λ (i : Refusal). refused (number i)) (sym f))
+
+module _ (s : List ℕ) (at : ℕ) where
+  pub closes : (l : Result ℕ Refusal) → SignSays s 41 at l → StepSays s wants_close accepted at l
+  closes (Ok z) (c, past) = (λ is. ap (λ (ts : List T.Token). told (go (wants_close is)) ts) c ∙ stepped (wants_close is) _ _ _ (sign_steps (close_wants is)), past)
+  closes (Err j) a = λ is. a (wants_close is) _ (close_wants is)
+
+  pub opens_on : (z : ℕ) → SignSays s 40 at (Ok z) → (l : Result ℕ Refusal) → StepSays s wants_set accepted z l → StepSays s wants_open accepted at l
+  opens_on z (c, past) (Ok y) (a, past') = (λ is. ap (λ (ts : List T.Token). told (go (wants_open is)) ts) c ∙ (stepped (wants_open is) _ _ _ (sign_steps (open_wants is)) ∙ a is), ahead past past')
+  opens_on z (c, past) (Err j) a = λ is. ap (λ (ts : List T.Token). told (go (wants_open is)) ts) c ∙ (stepped (wants_open is) _ _ _ (sign_steps (open_wants is)) ∙ a is)
+
+  pub opens_not : (j : Refusal) → SignSays s 40 at (Err j) → StepSays s wants_open accepted at (Err j)
+  opens_not j a is = a (wants_open is) _ (open_wants is)
+
 module _ {s : List ℕ} {at : ℕ} {r : Seen} (n : Sees s T.longest_claim at (claim_tokens s at) r) where
-  pub close_is : is_symbol_of r.token 41 ≡ true → StepSays s wants_close accepted at (Ok r.next)
-  close_is e = passes_last n wants_close (Symbol 41) (symbol_is r.token 41 e) refl _ refl accepted (λ is. sign_steps (close_wants is))
-
-  pub close_not : is_symbol_of r.token 41 ≡ false → (j : Refusal) → j ≡ fault_of r.token → StepSays s wants_close accepted at (Err j)
-  close_not e j f = tears n wants_close j (λ is. no_sign (close_wants is) s n.rest r.token e ∙ ap (λ (i : Refusal). refused (number i)) (sym f)) accepted
-
-  pub open_is : is_symbol_of r.token 40 ≡ true → (l : Result ℕ Refusal) → StepSays s wants_set accepted r.next l → StepSays s wants_open accepted at l
-  open_is e l a = passes n wants_open (Symbol 40) (symbol_is r.token 40 e) refl _ refl wants_set (λ is. sign_steps (open_wants is)) accepted l a
-
-  pub open_not : is_symbol_of r.token 40 ≡ false → (j : Refusal) → j ≡ fault_of r.token → StepSays s wants_open accepted at (Err j)
-  open_not e j f = tears n wants_open j (λ is. no_sign (open_wants is) s n.rest r.token e ∙ ap (λ (i : Refusal). refused (number i)) (sym f)) accepted
-
   -- the set: a number; or another acceptance; or none at all
   pub set_is : (v : ℕ) → r.token ≡ Number v → v ≡ 0 → (l : Result ℕ Refusal) → StepSays s wants_close accepted r.next l → StepSays s wants_set accepted at l
   set_is v q e l a = passes n wants_set (Number v) q refl _ refl wants_close (λ is. number_then (set_wants is) v ∙ rw (eq-eqb v 0 e) refl) accepted l a

@@ -17,7 +17,7 @@ use Rattle.model.specs.ClaimTokens.{quote, backslash, colon, at_byte, slash_byte
 use Rattle.text.specs.Ascii.{ascii}
 use Rattle.text.proofs.Tests.{clash, and_both, or_false, Same, same, other, same?}
 use Rattle.text.proofs.Lines.{equal_true, equal_same}
-use Rattle.claim.specs.Reads.{part, lexed, tokens_at, spelt, reads_on, BlanksEnd, NameEnd, Sees, Bounds}
+use Rattle.claim.specs.Reads.{part, lexed, tokens_at, spelt, reads_on, BlanksEnd, NameEnd, Sees, Bounds, pair_of}
 use Rattle.claim.specs.declared.tokens.Token.{Token as CodeToken}
 use Rattle.claim.specs.declared.tokens.Token.TheVariants.{Name, Header, Number, Text, Symbol, Body, End, Alias, Comment, Stray, Done}
 use Rattle.claim.specs.declared.tokens.Seen.{Seen}
@@ -299,13 +299,13 @@ at_other : (b : ℕ) → is_name_byte b ≡ false → byte at_sign b ≡ breaks 
 unfolding byte
 at_other b e = rw e refl
 
-slash_star : (b : ℕ) → b ≡ 42 → byte slash b ≡ breaks comment
+slash_star : (b : ℕ) → eqb b 42 ≡ true → byte slash b ≡ breaks comment
 unfolding byte
-slash_star b e = rw (eq-eqb b 42 e) refl
+slash_star b e = rw e refl
 
-slash_other : (b : ℕ) → (b ≡ 42 → ⊥) → byte slash b ≡ breaks stray
+slash_other : (b : ℕ) → eqb b 42 ≡ false → byte slash b ≡ breaks stray
 unfolding byte
-slash_other b e = rw (ne_eqb b 42 e) refl
+slash_other b e = rw e refl
 
 at_sign_open : at_end at_sign ≡ stray ∷ []
 unfolding at_end
@@ -319,22 +319,18 @@ module _ (s : List ℕ) (limit at e : ℕ) where
   torn : (m : Mode) → at_end m ≡ stray ∷ [] → min limit (length s) ≤ e → Sees s limit at (lexed s limit m e) (seen Stray e)
   torn m o h = sees_last s limit at _ _ e refl [] (lexed_torn s limit m e o h)
 
-  pub alias_is : e < min limit (length s) → is_name_byte (get_or s e 0) ≡ true → Sees s limit at (lexed s limit at_sign e) (seen Alias e)
-  alias_is h q = sees_last s limit at _ _ e refl _ (lexed_by s limit at_sign e _ (at_name _ q) (omega arith) (omega arith))
+  pub alias_by : e < min limit (length s) → (p : Bool) → is_name_byte (get_or s e 0) ≡ p → Sees s limit at (lexed s limit at_sign e) (pair_of e p Alias)
+  alias_by h true q = sees_last s limit at _ _ e refl _ (lexed_by s limit at_sign e _ (at_name _ q) (omega arith) (omega arith))
+  alias_by h false q = sees_last s limit at _ _ e refl _ (lexed_by s limit at_sign e _ (at_other _ q) (omega arith) (omega arith))
 
-  pub alias_not : e < min limit (length s) → is_name_byte (get_or s e 0) ≡ false → Sees s limit at (lexed s limit at_sign e) (seen Stray e)
-  alias_not h q = sees_last s limit at _ _ e refl _ (lexed_by s limit at_sign e _ (at_other _ q) (omega arith) (omega arith))
-
-  pub alias_torn : min limit (length s) ≤ e → Sees s limit at (lexed s limit at_sign e) (seen Stray e)
+  pub alias_torn : min limit (length s) ≤ e → Sees s limit at (lexed s limit at_sign e) (pair_of e false Alias)
   alias_torn h = torn at_sign at_sign_open h
 
-  pub comment_is : e < min limit (length s) → get_or s e 0 ≡ 42 → Sees s limit at (lexed s limit slash e) (seen Comment e)
-  comment_is h q = sees_last s limit at _ _ e refl _ (lexed_by s limit slash e _ (slash_star _ q) (omega arith) (omega arith))
+  pub comment_by : e < min limit (length s) → (p : Bool) → eqb (get_or s e 0) 42 ≡ p → Sees s limit at (lexed s limit slash e) (pair_of e p Comment)
+  comment_by h true q = sees_last s limit at _ _ e refl _ (lexed_by s limit slash e _ (slash_star _ q) (omega arith) (omega arith))
+  comment_by h false q = sees_last s limit at _ _ e refl _ (lexed_by s limit slash e _ (slash_other _ q) (omega arith) (omega arith))
 
-  pub comment_not : e < min limit (length s) → (get_or s e 0 ≡ 42 → ⊥) → Sees s limit at (lexed s limit slash e) (seen Stray e)
-  comment_not h q = sees_last s limit at _ _ e refl _ (lexed_by s limit slash e _ (slash_other _ q) (omega arith) (omega arith))
-
-  pub comment_torn : min limit (length s) ≤ e → Sees s limit at (lexed s limit slash e) (seen Stray e)
+  pub comment_torn : min limit (length s) ≤ e → Sees s limit at (lexed s limit slash e) (pair_of e false Comment)
   comment_torn h = torn slash slash_open h
 
 -- MARKS: no mark stands

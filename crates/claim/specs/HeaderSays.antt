@@ -7,7 +7,7 @@ use Rattle.text.specs.Lines.{equal}
 use Rattle.model.specs.ClaimTokens as T
 use Rattle.model.specs.ClaimTokens.{is_small, is_capital}
 use Rattle.model.specs.ClaimGrammar.{Item, count_in, acceptance, state_count, start_state, proposition_names, propositions_in, has_acceptance, header_whole, most_states, most_propositions}
-use Rattle.model.specs.ClaimTable.{Last, whole, after_start, after_acceptance, Place, in_items, in_skipped, in_lines, wants_count, wants_start, wants_propositions, wants_names, wants_sets, snoc, Next, go, fault, unless, on_number, step, ended, told, refused}
+use Rattle.model.specs.ClaimTable.{Last, whole, after_start, after_acceptance, Place, in_items, in_skipped, in_lines, wants_count, wants_start, wants_propositions, wants_names, wants_sets, snoc, Next, go, fault, unless, on_number, otherwise, is_sign, step, ended, told, refused}
 use Rattle.claim.specs.Reads.{part, claim_tokens, Ahead, Stands, is_symbol_of, fault_of, Onward, Parsed}
 use Rattle.claim.specs.declared.tokens.Token.{Token}
 use Rattle.claim.specs.declared.tokens.Token.TheVariants.{Name, Header as HeaderName, Number, Text, Symbol, Body, End, Alias, Comment, Stray, Done}
@@ -29,6 +29,16 @@ pub record WantsNumber (p : Place) (f : ℕ → Next) : Type 0 where
 abbrev pub NumberSays : (text : List ℕ) → (at : ℕ) → Parsed ℕ → Type 0
 NumberSays s at (Ok (v, n)) = Stands s at (T.number v) n
 NumberSays s at (Err j) = (p : Place) (f : ℕ → Next) → WantsNumber p f → told (go p) (claim_tokens s at) ≡ refused (number j)
+
+-- a place that takes a sign and nothing else
+pub record WantsSign (p : Place) (b : ℕ) (m : Place) : Type 0 where
+  pub steps : (t : T.Token) → step p t ≡ cond (is_sign (T.symbol b) t) (go m) (otherwise t)
+  pub open_ended : ended p ≡ refused 15
+
+-- a sign is at a place; or whatever place wants it refuses what is there
+abbrev pub SignSays : (text : List ℕ) → (byte at : ℕ) → Result ℕ Refusal → Type 0
+SignSays s b at (Ok n) = Stands s at (T.symbol b) n
+SignSays s b at (Err j) = (p m : Place) → WantsSign p b m → told (go p) (claim_tokens s at) ≡ refused (number j)
 
 -- a value, or none
 abbrev pub shown : Maybe ℕ → Option ℕ

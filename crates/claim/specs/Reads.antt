@@ -137,6 +137,10 @@ pub record Sees (s : List ℕ) (limit at : ℕ) (ts : List T.Token) (seen : Seen
   pub past : reads_on seen.token ≡ true → Ahead s at seen.next
   pub bounds : Bounds s limit seen.token
 
+-- a sign and the byte after it: the token, if that byte fits
+abbrev pub pair_of : (next : ℕ) → (fits : Bool) → Token → Seen
+pair_of n fits t = record { token = cond fits t Stray; next = n }
+
 -- whether a token is this symbol
 abbrev pub is_symbol_of : Token → (byte : ℕ) → Bool
 is_symbol_of (Symbol c) b = eqb c b

@@ -1,9 +1,9 @@
 // The header of a claim, an item at a time.
 ghost use Rattle.std.specs.Prelude.{◌≡◌, false, [], ◌≤◌, get_or, is_some};
 ghost use Rattle.model.specs.ClaimGrammar.{most_propositions};
-ghost use Rattle.model.specs.ClaimTable.{wants_count, wants_start, wants_propositions, wants_sets, wants_inf, wants_open, wants_set, wants_close, named, go, whole, after_start, after_acceptance};
+ghost use Rattle.model.specs.ClaimTable.{wants_count, wants_start, wants_propositions, wants_sets, wants_inf, wants_set, named, go, whole, after_start, after_acceptance};
 ghost use Rattle.claim.specs.Reads.{part};
-ghost use Rattle.claim.specs.HeaderSays.{NumberSays, StringSays, ItemSays, ItemOn, StepSays, Skips, accepted, starts_below, counted, passed_of, no_kind, kind_of, continues, items_end, KindSays, HeaderSays};
+ghost use Rattle.claim.specs.HeaderSays.{NumberSays, SignSays, StringSays, ItemSays, ItemOn, StepSays, Skips, accepted, starts_below, counted, passed_of, no_kind, kind_of, continues, items_end, KindSays, HeaderSays};
 
 use crate::Counts;
 use crate::tokens::{
@@ -80,18 +80,18 @@ fn start_item(text: &[u8], at: usize, g: Given) -> Parsed<Given>
     Err(Refusal::ClaimGrammar)
 }
 
-// After Acceptance: 1 Inf(0 the closing bracket.
-fn close_on(text: &[u8], at: usize) -> Result<usize, Refusal>
-    ensures { StepSays text.now wants_close accepted at result }
+// Past the sign `b` at `at`.
+fn sign_at(text: &[u8], at: usize, b: u8) -> Result<usize, Refusal>
+    ensures { SignSays text.now b at result }
 {
     let Seen { token, next } = claim_token(text, at);
-    if is_symbol(token, b')') {
+    if is_symbol(token, b) {
         return Ok(next);
     }
     Err(fault(token))
 }
 
-// After Acceptance: 1 Inf( the set 0, and on.
+// After Acceptance: 1 Inf( the set 0 and the closing bracket.
 fn set_on(text: &[u8], at: usize) -> Result<usize, Refusal>
     ensures { StepSays text.now wants_set accepted at result }
 {
@@ -99,7 +99,7 @@ fn set_on(text: &[u8], at: usize) -> Result<usize, Refusal>
     match token {
         Token::Number(v) => {
             if v == 0 {
-                return close_on(text, next);
+                return sign_at(text, next, b')');
             }
             Err(Refusal::NotTaken)
         }
@@ -112,18 +112,7 @@ fn set_on(text: &[u8], at: usize) -> Result<usize, Refusal>
     }
 }
 
-// After Acceptance: 1 Inf the opening bracket, and on.
-fn open_on(text: &[u8], at: usize) -> Result<usize, Refusal>
-    ensures { StepSays text.now wants_open accepted at result }
-{
-    let Seen { token, next } = claim_token(text, at);
-    if is_symbol(token, b'(') {
-        return set_on(text, next);
-    }
-    Err(fault(token))
-}
-
-// After Acceptance: 1 the name Inf, and on.
+// After Acceptance: 1 the name Inf, the opening bracket, and on.
 fn inf_on(text: &[u8], at: usize) -> Result<usize, Refusal>
     ensures { StepSays text.now wants_inf accepted at result }
 {
@@ -131,7 +120,7 @@ fn inf_on(text: &[u8], at: usize) -> Result<usize, Refusal>
     match token {
         Token::Name(a, e) => {
             if word(text, a, e, b"Inf") {
-                return open_on(text, next);
+                return set_on(text, sign_at(text, next, b'(')?);
             }
             Err(Refusal::NotTaken)
         }
@@ -239,10 +228,7 @@ fn is_passed(text: &[u8], t: Token) -> bool
 {
     match t {
         Token::Name(_, _) | Token::Number(_) | Token::Text(_, _) => true,
-        Token::Header(a, e) => {
-            let b = first_byte(text, a, e);
-            (b'a' <= b) & (b <= b'z')
-        }
+        Token::Header(a, e) => first_byte(text, a, e).is_ascii_lowercase(),
         _ => false,
     }
 }
@@ -265,7 +251,7 @@ fn skipped_end(text: &[u8], at: usize) -> usize
 fn no_kind(b: u8) -> Refusal
     ensures { result ≡ no_kind b }
 {
-    if (b'A' <= b) & (b <= b'Z') {
+    if b.is_ascii_uppercase() {
         Refusal::NotTaken
     } else {
         Refusal::ClaimGrammar
@@ -277,7 +263,7 @@ fn kind_of(text: &[u8], a: usize, e: usize) -> Result<Kind, Refusal>
     ensures { result ≡ kind_of (part text.now a e) }
 {
     let b = first_byte(text, a, e);
-    if (b'a' <= b) & (b <= b'z') {
+    if b.is_ascii_lowercase() {
         return Ok(Kind::Skipped);
     }
     if word(text, a, e, b"HOA") {

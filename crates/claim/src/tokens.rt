@@ -3,7 +3,7 @@ ghost use Rattle.std.specs.Prelude.{◌≡◌, true, false, [], ◌+◌, ◌-◌
 ghost use Rattle.text.specs.Lines.{equal};
 ghost use Rattle.text.specs.Numbers.{is_digit};
 ghost use Rattle.model.specs.ClaimTokens.{longest_claim, is_blank, is_letter, is_name_byte, is_symbol, at_sign, slash, in_name, in_number, in_string, in_mark};
-ghost use Rattle.claim.specs.Reads.{part, lexed, tokens_at, claim_tokens, byte_of, LoneDigit, LoneLetter, BlanksEnd, NameEnd, Sees, is_symbol_of, fault_of};
+ghost use Rattle.claim.specs.Reads.{part, lexed, tokens_at, claim_tokens, byte_of, LoneDigit, LoneLetter, BlanksEnd, NameEnd, Sees, is_symbol_of, fault_of, pair_of};
 
 use crate::Counts;
 use model::Refusal;
@@ -215,24 +215,24 @@ fn mark_from(text: &[u8], at: usize, limit: usize) -> Seen
     }
 }
 
+// A sign and the byte after it, at `next`, once that is looked at: the token, if it fits.
+fn paired(next: usize, fits: bool, token: Token) -> Seen
+    ensures { result ≡ pair_of next fits token }
+{
+    Seen {
+        token: if fits { token } else { Token::Stray },
+        next,
+    }
+}
+
 // The alias whose @ is at `at`.
 fn alias_from(text: &[u8], at: usize, limit: usize) -> Seen
     requires { at < length text.now }
     ensures { Sees text.now limit at (lexed text.now limit at_sign (at + 1)) result }
 {
     let e = at + 1;
-    if e < limit.min(text.len()) {
-        if name_byte(text[e]) {
-            return Seen {
-                token: Token::Alias,
-                next: e,
-            };
-        }
-    }
-    Seen {
-        token: Token::Stray,
-        next: e,
-    }
+    let fits = (e < limit.min(text.len())) && name_byte(text[e]);
+    paired(e, fits, Token::Alias)
 }
 
 // The comment whose slash is at `at`.
@@ -241,18 +241,8 @@ fn comment_from(text: &[u8], at: usize, limit: usize) -> Seen
     ensures { Sees text.now limit at (lexed text.now limit slash (at + 1)) result }
 {
     let e = at + 1;
-    if e < limit.min(text.len()) {
-        if text[e] == b'*' {
-            return Seen {
-                token: Token::Comment,
-                next: e,
-            };
-        }
-    }
-    Seen {
-        token: Token::Stray,
-        next: e,
-    }
+    let fits = (e < limit.min(text.len())) && (text[e] == b'*');
+    paired(e, fits, Token::Comment)
 }
 
 // The token that begins with the byte at `at`, which is no blank.

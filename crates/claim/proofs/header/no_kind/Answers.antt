@@ -1,12 +1,12 @@
 -- `header::no_kind` meets its contract. Assumes nothing.
-use mathlib.Core.Path.{sym}
+use mathlib.Core.Path.{sym, ◌∙◌}
 use Rattle.model.specs.ClaimTokens.{is_capital}
 use Rattle.claim.proofs.header.no_kind.Goals as goal
 
-pub returns-then-b : goal.returns-then-b
+pub returns-then-is_ascii_uppercase : goal.returns-then-is_ascii_uppercase
 unfolding is_capital
-returns-then-b c = sym (rw c.if-b.true)
+returns-then-is_ascii_uppercase c = sym (rw (sym c.is_ascii_uppercase.ensures.value ∙ c.if-is_ascii_uppercase.true))
 
-pub returns-else-b : goal.returns-else-b
+pub returns-else-is_ascii_uppercase : goal.returns-else-is_ascii_uppercase
 unfolding is_capital
-returns-else-b c = sym (rw c.if-b.false)
+returns-else-is_ascii_uppercase c = sym (rw (sym c.is_ascii_uppercase.ensures.value ∙ c.if-is_ascii_uppercase.false))

@@ -1,11 +1,11 @@
 -- `header::set_on` meets its contract. Assumes nothing.
 use mathlib.Core.Path.{sym, ◌∙◌}
-use Rattle.claim.proofs.HeaderCode.{set_is, set_other, set_negated, set_not}
+use Rattle.claim.proofs.HeaderCode.{closes, set_is, set_other, set_negated, set_not}
 use borrow.Enum.Refused.{opened}
 use Rattle.claim.proofs.header.set_on.Goals as goal
 
 pub returns-then-v-eq0 : goal.returns-then-v-eq0
-returns-then-v-eq0 c = set_is c.claim_token-token.ensures _ c.in-Number.is c.if-v-eq0.true c.close_on.result c.close_on.ensures
+returns-then-v-eq0 c = set_is c.claim_token-token.ensures _ c.in-Number.is c.if-v-eq0.true _ (closes _ _ _ c.sign_at.ensures)
 
 pub returns-then-is_symbol : goal.returns-then-is_symbol
 returns-then-is_symbol c = set_negated c.claim_token-token.ensures (sym c.is_symbol.ensures ∙ c.if-is_symbol.true)

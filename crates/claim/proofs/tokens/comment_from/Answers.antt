@@ -1,13 +1,14 @@
 -- `tokens::comment_from` meets its contract. Assumes nothing.
-use Rattle.claim.proofs.Lexing.{comment_is, comment_not, comment_torn}
+use mathlib.Core.Path.{refl, ◌∙◌}
+use borrow.Author.Tests.{le-ltb}
 use native.Mathlib.Omega.{arith}
+use Rattle.claim.proofs.Lexing.{comment_by, comment_torn}
 use Rattle.claim.proofs.tokens.comment_from.Goals as goal
+use Rattle.claim.proofs.tokens.comment_from.Goals.{then-e-min, else-e-min}
 
-pub returns-then-text-e-eq42 : goal.returns-then-text-e-eq42
-returns-then-text-e-eq42 c = comment_is _ _ _ _ (omega arith) c.if-text-e-eq42.true
-
-pub returns-else-text-e-eq42 : goal.returns-else-text-e-eq42
-returns-else-text-e-eq42 c = comment_not _ _ _ _ (omega arith) c.if-text-e-eq42.false
-
-pub returns-else-e-min : goal.returns-else-e-min
-returns-else-e-min c = comment_torn _ _ _ _ (omega arith)
+pub returns : goal.returns
+returns c =
+    rw c.paired.ensures (elim c.if-e-min.branch [
+      | then-e-min w ↦ rw w.fits-is (comment_by _ _ _ _ (omega (arith, w.if-e-min)) _ refl)
+      | else-e-min w ↦ rw (w.fits-is ∙ le-ltb _ _ w.if-e-min.false) (comment_torn _ _ _ _ (omega (arith, w.if-e-min)))
+    ])
