@@ -116,6 +116,8 @@ fn begin(text: &[u8], acts: &[u32], output: usize, work: &mut [i32]) -> Result<B
     })
 }
 
+// The steps between `begin` and `finish` are no closure: clauses over its calls are longer than the lines that it would save.
+
 // Runs a case by a list of acts: refusals 1 to 9 and 11, then the run, then 10.
 pub fn run_list(case: &[u8], acts: &[u32], output: &mut [u8], work: &mut [i32]) -> Outcome
     ensures { ListSays case.now acts.now result output.old output.new work.old work.new }
