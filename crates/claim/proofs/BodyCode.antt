@@ -21,6 +21,7 @@ use Rattle.model.specs.ClaimGrammar.{Item, State, most_states, title_fits}
 use Rattle.model.specs.ClaimTable.{numbered, titled, marked, bare, line_at, Place, in_line, in_marks, Next, go, fault, is_sign, on_string, snoc, edge_step, marks_step, part_step, step, ended, told, refused}
 use Rattle.model.specs.Claim.{is_marked}
 use Rattle.model.specs.ClaimEntry.{mark_of}
+use Rattle.std.specs.Prelude.{Some}
 use Rattle.claim.specs.Reads.{part, claim_tokens, spelt, starts, is_symbol_of, fault_of, BlanksEnd, byte_of, Quoted, Sees, Onward}
 use Rattle.claim.specs.Cells.{name_cell, length_cell, lead_cell, move_cell, claim_cells, LineHeld, Adds}
 use Rattle.claim.specs.BodySays.{from_step, TitleSays, MarksSay, MarkSays}
@@ -223,18 +224,18 @@ module _ (is : List Item) (ls : List State) (c : ℕ) (o : Option (List ℕ)) wh
   no_mark_on (t ∷ ts) e = rw e refl
 
 module _ {s : List ℕ} {at here : ℕ} (n : BlanksEnd s T.longest_claim at here) (c : ℕ) where
-  pub mark_none : (byte_of s here ≡ mark_byte → ⊥) → (w : List ℕ) → MarkSays s c at (Ok here) w w
+  pub mark_none : (byte_of s here ≡ Some mark_byte → ⊥) → (w : List ℕ) → MarkSays s c at (Ok here) w w
   mark_none e w = (none, λ is ls o. ap (λ (ts : List T.Token). from_step (marks_step is ls c o) ts) n.same ∙ no_mark_on is ls c o _ (sign_not s here mark_byte n.stops e), λ o. adds_nothing s c (bare c o none) w, over_blanks n)
 
   -- past its {
   abbrev inner : ℕ
   inner = here + 1
 
-  mark_opens : byte_of s here ≡ mark_byte → (is : List Item) (ls : List State) (o : Option (List ℕ)) → from_step (marks_step is ls c o) (claim_tokens s at) ≡ told (go (in_marks is ls c o [])) (claim_tokens s inner)
+  mark_opens : byte_of s here ≡ Some mark_byte → (is : List Item) (ls : List State) (o : Option (List ℕ)) → from_step (marks_step is ls c o) (claim_tokens s at) ≡ told (go (in_marks is ls c o [])) (claim_tokens s inner)
   mark_opens e is ls o = ap (λ (ts : List T.Token). from_step (marks_step is ls c o) ts) (n.same ∙ sign_is s here mark_byte mark_sign e) ∙ open_mark_on is ls c o _
 
-  pub mark_broken : byte_of s here ≡ mark_byte → (j : Refusal) → MarksSay s inner (Err j) → MarkSays s c at (Err j) [] []
+  pub mark_broken : byte_of s here ≡ Some mark_byte → (j : Refusal) → MarksSay s inner (Err j) → MarkSays s c at (Err j) [] []
   mark_broken e j a is ls o = mark_opens e is ls o ∙ a is ls c o
 
-  pub mark_read : byte_of s here ≡ mark_byte → (any : Bool) (z : ℕ) → MarksSay s inner (Ok (any, z)) → c < most_states → (w : List ℕ) → claim_cells ≤ length w → MarkSays s c at (Ok z) w (set w c (bool_byte any))
+  pub mark_read : byte_of s here ≡ Some mark_byte → (any : Bool) (z : ℕ) → MarksSay s inner (Ok (any, z)) → c < most_states → (w : List ℕ) → claim_cells ≤ length w → MarkSays s c at (Ok z) w (set w c (bool_byte any))
   mark_read e any z (ms, p, b, past) hc w room = (some ms, λ is ls o. mark_opens e is ls o ∙ (b is ls c o ∙ marked_on is ls c o ms _), λ o. marked_adds s c w hc room any ms p o, onward (over_blanks n) (onward (onto (sign_past s here mark_byte mark_sign e)) past))

@@ -14,6 +14,7 @@ use Rattle.model.specs.ClaimLabels.{label_byte, mark_byte, or_level, Label, bit,
 use Rattle.model.specs.ClaimGrammar.{Item, Edge, State, count_in, propositions_in, most_states}
 use Rattle.model.specs.ClaimTable.{Line, in_lines, in_line, in_label, wants_target, edged, line_at, snoc, with_edge, Next, go, fault, is_sign, line_step, edge_step, part_step, from_label, step, ended, told, refused}
 use Rattle.model.proofs.ClaimComplete.{finish, through_label}
+use Rattle.std.specs.Prelude.{Some}
 use Rattle.claim.specs.Reads.{claim_tokens, starts, BlanksEnd, PastBlanks, byte_of, LabelSays, Ahead, Onward}
 use Rattle.claim.specs.LabelSays.{holds, nothing}
 use Rattle.claim.specs.HeaderSays.{WantsNumber, NumberSays}
@@ -94,10 +95,10 @@ module _ (s : List ℕ) (n k at : ℕ) (w v : List Values) where
         past_target : (is : List Item) (ls : List State) (l : State) → d < n → count_in is ≡ n → propositions_in is ≡ k → told (go (in_label (line_at is ls l) label_start)) (claim_tokens s at) ≡ told (go (in_line is ls (edged (with_edge l (record { label = label_there.0; to = d }))))) (claim_tokens s z)
         past_target is ls l h en ek = near is ls l h en ek ∙ ap (λ (ts : List T.Token). told (go (in_line is ls (edged (with_edge l (record { label = label_there.0; to = d }))))) ts) b.same
 
-        pub edge_marked : d < n → byte_of s z ≡ mark_byte → EdgeSays s n k at (Err NotTaken) w v
+        pub edge_marked : d < n → byte_of s z ≡ Some mark_byte → EdgeSays s n k at (Err NotTaken) w v
         edge_marked h m is ls l en ek = past_target is ls l h en ek ∙ (ap (λ (ts : List T.Token). told (go (in_line is ls (edged (with_edge l (record { label = label_there.0; to = d }))))) ts) (sign_is s z mark_byte mark_sign m) ∙ edged_marked is ls _ _)
 
-        pub edge_taken : d < n → (byte_of s z ≡ mark_byte → ⊥) → Gathered d set w v → EdgeSays s n k at (Ok (d, z)) w v
+        pub edge_taken : d < n → (byte_of s z ≡ Some mark_byte → ⊥) → Gathered d set w v → EdgeSays s n k at (Ok (d, z)) w v
         edge_taken h m g = (
           record { label = label_there.0; to = d },
           refl,
@@ -146,10 +147,10 @@ edges_begun s n k at here b =
     }
 
 module _ {s : List ℕ} {n k at : ℕ} {sets : List Values} {leads here : ℕ} (f : EdgesSoFar s n k at sets leads here) where
-  pub edges_done : (c : ℕ) (w v : List ℕ) → (byte_of s here ≡ label_byte → ⊥) → c < most_states → Led c leads sets w v → EdgesSay s n k c at (Ok here) w v
+  pub edges_done : (c : ℕ) (w v : List ℕ) → (byte_of s here ≡ Some label_byte → ⊥) → c < most_states → Led c leads sets w v → EdgesSay s n k c at (Ok here) w v
   edges_done c w v e hc m = (f.so_far, λ is ls l en ek. f.goes is ls l en ek ∙ not_labelled is ls _ _ (sign_not s here label_byte f.stops e), λ l q. edges_add m hc s f.so_far l f.in_sets q, f.onward)
 
-  module _ (e : byte_of s here ≡ label_byte) (u : List Values) where
+  module _ (e : byte_of s here ≡ Some label_byte) (u : List Values) where
     through : (is : List Item) (ls : List State) (l : State) → count_in is ≡ n → propositions_in is ≡ k → from_step (edge_step (line_at is ls l)) (claim_tokens s at) ≡ told (go (in_label (line_at is ls (with_edges l f.so_far)) label_start)) (claim_tokens s (here + 1))
     through is ls l en ek = f.goes is ls l en ek ∙ (ap (λ (ts : List T.Token). from_step (edge_step (line_at is ls (with_edges l f.so_far))) ts) (sign_is s here label_byte label_sign e) ∙ is_labelled is ls _ _)
 

@@ -16,6 +16,7 @@ use Rattle.text.specs.Lines.{equal}
 use Rattle.model.specs.ClaimLabels.{not_byte, and_byte, or_byte, open_byte, close_byte, end_label_byte, or_level, and_level, atom, Label, always, never, proposition, term, either, deepest, Under, Reading, due, stands, LabelNext, on, broken, depth_of, with_atom, deeper, on_name, atom_step, close_step, operator_step, label_step, label_told, label_is, no_label, label_start, whole_or}
 use Rattle.model.specs.ClaimTable.{is_sign}
 use Rattle.claim.specs.LabelSays.{TruthOf, everything, nothing, intersection_of, union_of, Read, Got, No, AtomSays, AndSays, OrSays}
+use Rattle.std.specs.Prelude.{Some}
 use Rattle.claim.specs.Reads.{part, claim_tokens, byte_of, PastBlanks, Sign, Stands, BlanksEnd, spelt, Sees, Ahead, starts, first_fault, AtomRead, AndRead, OrRead, negated_of, Closed, LabelSays, constant_if, PropositionRead, no_atom_of}
 use Rattle.claim.specs.declared.tokens.Token.{Token}
 use Rattle.claim.specs.declared.tokens.Token.TheVariants.{Name, Header, Number, Text, Symbol, Body, End, Alias, Comment, Stray, Done}
@@ -165,10 +166,10 @@ module _ {s : List ℕ} {at : ℕ} {r : Seen} (n : Sees s T.longest_claim at (cl
 
 -- BRACKETS
 module _ (s : List ℕ) (k d here : ℕ) where
-  opened_as : (R : Read) → byte_of s here ≡ open_byte → AtomSays k d (T.symbol open_byte ∷ claim_tokens s (here + 1)) R → AtomSays k d (claim_tokens s here) R
+  opened_as : (R : Read) → byte_of s here ≡ Some open_byte → AtomSays k d (T.symbol open_byte ∷ claim_tokens s (here + 1)) R → AtomSays k d (claim_tokens s here) R
   opened_as R e a = subst (λ (y : List T.Token). AtomSays k d y R) (sym (sign_is s here open_byte open_sign e)) a
 
-  pub atom_closed : byte_of s here ≡ open_byte → d < deepest → (l m : Parsed Values) → OrRead s k (d + 1) (here + 1) l → Closed s close_byte l m → AtomRead s k d here m
+  pub atom_closed : byte_of s here ≡ Some open_byte → d < deepest → (l m : Parsed Values) → OrRead s k (d + 1) (here + 1) l → Closed s close_byte l m → AtomRead s k d here m
   atom_closed e h (Err j) m a c = subst (λ (y : Parsed Values). AtomRead s k d here y) (sym c) (opened_as (No (number j)) e (atom_bracket_fault k d _ (number j) h (rw (add-one d) at a)))
   atom_closed e h (Ok (v, z)) (Ok (w, y)) (o, past, stop, a, p) (u, t, past', stop') = (
     opened_as (Got w (claim_tokens s y)) e (subst (λ (x : Values). AtomSays k d (T.symbol open_byte ∷ claim_tokens s (here + 1)) (Got x (claim_tokens s y))) (sym u) (atom_bracket k d _ _ v h (bracketed o))),
@@ -183,7 +184,7 @@ module _ (s : List ℕ) (k d here : ℕ) where
       opened_as (No (number j)) e (subst (λ (i : ℕ). AtomSays k d (T.symbol open_byte ∷ claim_tokens s (here + 1)) (No i)) (sym f) (atom_open k d _ _ v h (rw (add-one d) at o) a p t))
 
   -- a negation or a bracket that is one too many
-  pub too_deep : (b : ℕ) → Sign b → byte_of s here ≡ b → deepest ≤ d → AtomRead s k d here (Err ClaimGrammar)
+  pub too_deep : (b : ℕ) → Sign b → byte_of s here ≡ Some b → deepest ≤ d → AtomRead s k d here (Err ClaimGrammar)
   too_deep b y e h = subst (λ (ts : List T.Token). AtomSays k d ts (No 15)) (sym (sign_is s here b y e)) (no_leaf k d _ _ 15 (λ us u q. deep_step k b us u (omega (arith, h, q))))
 
 -- NEGATIONS: what stands past those that are read gives the whole
@@ -206,7 +207,7 @@ module _ {s : List ℕ} {k d at here down : ℕ} {odd : Bool} (n : NotsSoFar s k
   again true R a = atom_twice k d _ R a
   again false R a = a
 
-  pub nots_more : {e : ℕ} → byte_of s here ≡ not_byte → down < deepest → BlanksEnd s T.longest_claim (here + 1) e → NotsSoFar s k d at e (down + 1) (not odd)
+  pub nots_more : {e : ℕ} → byte_of s here ≡ Some not_byte → down < deepest → BlanksEnd s T.longest_claim (here + 1) e → NotsSoFar s k d at e (down + 1) (not odd)
   nots_more q h b =
       record {
         carries = λ R a. again odd R (n.carries (flipped R) (subst (λ (ts : List T.Token). AtomSays k down ts (flipped R)) (sym (sign_is s here not_byte not_sign q)) (atom_not k down _ R h (subst (λ (ts : List T.Token). AtomSays k (suc down) ts R) (sym b.same) (rw (add-one down) at a)))));
@@ -224,7 +225,7 @@ module _ {s : List ℕ} {k d at here down : ℕ} {odd : Bool} (n : NotsSoFar s k
       go true c (Err j) a = c (No (number j)) a
       go false c (Err j) a = c (No (number j)) a
 
-  pub nots_deep : (b : ℕ) → Sign b → byte_of s here ≡ b → deepest ≤ down → AtomRead s k d at (Err ClaimGrammar)
+  pub nots_deep : (b : ℕ) → Sign b → byte_of s here ≡ Some b → deepest ≤ down → AtomRead s k d at (Err ClaimGrammar)
   nots_deep b y q h = go odd (n.carries (No 15) (too_deep s k down here b y q h))
     where
       go : (odd : Bool) → AtomSays k d (claim_tokens s at) (negated_read odd (No 15)) → AtomSays k d (claim_tokens s at) (No 15)
@@ -258,15 +259,15 @@ module _ {s : List ℕ} (k : ℕ) {d at : ℕ} {v : Values} {here : ℕ} (n : An
     joined : AndSays k d (claim_tokens s at) (Got m (claim_tokens s e))
     joined = rw p (n.more w _ atom_there.0)
 
-    pub and_ended : (byte_of s e ≡ and_byte → ⊥) → AndRead s k d at (Ok (m, e))
+    pub and_ended : (byte_of s e ≡ Some and_byte → ⊥) → AndRead s k d at (Ok (m, e))
     and_ended b = (joined, from_ahead n.past atom_there.1, atom_there.2, sign_not s e and_byte atom_there.2 b)
 
-    pub and_again : byte_of s e ≡ and_byte → AndDue s k d at m (e + 1)
+    pub and_again : byte_of s e ≡ Some and_byte → AndDue s k d at m (e + 1)
     and_again b =
         let j = subst (λ (ts : List T.Token). AndSays k d (claim_tokens s at) (Got m ts)) (sign_is s e and_byte and_sign b) joined in
         record { more = λ x y z. and_more k d _ _ m x y j z; fault = λ i z. and_fault k d _ _ m i j z; past = omega (arith, n.past, atom_there.1.more) }
 
-    pub and_ahead : byte_of s e ≡ and_byte → Ahead s here (e + 1)
+    pub and_ahead : byte_of s e ≡ Some and_byte → Ahead s here (e + 1)
     and_ahead b = ahead atom_there.1 (sign_past s e and_byte and_sign b)
 
 module _ {s : List ℕ} (k : ℕ) {d at : ℕ} {v : Values} {here : ℕ} (n : OrDue s k d at v here) where
@@ -277,15 +278,15 @@ module _ {s : List ℕ} (k : ℕ) {d at : ℕ} {v : Values} {here : ℕ} (n : Or
     parted : OrSays k d (claim_tokens s at) (Got m (claim_tokens s e))
     parted = rw p (n.more w _ term_there.0)
 
-    pub or_ended : (byte_of s e ≡ or_byte → ⊥) → OrRead s k d at (Ok (m, e))
+    pub or_ended : (byte_of s e ≡ Some or_byte → ⊥) → OrRead s k d at (Ok (m, e))
     or_ended b = (parted, from_ahead n.past term_there.1, term_there.2, term_there.3, sign_not s e or_byte term_there.2 b)
 
-    pub or_again : byte_of s e ≡ or_byte → OrDue s k d at m (e + 1)
+    pub or_again : byte_of s e ≡ Some or_byte → OrDue s k d at m (e + 1)
     or_again b =
         let j = subst (λ (ts : List T.Token). OrSays k d (claim_tokens s at) (Got m ts)) (sign_is s e or_byte or_sign b) parted in
         record { more = λ x y z. or_more k d _ _ m x y j z; fault = λ i z. or_fault k d _ _ m i j z; past = omega (arith, n.past, term_there.1.more) }
 
-    pub or_ahead : byte_of s e ≡ or_byte → Ahead s here (e + 1)
+    pub or_ahead : byte_of s e ≡ Some or_byte → Ahead s here (e + 1)
     or_ahead b = ahead term_there.1 (sign_past s e or_byte or_sign b)
 
 -- THE WHOLE LABEL

@@ -6,6 +6,7 @@ use Prim.Native.Nat.{ℕ, ◌+◌}
 use borrow.Author.Tests.{eqb-true}
 use Rattle.model.specs.ClaimTokens as T
 use Rattle.model.specs.ClaimTable.{is_sign}
+use Rattle.std.specs.Prelude.{Some}
 use Rattle.claim.specs.Reads.{tokens_at, claim_tokens, spelt, reads_on, Bounds, byte_of, Sign, BlanksEnd, Sees, Ahead, is_symbol_of, fault_of, starts, first_fault, Closed}
 use Rattle.claim.specs.declared.tokens.Token.{Token}
 use Rattle.claim.specs.declared.tokens.Token.TheVariants.{Name, Header, Number, Text, Symbol, Body, End, Alias, Comment, Stray, Done}
@@ -87,8 +88,8 @@ module _ {s : List ℕ} {limit at : ℕ} {ts : List T.Token} {r : Seen} (n : See
 
 -- BRACKETS
 module _ (s : List ℕ) (b : ℕ) (w : Values) (e : ℕ) where
-  pub closed_is : Sign b → byte_of s e ≡ b → {z : ℕ} → BlanksEnd s T.longest_claim (e + 1) z → Closed s b (Ok (w, e)) (Ok (w, z))
+  pub closed_is : Sign b → byte_of s e ≡ Some b → {z : ℕ} → BlanksEnd s T.longest_claim (e + 1) z → Closed s b (Ok (w, e)) (Ok (w, z))
   closed_is y p n = (refl, sign_is s e b y p ∙ ap (λ (ts : List T.Token). T.symbol b ∷ ts) n.same, ahead_onward (sign_past s e b y p) (over_blanks n), n.stops)
 
-  pub closed_not : (byte_of s e ≡ b → ⊥) → {r : Seen} → Sees s T.longest_claim e (claim_tokens s e) r → (j : Refusal) → j ≡ fault_of r.token → Closed s b (Ok (w, e)) (Err j)
+  pub closed_not : (byte_of s e ≡ Some b → ⊥) → {r : Seen} → Sees s T.longest_claim e (claim_tokens s e) r → (j : Refusal) → j ≡ fault_of r.token → Closed s b (Ok (w, e)) (Err j)
   closed_not p n j f h = (sign_not s e b h p, ap number f ∙ fault_as n)

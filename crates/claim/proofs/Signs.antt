@@ -1,13 +1,13 @@
 -- Tokens of one byte, told without the reader of tokens: where no blank stands, the tokens begin with a sign exactly if the byte
 -- is its; a digit or a letter is alone where the byte after it does not go on with it. Assumes nothing.
 use mathlib.Core.Path.{◌≡◌, refl, sym, ap, subst, ◌∙◌}
-use mathlib.Core.Bool.{Bool, true, false, ◌||◌, cond, and-false}
+use mathlib.Core.Bool.{Bool, true, false, not, ◌||◌, cond, and-false}
 use mathlib.Core.List.{List, [], ◌∷◌, ◌++◌}
 use Prim.Native.Nat.{ℕ, zero, suc, ◌+◌, ◌*◌, ◌-◌, ◌<◌, ◌≤◌, min}
 use native.Mathlib.Omega.{arith}
 use lib.Dec.{ltb, leb, eqb}
 use lib.ListN.{length, get_or, drop}
-use borrow.Author.Tests.{lt-leb, ltb-true, ltb-false, lt-ltb, ne_eqb}
+use borrow.Author.Tests.{lt-leb, ltb-true, ltb-false, lt-ltb, ne_eqb, eqb-true, eqb-false}
 use Rattle.text.specs.Numbers.{is_digit}
 use Rattle.text.specs.Ascii.{ascii, minus, digit_0}
 use Rattle.text.proofs.Tests.{clash, Same, same, other, same?}
@@ -18,7 +18,10 @@ use Rattle.model.specs.ClaimLabels.{not_byte, and_byte, or_byte, open_byte, clos
 use Rattle.model.specs.ClaimTable.{is_sign}
 use Rattle.claim.proofs.Lexing.{lexed_by, lexed_before, lexed_cut, tokens_end, digit_low, begin_digit, digit_stops, begin_letter, name_stops}
 use lib.Seq.{drop-cons}
-use Rattle.std.specs.Prelude.{Some}
+use Rattle.std.proofs.lemmas.Option.{none-some, same_Some}
+use Rattle.std.specs.Option.{option_eq}
+use Rattle.std.proofs.Common.{nat_eq}
+use Rattle.std.specs.Prelude.{Option, Some, None}
 use Rattle.claim.specs.Reads.{claim_tokens, byte_of, PastBlanks, Sign, LoneDigit, LoneLetter, Stands, Ahead, starts}
 
 -- inside a token other than a sign
@@ -158,9 +161,6 @@ begins_sign : (b : ℕ) → Sign b → byte between b ≡ ends (symbol b)
 unfolding byte begin is_blank is_letter is_capital is_small is_digit is_symbol member
 begins_sign = on_signs (λ (b : ℕ). byte between b ≡ ends (symbol b)) refl refl refl refl refl refl refl refl refl
 
-sign_some : (b : ℕ) → Sign b → 0 < b
-sign_some = on_signs (λ (b : ℕ). 0 < b) (omega arith) (omega arith) (omega arith) (omega arith) (omega arith) (omega arith) (omega arith) (omega arith) (omega arith)
-
 -- ! & ( ) [ ] { |
 pub not_sign : Sign not_byte
 unfolding is_symbol member
@@ -194,30 +194,53 @@ pub or_sign : Sign or_byte
 unfolding is_symbol member
 or_sign = refl
 
-module _ (s : List ℕ) (e : ℕ) where
-  -- where the byte is not 0, it is looked at
-  pub byte_inside : (b : ℕ) → byte_of s e ≡ b → (b ≡ 0 → ⊥) → (e < length s) × (e < longest_claim) × (get_or s e 0 ≡ b)
-  unfolding byte_of
-  byte_inside b q n = go (ltb e (min longest_claim (length s))) refl q
-    where
-      go : (p : Bool) → ltb e (min longest_claim (length s)) ≡ p → cond p (get_or s e 0) 0 ≡ b → (e < length s) × (e < longest_claim) × (get_or s e 0 ≡ b)
-      go true p q = let h = ltb-true e (min longest_claim (length s)) p in (omega (arith, h), omega (arith, h), q)
-      go false p q = absurd (n (sym q))
+-- what a test for a byte says of the byte that it looks at
+same_byte : (o : Option ℕ) (b : ℕ) → option_eq nat_eq o (Some b) ≡ true → o ≡ Some b
+same_byte (Some x) b q = ap Some (eqb-true x b q)
+same_byte None b q = clash false q refl
 
-  pub sign_inside : (b : ℕ) → Sign b → byte_of s e ≡ b → (e < length s) × (e < longest_claim) × (get_or s e 0 ≡ b)
-  sign_inside b y q = byte_inside b q (λ z. omega (arith, z, sign_some b y))
+other_byte : (o : Option ℕ) (b : ℕ) → option_eq nat_eq o (Some b) ≡ false → o ≡ Some b → ⊥
+other_byte (Some x) b q e = eqb-false x b q (same_Some _ _ e)
+other_byte None b q e = none-some _ e
+
+turned : (x y : Bool) → not x ≡ y → x ≡ not y
+turned true y q = ap not q
+turned false y q = ap not q
+
+module _ {o u : Option ℕ} (b : ℕ) (is : o ≡ u) where
+  pub byte_seen : option_eq nat_eq o (Some b) ≡ true → u ≡ Some b
+  byte_seen q = sym is ∙ same_byte o b q
+
+  pub byte_unseen : option_eq nat_eq o (Some b) ≡ false → u ≡ Some b → ⊥
+  byte_unseen q e = other_byte o b q (is ∙ e)
+
+  pub byte_equal : not (option_eq nat_eq o (Some b)) ≡ false → u ≡ Some b
+  byte_equal q = byte_seen (turned _ _ q)
+
+  pub byte_unequal : not (option_eq nat_eq o (Some b)) ≡ true → u ≡ Some b → ⊥
+  byte_unequal q = byte_unseen (turned _ _ q)
+
+module _ (s : List ℕ) (e : ℕ) where
+  -- a byte is looked at
+  pub byte_inside : (b : ℕ) → byte_of s e ≡ Some b → (e < length s) × (e < longest_claim) × (get_or s e 0 ≡ b)
+  unfolding byte_of
+  byte_inside b q = go (ltb e (min longest_claim (length s))) refl q
+    where
+      go : (p : Bool) → ltb e (min longest_claim (length s)) ≡ p → cond p (Some (get_or s e 0)) None ≡ Some b → (e < length s) × (e < longest_claim) × (get_or s e 0 ≡ b)
+      go true p q = let h = ltb-true e (min longest_claim (length s)) p in (omega (arith, h), omega (arith, h), same_Some _ _ q)
+      go false p q = absurd (none-some _ q)
 
   -- the tokens begin with the sign whose byte stands there
-  pub sign_is : (b : ℕ) → Sign b → byte_of s e ≡ b → claim_tokens s e ≡ symbol b ∷ claim_tokens s (e + 1)
+  pub sign_is : (b : ℕ) → Sign b → byte_of s e ≡ Some b → claim_tokens s e ≡ symbol b ∷ claim_tokens s (e + 1)
   sign_is b y q =
-      let (h, g, r) = sign_inside b y q in
+      let (h, g, r) = byte_inside b q in
       lexed_by s longest_claim between e _ (ap (byte between) r ∙ begins_sign b y) h g
 
-  pub sign_past : (b : ℕ) → Sign b → byte_of s e ≡ b → Ahead s e (e + 1)
-  sign_past b y q = let h = sign_inside b y q in record { more = omega arith; inside = omega (arith, h.0) }
+  pub sign_past : (b : ℕ) → Sign b → byte_of s e ≡ Some b → Ahead s e (e + 1)
+  sign_past b y q = let h = byte_inside b q in record { more = omega arith; inside = omega (arith, h.0) }
 
   -- and with no other
-  pub sign_not : (b : ℕ) → PastBlanks s e → (byte_of s e ≡ b → ⊥) → starts b (claim_tokens s e) ≡ false
+  pub sign_not : (b : ℕ) → PastBlanks s e → (byte_of s e ≡ Some b → ⊥) → starts b (claim_tokens s e) ≡ false
   unfolding starts is_sign byte_of
   sign_not b p n = go (ltb e (length s)) refl (ltb e longest_claim) refl
     where
@@ -227,15 +250,15 @@ module _ (s : List ℕ) (e : ℕ) where
       go true x true y =
           let h = ltb-true e (length s) x in
           let g = ltb-true e longest_claim y in
-          let here : byte_of s e ≡ get_or s e 0 = ap (λ (z : Bool). cond z (get_or s e 0) 0) (lt-ltb e (min longest_claim (length s)) (omega (arith, h, g))) in
-          ap (λ (ts : List ℕ). starts b (lex (longest_claim - e) between ts)) (drop-cons s e 0 h) ∙ no_sign_from b (longest_claim - e) (get_or s e 0) (drop (suc e) s) (p h g) (λ q. n (here ∙ q))
+          let here : byte_of s e ≡ Some (get_or s e 0) = ap (λ (z : Bool). cond z (Some (get_or s e 0)) None) (lt-ltb e (min longest_claim (length s)) (omega (arith, h, g))) in
+          ap (λ (ts : List ℕ). starts b (lex (longest_claim - e) between ts)) (drop-cons s e 0 h) ∙ no_sign_from b (longest_claim - e) (get_or s e 0) (drop (suc e) s) (p h g) (λ q. n (here ∙ ap Some q))
 
 -- ONE BYTE that is a token, told by the byte after it
-module _ (s : List ℕ) (e : ℕ) (some : byte_of s e ≡ 0 → ⊥) (more : byte_of s (e + 1) ≡ 0 → ⊥) where
-  pub alone : (m : Mode) (t : Token) → byte between (byte_of s e) ≡ goes_on m → byte m (byte_of s (e + 1)) ≡ after t (begin (byte_of s (e + 1))) → Stands s e t (e + 1)
+module _ (s : List ℕ) (e x y : ℕ) (some : byte_of s e ≡ Some x) (more : byte_of s (e + 1) ≡ Some y) where
+  pub alone : (m : Mode) (t : Token) → byte between x ≡ goes_on m → byte m y ≡ after t (begin y) → Stands s e t (e + 1)
   alone m t p q =
-      let (in1, in2, b) = byte_inside s e (byte_of s e) refl some in
-      let (in3, in4, c) = byte_inside s (e + 1) (byte_of s (e + 1)) refl more in (
+      let (in1, in2, b) = byte_inside s e x some in
+      let (in3, in4, c) = byte_inside s (e + 1) y more in (
         lexed_by s longest_claim between e _ (ap (byte between) b ∙ p) in1 in2 ∙ lexed_before s longest_claim m (e + 1) t (subst (λ (x : ℕ). byte m x ≡ after t (begin x)) (sym c) q) in3 in4,
         record { more = omega arith; inside = omega (arith, in1) },
       )
@@ -245,12 +268,9 @@ unfolding is_blank
 no_blank b h = rw (ne_eqb b 32 (λ q. omega (arith, h, q)), lt-leb b 13 (omega (arith, h))) (and-false (leb 9 b))
 
 -- a digit
-pub digit_some : (b : ℕ) → is_digit b ≡ true → b ≡ 0 → ⊥
-digit_some b d q = omega (arith, q, digit_low b d)
-
-pub digit_alone : (s : List ℕ) (e : ℕ) → is_digit (byte_of s e) ≡ true → (byte_of s (e + 1) ≡ 0 → ⊥) → is_digit (byte_of s (e + 1)) ≡ false → (v : ℕ) → v ≡ byte_of s e - 48 → LoneDigit s e (Some v)
-digit_alone s e d n p v q =
-    subst (λ (x : ℕ). Stands s e (number x) (e + 1)) (sym q) (alone s e (digit_some _ d) n _ _ (begin_digit _ (no_blank _ (omega (arith, digit_low (byte_of s e) d))) d) (digit_stops _ _ p))
+pub digit_alone : (s : List ℕ) (e x y : ℕ) → byte_of s e ≡ Some x → byte_of s (e + 1) ≡ Some y → is_digit x ≡ true → is_digit y ≡ false → (v : ℕ) → v ≡ x - 48 → LoneDigit s e (Some v)
+digit_alone s e x y a n d p v q =
+    subst (λ (x : ℕ). Stands s e (number x) (e + 1)) (sym q) (alone s e x y a n _ _ (begin_digit _ (no_blank _ (omega (arith, digit_low x d))) d) (digit_stops _ _ p))
 
 -- a letter
 letter_high : (b : ℕ) → is_letter b ≡ true → 65 ≤ b
@@ -261,9 +281,5 @@ letter_high b l = go (ltb b 65) refl
     go false x = ltb-false b 65 x
     go true x = let h = ltb-true b 65 x in clash false (rw (lt-leb 65 b h, lt-leb 97 b (omega (arith, h)), ne_eqb b 95 (λ q. omega (arith, h, q))) at l) refl
 
-pub letter_some : (b : ℕ) → is_letter b ≡ true → b ≡ 0 → ⊥
-letter_some b l q = omega (arith, q, letter_high b l)
-
-pub letter_alone : (s : List ℕ) (e : ℕ) → is_letter (byte_of s e) ≡ true → (byte_of s (e + 1) ≡ 0 → ⊥) → (byte_of s (e + 1) ≡ colon → ⊥) → is_name_byte (byte_of s (e + 1)) ≡ false → (b : ℕ) → b ≡ byte_of s e → LoneLetter s e (Some b)
-letter_alone s e l n c p b q =
-    subst (λ (x : ℕ). Stands s e (name (x ∷ [])) (e + 1)) (sym q) (alone s e (letter_some _ l) n _ _ (begin_letter _ (no_blank _ (omega (arith, letter_high (byte_of s e) l))) l) (name_stops _ _ p c))
+pub letter_alone : (s : List ℕ) (e x y : ℕ) → byte_of s e ≡ Some x → byte_of s (e + 1) ≡ Some y → is_letter x ≡ true → (y ≡ colon → ⊥) → is_name_byte y ≡ false → LoneLetter s e (Some x)
+letter_alone s e x y a n l c p = alone s e x y a n _ _ (begin_letter _ (no_blank _ (omega (arith, letter_high x l))) l) (name_stops _ _ p c)

@@ -38,9 +38,9 @@ pub record BlanksEnd (s : List ℕ) (limit at e : ℕ) : Type 0 where
 abbrev pub PastBlanks : (text : List ℕ) → (at : ℕ) → Type 0
 PastBlanks s e = e < length s → e < T.longest_claim → is_blank (get_or s e 0) ≡ false
 
--- the byte at a place of a claim, 0 where none is looked at
-unfoldable pub byte_of : (text : List ℕ) → (at : ℕ) → ℕ
-byte_of s at = cond (ltb at (min T.longest_claim (length s))) (get_or s at 0) 0
+-- the byte at a place of a claim, where one is looked at
+unfoldable pub byte_of : (text : List ℕ) → (at : ℕ) → Option ℕ
+byte_of s at = cond (ltb at (min T.longest_claim (length s))) (Some (get_or s at 0)) None
 
 -- a byte that is a token by itself
 abbrev pub Sign : (byte : ℕ) → Type 0

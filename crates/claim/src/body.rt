@@ -79,7 +79,7 @@ fn mark(text: &[u8], at: usize, c: usize, cells: &mut [u32]) -> Result<usize, Re
     ensures { MarkSays text.now c at result cells.old cells.new }
 {
     let here = past_blanks(text, at);
-    if byte_at(text, here) != b'{' {
+    if byte_at(text, here) != Some(b'{') {
         return Ok(here);
     }
     let (any, past) = marks_end(text, here + 1)?;
@@ -171,7 +171,7 @@ fn edge(text: &[u8], at: usize, states: u32, count: u32, sets: &mut [Values]) ->
         return Err(Refusal::ClaimGrammar);
     }
     let next = past_blanks(text, past);
-    if byte_at(text, next) == b'{' {
+    if byte_at(text, next) == Some(b'{') {
         return Err(Refusal::NotTaken);
     }
     add_values(sets, d as usize, w);
@@ -196,7 +196,7 @@ fn edges(
     let mut sets = [NOTHING; Counts::NAMES];
     let mut leads: u32 = 0;
     let mut here = past_blanks(text, at);
-    while byte_at(text, here) == b'[' {
+    while byte_at(text, here) == Some(b'[') {
         let (d, end) = edge(text, here + 1, states, count, &mut sets)?;
         leads |= 1 << d;
         here = end;

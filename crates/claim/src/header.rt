@@ -210,7 +210,7 @@ pub enum Kind {
     Skipped,
 }
 
-// The byte at `a`, 0 if that is not before `e`.
+// The byte at `a`, 0 if that is not before `e`: only letters are looked for, and 0 is none, so no test needs a case for that.
 fn first_byte(text: &[u8], a: usize, e: usize) -> u8
     ensures { result ≡ get_or (part text.now a e) 0 0 }
 {

@@ -115,7 +115,7 @@ fn closed(text: &[u8], l: Parsed<Values>, b: u8) -> Parsed<Values>
     ensures { Closed text.now b l result }
 {
     let (w, e) = l?;
-    if byte_at(text, e) == b {
+    if byte_at(text, e) == Some(b) {
         return Ok((w, past_blanks(text, e + 1)));
     }
     Err(fault(claim_token(text, e).token))
@@ -185,7 +185,7 @@ fn atom(text: &[u8], at: usize, deep: usize, count: u32) -> Parsed<Values>
     let mut here = past_blanks(text, at);
     let mut down = deep;
     let mut odd = false;
-    while byte_at(text, here) == b'!' {
+    while byte_at(text, here) == Some(b'!') {
         if DEEPEST <= down {
             return Err(Refusal::ClaimGrammar);
         }
@@ -193,7 +193,7 @@ fn atom(text: &[u8], at: usize, deep: usize, count: u32) -> Parsed<Values>
         down += 1;
         odd = !odd;
     }
-    if byte_at(text, here) != b'(' {
+    if byte_at(text, here) != Some(b'(') {
         return negated(leaf(text, here, count), odd);
     }
     if DEEPEST <= down {
@@ -215,7 +215,7 @@ fn and_level(text: &[u8], at: usize, deep: usize, count: u32) -> Parsed<Values>
     loop {
         let (w, e) = atom(text, here, deep, count)?;
         values = values & w;
-        if byte_at(text, e) != b'&' {
+        if byte_at(text, e) != Some(b'&') {
             return Ok((values, e));
         }
         here = e + 1;
@@ -232,7 +232,7 @@ fn or_level(text: &[u8], at: usize, deep: usize, count: u32) -> Parsed<Values>
     loop {
         let (w, e) = and_level(text, here, deep, count)?;
         values = values | w;
-        if byte_at(text, e) != b'|' {
+        if byte_at(text, e) != Some(b'|') {
             return Ok((values, e));
         }
         here = e + 1;

@@ -317,15 +317,14 @@ pub(crate) fn past_blanks(text: &[u8], at: usize) -> usize
     blanks_end(text, at, Counts::LONGEST)
 }
 
-// The byte at `at` of a claim, 0 where none is looked at: no sign, digit or letter, so a test for one of those needs no case
-// for the end.
-pub(crate) fn byte_at(text: &[u8], at: usize) -> u8
+// The byte at `at` of a claim, where one is looked at.
+pub(crate) fn byte_at(text: &[u8], at: usize) -> Option<u8>
     ensures { result ≡ byte_of text.now at }
 {
     if at < Counts::LONGEST.min(text.len()) {
-        text[at]
+        Some(text[at])
     } else {
-        0
+        None
     }
 }
 
@@ -334,8 +333,10 @@ pub(crate) fn name_or_token(text: &[u8], at: usize) -> Seen
     ensures { Sees text.now longest_claim at (claim_tokens text.now at) result }
 {
     let e = past_blanks(text, at);
-    if letter(byte_at(text, e)) {
-        return name_from(text, e, Counts::LONGEST);
+    if let Some(b) = byte_at(text, e) {
+        if letter(b) {
+            return name_from(text, e, Counts::LONGEST);
+        }
     }
     claim_token(text, e)
 }
@@ -344,12 +345,12 @@ pub(crate) fn name_or_token(text: &[u8], at: usize) -> Seen
 pub(crate) fn lone_digit(text: &[u8], at: usize) -> Option<u32>
     ensures { LoneDigit text.now at result }
 {
-    let b = byte_at(text, at);
+    let b = byte_at(text, at)?;
     if !b.is_ascii_digit() {
         return None;
     }
-    let next = byte_at(text, at + 1);
-    if (next == 0) | next.is_ascii_digit() {
+    let next = byte_at(text, at + 1)?;
+    if next.is_ascii_digit() {
         return None;
     }
     Some(u32::from(b - b'0'))
@@ -359,12 +360,12 @@ pub(crate) fn lone_digit(text: &[u8], at: usize) -> Option<u32>
 pub(crate) fn lone_letter(text: &[u8], at: usize) -> Option<u8>
     ensures { LoneLetter text.now at result }
 {
-    let b = byte_at(text, at);
+    let b = byte_at(text, at)?;
     if !letter(b) {
         return None;
     }
-    let next = byte_at(text, at + 1);
-    if (next == 0) | ((next == b':') | name_byte(next)) {
+    let next = byte_at(text, at + 1)?;
+    if (next == b':') | name_byte(next) {
         return None;
     }
     Some(b)
