@@ -1,3 +1,3 @@
 -- What the test programs write, and what they look for in a run's buffers.
 pub mod Buffers
-pub mod Graphs
+pub mod Rows

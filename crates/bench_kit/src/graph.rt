@@ -1,12 +1,15 @@
 // Graphs with owners, and their case files.
-ghost use Rattle.std.specs.Prelude.{◌≡◌, ◌++◌, OnOk};
-ghost use Rattle.std.specs.String.{string_bytes};
-ghost use Rattle.bench_kit.specs.Graphs.{head};
-
+use crate::rows::{write_head, write_row2, write_row3};
 use std::alloc::{AllocError, Global};
 use std::collections::BTreeSet;
-use std::fmt::Write;
 use std::ops::Range;
+use text::write::Writer;
+
+// More than a case's first three lines.
+const HEAD: usize = 128;
+
+// A vertex, its mark of one digit and its owner; no more than the longest two numbers of an edge.
+const LONGEST_ROW: usize = 24;
 
 #[derive(Clone, Copy, Debug, PartialEq, Eq)]
 pub struct Vertex {
@@ -55,12 +58,12 @@ impl Graph {
         workers: usize,
     ) -> Result<Graph, AllocError> {
         let mut graph = Graph::without_edges(alloc, n, workers)?;
-        for e in 0..m {
-            graph.edges.insert(Edge {
+        graph.edges = (0..m)
+            .map(|e| Edge {
                 from: e.checked_div(n).unwrap_or(0),
                 to: e.checked_rem(n).unwrap_or(0),
-            })?;
-        }
+            })
+            .collect(alloc)?;
         Ok(graph)
     }
 
@@ -73,57 +76,48 @@ impl Graph {
 
     // The case file.
     pub fn text(&self, alloc: Global) -> Result<String, AllocError> {
-        let mut out = String::new(alloc);
+        let rows = self.vertices.len().saturating_add(self.edges.len());
+        let mut room = vec![in alloc; 0; rows.saturating_mul(LONGEST_ROW).saturating_add(HEAD)]?;
+        let mut page = Writer::new(&mut room);
+        self.write(&mut page);
+        String::from_utf8_lossy(alloc, page.written())
+    }
+
+    fn write(&self, page: &mut Writer) {
         write_head(
-            &mut out,
-            self.vertices.len(),
-            self.edges.len(),
-            self.source,
-            self.workers,
-        )?;
-        write_vertices(&mut out, &self.vertices)?;
-        out.push_str("from to\n")?;
-        write_edges(&mut out, &self.edges)?;
-        Ok(out)
+            page,
+            number(self.vertices.len()),
+            number(self.edges.len()),
+            number(self.source),
+            number(self.workers),
+        );
+        for (v, vertex) in self.vertices.iter().enumerate() {
+            let mark = u32::from(vertex.accepting);
+            write_row3(page, number(v), mark, number(vertex.owner));
+        }
+        page.bytes(b"from to\n");
+        for &Edge { from, to } in self.edges.iter() {
+            write_row2(page, number(from), number(to));
+        }
     }
 }
 
-// A case's first three lines.
-fn write_head(
-    out: &mut String,
-    n: usize,
-    m: usize,
-    source: usize,
-    workers: usize,
-) -> Result<(), AllocError>
-    ensures { OnOk result (string_bytes out.new ≡ string_bytes out.old ++ head n m source workers) }
-{
-    write!(
-        out,
-        "version vertices edges source workers\n1 {n} {m} {source} {workers}\nvertex accepting owner\n"
-    )
+// A number as a row has it: of 32 bits.
+fn number(n: usize) -> u32 {
+    u32::try_from(n).unwrap_or(u32::MAX)
 }
 
-fn write_vertices(out: &mut String, vertices: &[Vertex]) -> Result<(), AllocError> {
-    for (v, vertex) in vertices.iter().enumerate() {
-        let mark = u8::from(vertex.accepting);
-        let owner = vertex.owner;
-        writeln!(out, "{v} {mark} {owner}")?;
-    }
-    Ok(())
-}
-
-fn write_edges(out: &mut String, edges: &BTreeSet<Edge>) -> Result<(), AllocError> {
-    for &Edge { from, to } in edges.iter() {
-        writeln!(out, "{from} {to}")?;
-    }
-    Ok(())
-}
+// Bytes that are put at a time.
+const XS: &str = "xxxxxxxxxxxxxxxxxxxxxxxxxxxxxxxxxxxxxxxxxxxxxxxxxxxxxxxxxxxxxxxx";
 
 // A text with so many bytes x after it that it is this long.
 pub fn padded(alloc: Global, text: &str, length: usize) -> Result<String, AllocError> {
     let mut out = String::from_str(alloc, text)?;
-    for _ in text.len()..length {
+    let missing = length.saturating_sub(text.len());
+    for _ in 0..missing / XS.len() {
+        out.push_str(XS)?;
+    }
+    for _ in 0..missing % XS.len() {
         out.push('x')?;
     }
     Ok(out)

@@ -3,6 +3,7 @@
 
 pub mod buffers;
 pub mod graph;
+pub mod rows;
 
 // A case file, and an answer file, by their lines from line 2 on.
 #[macro_export]

@@ -43,17 +43,16 @@ impl fmt::Display for Said {
     }
 }
 
-// Tries answers to a case, each behind its name.
-fn check(rt: &impl Print, case: &str, answers: &[(&str, &str)]) -> io::Result<()> {
+// Tries answers to a case, each behind its name; where standard output takes nothing, the trials go on.
+fn check(rt: &impl Print, case: &str, answers: &[(&str, &str)]) {
     for &(name, answer) in answers {
         let said = Said(check_answer(case.as_bytes(), answer.as_bytes()));
-        println!(rt; "{name}: {said}")?;
+        let _ = println!(rt; "{name}: {said}");
     }
-    Ok(())
 }
 
 // Lassos that pass, also with edges that come again.
-fn pass_lasso(rt: &impl Print) -> io::Result<()> {
+fn pass_lasso(rt: &impl Print) {
     check(
         rt,
         K1,
@@ -72,7 +71,7 @@ fn pass_lasso(rt: &impl Print) -> io::Result<()> {
 }
 
 // Lines 1 to 3: 3 and 12.
-fn torn_front(rt: &impl Print) -> io::Result<()> {
+fn torn_front(rt: &impl Print) {
     check(
         rt,
         K1,
@@ -91,7 +90,7 @@ fn torn_front(rt: &impl Print) -> io::Result<()> {
 }
 
 // Counts and names: 12.
-fn torn_head(rt: &impl Print) -> io::Result<()> {
+fn torn_head(rt: &impl Print) {
     check(
         rt,
         K1,
@@ -112,7 +111,7 @@ fn torn_head(rt: &impl Print) -> io::Result<()> {
 }
 
 // Lines and what follows them: 12.
-fn torn_lines(rt: &impl Print) -> io::Result<()> {
+fn torn_lines(rt: &impl Print) {
     check(
         rt,
         K1,
@@ -136,7 +135,7 @@ fn torn_lines(rt: &impl Print) -> io::Result<()> {
 }
 
 // Distances: 12.
-fn torn_numbers(rt: &impl Print) -> io::Result<()> {
+fn torn_numbers(rt: &impl Print) {
     check(
         rt,
         K1,
@@ -166,7 +165,7 @@ fn torn_numbers(rt: &impl Print) -> io::Result<()> {
 }
 
 // Lassos that do not pass: 13.
-fn wrong_walks(rt: &impl Print) -> io::Result<()> {
+fn wrong_walks(rt: &impl Print) {
     check(
         rt,
         K1,
@@ -186,7 +185,7 @@ fn wrong_walks(rt: &impl Print) -> io::Result<()> {
 }
 
 // Listings that do not pass: 13.
-fn wrong_lists(rt: &impl Print) -> io::Result<()> {
+fn wrong_lists(rt: &impl Print) {
     check(
         rt,
         K1,
@@ -216,7 +215,7 @@ fn wrong_lists(rt: &impl Print) -> io::Result<()> {
 }
 
 // Other cases: numbers above 0, the source off 0, vertices that no walk reaches.
-fn other_cases(rt: &impl Print) -> io::Result<()> {
+fn other_cases(rt: &impl Print) {
     check(
         rt,
         ONE_EDGE,
@@ -238,7 +237,7 @@ fn other_cases(rt: &impl Print) -> io::Result<()> {
                 answer!("1 empty 0 0 2\nvertex distance\n0 7\n1 7\n"),
             ),
         ],
-    )?;
+    );
     check(
         rt,
         ONE_LOOP,
@@ -250,7 +249,7 @@ fn other_cases(rt: &impl Print) -> io::Result<()> {
 }
 
 // Version 2 on a graph without dead ends, where it means what version 1 does.
-fn version_2(rt: &impl Print) -> io::Result<()> {
+fn version_2(rt: &impl Print) {
     check(
         rt,
         K1,
@@ -269,7 +268,7 @@ fn version_2(rt: &impl Print) -> io::Result<()> {
     )
 }
 
-fn rest_loops(rt: &impl Print) -> io::Result<()> {
+fn rest_loops(rt: &impl Print) {
     check(
         rt,
         D,
@@ -300,7 +299,7 @@ fn rest_loops(rt: &impl Print) -> io::Result<()> {
 }
 
 // A listed dead end must lead right by its rest loop, which only an accepting one does not.
-fn resting_lists(rt: &impl Print) -> io::Result<()> {
+fn resting_lists(rt: &impl Print) {
     check(
         rt,
         D,
@@ -314,7 +313,7 @@ fn resting_lists(rt: &impl Print) -> io::Result<()> {
                 answer!("1 empty 0 0 2\nvertex distance\n1 0\n2 0\n"),
             ),
         ],
-    )?;
+    );
     check(
         rt,
         ONE_EDGE,
@@ -322,7 +321,7 @@ fn resting_lists(rt: &impl Print) -> io::Result<()> {
             "dead ends that do not accept",
             answer!("2 empty 0 0 3\nvertex distance\n0 500\n1 499\n2 -500\n"),
         )],
-    )?;
+    );
     check(
         rt,
         APART,
@@ -339,16 +338,16 @@ fn resting_lists(rt: &impl Print) -> io::Result<()> {
     )
 }
 
-fn main(rt: HostRuntime) -> io::Result<()> {
-    pass_lasso(&rt)?;
-    torn_front(&rt)?;
-    torn_head(&rt)?;
-    torn_lines(&rt)?;
-    torn_numbers(&rt)?;
-    wrong_walks(&rt)?;
-    wrong_lists(&rt)?;
-    other_cases(&rt)?;
-    version_2(&rt)?;
-    rest_loops(&rt)?;
+fn main(rt: HostRuntime) {
+    pass_lasso(&rt);
+    torn_front(&rt);
+    torn_head(&rt);
+    torn_lines(&rt);
+    torn_numbers(&rt);
+    wrong_walks(&rt);
+    wrong_lists(&rt);
+    other_cases(&rt);
+    version_2(&rt);
+    rest_loops(&rt);
     resting_lists(&rt)
 }

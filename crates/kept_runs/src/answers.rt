@@ -8,7 +8,9 @@ use model::Refusal;
 use std::io;
 
 // The checker judges the whole case before the answer.
-pub(crate) fn checker_cases<R: Print + AllocGlobal>(lines: &mut Lines<'_, R>) -> io::Result<()> {
+pub(crate) fn checker_cases<R: Print + Eprint + AllocGlobal>(
+    lines: &mut Lines<'_, R>,
+) -> io::Result<()> {
     let longest = padded(lines.alloc(), K4, 65536)?;
     let long = padded(lines.alloc(), K4, 65537)?;
     let answer = padded(lines.alloc(), "", 65537)?;
@@ -17,18 +19,21 @@ pub(crate) fn checker_cases<R: Print + AllocGlobal>(lines: &mut Lines<'_, R>) ->
         &longest,
         &answer,
         Err(Refusal::CaseLayout),
-    )?;
+    );
     lines.check(
         "check, case of 65,537 bytes",
         &long,
         &answer,
         Err(Refusal::LongFile),
-    )?;
-    lines.check("check, empty case", "", &answer, Err(Refusal::NoVersion))
+    );
+    lines.check("check, empty case", "", &answer, Err(Refusal::NoVersion));
+    Ok(())
 }
 
 // 12 for what such an answer holds, unless it is too long.
-pub(crate) fn checker_lengths<R: Print + AllocGlobal>(lines: &mut Lines<'_, R>) -> io::Result<()> {
+pub(crate) fn checker_lengths<R: Print + Eprint + AllocGlobal>(
+    lines: &mut Lines<'_, R>,
+) -> io::Result<()> {
     let longest = padded(lines.alloc(), "", 65536)?;
     let long = padded(lines.alloc(), "", 65537)?;
     lines.checks(
@@ -46,12 +51,15 @@ pub(crate) fn checker_lengths<R: Print + AllocGlobal>(lines: &mut Lines<'_, R>) 
             ),
             ("check, empty answer", "", Err(Refusal::AnswerLayout)),
         ],
-    )
+    );
+    Ok(())
 }
 
 // Edge numbers are below 2,496 in version 2 and below 2,000 in version 1: of 2,000 edges and 496 rest loops the last is that
 // of the accepting vertex. Neither answer names an edge.
-pub(crate) fn checker_edges<R: Print + AllocGlobal>(lines: &mut Lines<'_, R>) -> io::Result<()> {
+pub(crate) fn checker_edges<R: Print + Eprint + AllocGlobal>(
+    lines: &mut Lines<'_, R>,
+) -> io::Result<()> {
     let case = full(lines.alloc(), 500, 2000, 1, 499..500)?;
     lines.checks(
         &case,
@@ -67,5 +75,6 @@ pub(crate) fn checker_edges<R: Print + AllocGlobal>(lines: &mut Lines<'_, R>) ->
                 Err(Refusal::NotShown),
             ),
         ],
-    )
+    );
+    Ok(())
 }

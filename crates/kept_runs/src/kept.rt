@@ -25,7 +25,7 @@ pub(crate) const D: &str = case!(
 
 pub(crate) const D_LASSO: &str = answer!("2 lasso 1 1 0\nedge\n0\n2\n");
 
-fn k1_to_k3<R: Print + AllocGlobal>(lines: &mut Lines<'_, R>) -> io::Result<()> {
+fn k1_to_k3<R: Print + Eprint + AllocGlobal>(lines: &mut Lines<'_, R>) -> io::Result<()> {
     lines.runs(&[
         Run::by_rounds("K1", K1, Wanted::lasso(8).tallied(4, 4, 0), K1_LASSO),
         Run::by_rounds(
@@ -46,7 +46,7 @@ fn k1_to_k3<R: Print + AllocGlobal>(lines: &mut Lines<'_, R>) -> io::Result<()> 
 }
 
 // Edge 1 of K6 is a rest loop.
-fn k4_to_k6<R: Print + AllocGlobal>(lines: &mut Lines<'_, R>) -> io::Result<()> {
+fn k4_to_k6<R: Print + Eprint + AllocGlobal>(lines: &mut Lines<'_, R>) -> io::Result<()> {
     lines.runs(&[
         Run::by_rounds("K4", K4, Wanted::lasso(2), K4_LASSO),
         Run::by_rounds(
@@ -64,7 +64,7 @@ fn k4_to_k6<R: Print + AllocGlobal>(lines: &mut Lines<'_, R>) -> io::Result<()> 
     ])
 }
 
-fn k7_to_k9<R: Print + AllocGlobal>(lines: &mut Lines<'_, R>) -> io::Result<()> {
+fn k7_to_k9<R: Print + Eprint + AllocGlobal>(lines: &mut Lines<'_, R>) -> io::Result<()> {
     lines.runs(&[
         Run::by_list("K7", K1, &[], Wanted::cut_short(0), ""),
         Run::by_rounds(
@@ -79,7 +79,7 @@ fn k7_to_k9<R: Print + AllocGlobal>(lines: &mut Lines<'_, R>) -> io::Result<()> 
     ])
 }
 
-fn k10_and_k11<R: Print + AllocGlobal>(lines: &mut Lines<'_, R>) -> io::Result<()> {
+fn k10_and_k11<R: Print + Eprint + AllocGlobal>(lines: &mut Lines<'_, R>) -> io::Result<()> {
     lines.runs(&[
         Run::by_rounds(
             "K10",
@@ -101,7 +101,7 @@ fn k10_and_k11<R: Print + AllocGlobal>(lines: &mut Lines<'_, R>) -> io::Result<(
 }
 
 // In the first, vertex 0 is scanned again before its message to 2 is delivered.
-fn joined_and_d<R: Print + AllocGlobal>(lines: &mut Lines<'_, R>) -> io::Result<()> {
+fn joined_and_d<R: Print + Eprint + AllocGlobal>(lines: &mut Lines<'_, R>) -> io::Result<()> {
     lines.runs(&[
         Run::by_list(
             "a message joins and three wait",
@@ -117,7 +117,7 @@ fn joined_and_d<R: Print + AllocGlobal>(lines: &mut Lines<'_, R>) -> io::Result<
 }
 
 // The whole table.
-pub(crate) fn table<R: Print + AllocGlobal>(lines: &mut Lines<'_, R>) -> io::Result<()> {
+pub(crate) fn table<R: Print + Eprint + AllocGlobal>(lines: &mut Lines<'_, R>) -> io::Result<()> {
     k1_to_k3(lines)?;
     k4_to_k6(lines)?;
     k7_to_k9(lines)?;

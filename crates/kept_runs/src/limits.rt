@@ -12,7 +12,7 @@ use std::io;
 const PAST: [u32; 1] = [5];
 
 // Both buffers at their least, and one byte or one cell too few. 11 goes before every other refusal, by both entries.
-pub(crate) fn buffers<R: Print + AllocGlobal>(lines: &mut Lines<'_, R>) -> io::Result<()> {
+pub(crate) fn buffers<R: Print + Eprint + AllocGlobal>(lines: &mut Lines<'_, R>) -> io::Result<()> {
     let short = Wanted::refused(Refusal::ShortBuffer);
     let least = Run::by_rounds(
         "8,192 bytes and 16,384 cells",
@@ -33,7 +33,7 @@ pub(crate) fn buffers<R: Print + AllocGlobal>(lines: &mut Lines<'_, R>) -> io::R
 
 // Twice round a ring of 500 to the end, a turn for each vertex; owned by 16, each step takes a turn and a delivery. By a list
 // that is just long enough, and one act too short.
-fn rings<R: Print + AllocGlobal>(lines: &mut Lines<'_, R>) -> io::Result<()> {
+fn rings<R: Print + Eprint + AllocGlobal>(lines: &mut Lines<'_, R>) -> io::Result<()> {
     let alone = ring(lines.alloc(), 1)?;
     let owned = ring(lines.alloc(), 16)?;
     let answer = ring_answer(lines.alloc())?;
@@ -56,7 +56,7 @@ fn rings<R: Print + AllocGlobal>(lines: &mut Lines<'_, R>) -> io::Result<()> {
 
 // 2,000 edges on 500 vertices leave 0 to 3, and the other 496 rest. None is accepting: every vertex takes a turn. With 16
 // workers the owner of each of the vertices 0 to 3 owns 32, so that each sends to 468, and each message takes a delivery.
-fn full_empty<R: Print + AllocGlobal>(lines: &mut Lines<'_, R>) -> io::Result<()> {
+fn full_empty<R: Print + Eprint + AllocGlobal>(lines: &mut Lines<'_, R>) -> io::Result<()> {
     let alone = full(lines.alloc(), 500, 2000, 1, 0..0)?;
     let owned = full(lines.alloc(), 500, 2000, 16, 0..0)?;
     let answer = full_answer(lines.alloc())?;
@@ -68,7 +68,7 @@ fn full_empty<R: Print + AllocGlobal>(lines: &mut Lines<'_, R>) -> io::Result<()
 }
 
 // The same with an accepting source, which the first edge leads back to: a turn, 468 deliveries, and the next turn.
-fn full_lasso<R: Print + AllocGlobal>(lines: &mut Lines<'_, R>) -> io::Result<()> {
+fn full_lasso<R: Print + Eprint + AllocGlobal>(lines: &mut Lines<'_, R>) -> io::Result<()> {
     let owned = full(lines.alloc(), 500, 2000, 16, 0..1)?;
     let busy = Wanted::lasso(470).tallied(468, 468, 0);
     lines.runs(&[Run::by_rounds("2,000 edges, accepting source", &owned, busy, K4_LASSO)])
@@ -76,7 +76,7 @@ fn full_lasso<R: Print + AllocGlobal>(lines: &mut Lines<'_, R>) -> io::Result<()
 
 // The same with only the last vertex accepting, whose rest loop has the highest number: once all have had their turn, it
 // takes one more.
-fn full_rest<R: Print + AllocGlobal>(lines: &mut Lines<'_, R>) -> io::Result<()> {
+fn full_rest<R: Print + Eprint + AllocGlobal>(lines: &mut Lines<'_, R>) -> io::Result<()> {
     let alone = full(lines.alloc(), 500, 2000, 1, 499..500)?;
     let owned = full(lines.alloc(), 500, 2000, 16, 499..500)?;
     let answer = answer!("2 lasso 1 1 0\nedge\n499\n2495\n");
@@ -94,7 +94,7 @@ fn full_rest<R: Print + AllocGlobal>(lines: &mut Lines<'_, R>) -> io::Result<()>
 
 // 500 rest loops and no other edge. The source goes down by one at each turn: with 500 accepting vertices it breaks the
 // floor at its 501st.
-fn no_edges<R: Print + AllocGlobal>(lines: &mut Lines<'_, R>) -> io::Result<()> {
+fn no_edges<R: Print + Eprint + AllocGlobal>(lines: &mut Lines<'_, R>) -> io::Result<()> {
     let none = full(lines.alloc(), 500, 0, 1, 0..0)?;
     let all = full(lines.alloc(), 500, 0, 1, 0..500)?;
     lines.runs(&[
@@ -113,7 +113,7 @@ fn no_edges<R: Print + AllocGlobal>(lines: &mut Lines<'_, R>) -> io::Result<()> 
     ])
 }
 
-pub(crate) fn counts<R: Print + AllocGlobal>(lines: &mut Lines<'_, R>) -> io::Result<()> {
+pub(crate) fn counts<R: Print + Eprint + AllocGlobal>(lines: &mut Lines<'_, R>) -> io::Result<()> {
     rings(lines)?;
     full_empty(lines)?;
     full_lasso(lines)?;
@@ -122,7 +122,9 @@ pub(crate) fn counts<R: Print + AllocGlobal>(lines: &mut Lines<'_, R>) -> io::Re
 }
 
 // One past a limit.
-pub(crate) fn past_counts<R: Print + AllocGlobal>(lines: &mut Lines<'_, R>) -> io::Result<()> {
+pub(crate) fn past_counts<R: Print + Eprint + AllocGlobal>(
+    lines: &mut Lines<'_, R>,
+) -> io::Result<()> {
     let vertices = full(lines.alloc(), 501, 0, 1, 0..0)?;
     let edges = full(lines.alloc(), 500, 2001, 1, 0..0)?;
     let workers = full(lines.alloc(), 500, 2000, 17, 0..0)?;
@@ -136,7 +138,7 @@ pub(crate) fn past_counts<R: Print + AllocGlobal>(lines: &mut Lines<'_, R>) -> i
 
 // No right case is longer than some 21,000 bytes, so at 65,536 it is the bytes after K4's last line that are refused. A
 // refusal of the file goes before 9.
-pub(crate) fn lengths<R: Print + AllocGlobal>(lines: &mut Lines<'_, R>) -> io::Result<()> {
+pub(crate) fn lengths<R: Print + Eprint + AllocGlobal>(lines: &mut Lines<'_, R>) -> io::Result<()> {
     let longest = padded(lines.alloc(), K4, 65536)?;
     let long = padded(lines.alloc(), K4, 65537)?;
     let no_line = padded(lines.alloc(), "", 65536)?;

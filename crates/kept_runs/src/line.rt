@@ -182,7 +182,7 @@ pub(crate) struct Lines<'r, R> {
     pub wrong: u32,
 }
 
-impl<'r, R: Print + AllocGlobal> Lines<'r, R> {
+impl<'r, R: Print + Eprint + AllocGlobal> Lines<'r, R> {
     pub(crate) fn new(rt: &'r R) -> Lines<'r, R> {
         Lines { rt, wrong: 0 }
     }
@@ -191,42 +191,50 @@ impl<'r, R: Print + AllocGlobal> Lines<'r, R> {
         self.rt.alloc()
     }
 
+    // Where standard output takes nothing, standard error says so, and the runs go on.
+    pub(crate) fn said(&self, printed: io::Result<()>) {
+        let rt = self.rt;
+        if printed.is_err() {
+            let _ = eprintln!(rt; "standard output: not written");
+        }
+    }
+
     // A line's end.
-    fn end(&mut self, right: bool) -> io::Result<()> {
+    fn end(&mut self, right: bool) {
         let rt = self.rt;
         if right {
-            return println!(rt; ": right");
+            self.said(println!(rt; ": right"));
+            return;
         }
         self.wrong = self.wrong.saturating_add(1);
-        println!(rt; ": wrong")
+        self.said(println!(rt; ": wrong"));
     }
 
     // What the checker says of an answer: its verdict, none where nothing was written.
-    fn checked(&self, case: &str, answer: &[u8]) -> io::Result<u32> {
+    fn checked(&self, case: &str, answer: &[u8]) -> u32 {
         if answer.is_empty() {
-            return Ok(Outcome::NONE);
+            return Outcome::NONE;
         }
         let rt = self.rt;
         let verdict = check_answer(case.as_bytes(), answer).verdict;
-        print!(rt; ", checker {}", verdict_name(verdict))?;
-        Ok(verdict)
+        self.said(print!(rt; ", checker {}", verdict_name(verdict)));
+        verdict
     }
 
     // A run's line: its outcome, what the buffers hold, what the checker says, and whether all of it is what must come.
-    fn tell(&mut self, run: &Run, o: Outcome, output: &[u8], work: &[i32]) -> io::Result<()> {
+    fn tell(&mut self, run: &Run, o: Outcome, output: &[u8], work: &[i32]) {
         let rt = self.rt;
         let answer = front(output, o.written as usize);
         let kept = untouched(output, o.written as usize);
         let rest = if kept { "untouched" } else { "touched" };
         let left = Work::left_in(work);
-        print!(rt; "{}: {}, work {left}, rest {rest}", run.name, Told(o))?;
-        let passed = self.checked(run.case, answer)? == Checked::from(run.wanted.end).verdict;
+        self.said(print!(rt; "{}: {}, work {left}, rest {rest}", run.name, Told(o)));
+        let passed = self.checked(run.case, answer) == Checked::from(run.wanted.end).verdict;
         let buffers = kept && left == run.wanted.work();
-        self.end(run.wanted.is(o) && answer == run.answer.as_bytes() && passed && buffers)?;
+        self.end(run.wanted.is(o) && answer == run.answer.as_bytes() && passed && buffers);
         if answer.len() <= SHORT {
-            io::writer(rt).write_all(answer)?;
+            self.said(io::writer(rt).write_all(answer));
         }
-        Ok(())
     }
 
     // A run in buffers of so many bytes and cells.
@@ -239,7 +247,8 @@ impl<'r, R: Print + AllocGlobal> Lines<'r, R> {
             Some(acts) => run_list(case, acts, &mut output, &mut work),
             None => run_rounds(case, &mut output, &mut work),
         };
-        self.tell(run, o, &output, &work)
+        self.tell(run, o, &output, &work);
+        Ok(())
     }
 
     // Runs in buffers a little longer than they must be.
@@ -257,12 +266,12 @@ impl<'r, R: Print + AllocGlobal> Lines<'r, R> {
         case: &str,
         answer: &str,
         wanted: Result<Verdict, Refusal>,
-    ) -> io::Result<()> {
+    ) {
         let rt = self.rt;
         let Checked { refusal, verdict } = check_answer(case.as_bytes(), answer.as_bytes());
-        print!(rt; "{name}: refusal {refusal}, {}", verdict_name(verdict))?;
+        self.said(print!(rt; "{name}: refusal {refusal}, {}", verdict_name(verdict)));
         let wanted = Checked::from(wanted);
-        self.end(refusal == wanted.refusal && verdict == wanted.verdict)
+        self.end(refusal == wanted.refusal && verdict == wanted.verdict);
     }
 
     // Answers to one case, each with its name and what must come.
@@ -270,10 +279,9 @@ impl<'r, R: Print + AllocGlobal> Lines<'r, R> {
         &mut self,
         case: &str,
         answers: &[(&str, &str, Result<Verdict, Refusal>)],
-    ) -> io::Result<()> {
+    ) {
         for &(name, answer, wanted) in answers {
-            self.check(name, case, answer, wanted)?;
+            self.check(name, case, answer, wanted);
         }
-        Ok(())
     }
 }

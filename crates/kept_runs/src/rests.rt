@@ -6,7 +6,7 @@ use model::Refusal;
 use std::io;
 
 // No act delivers on a rest loop: 9 from P + m on, with the file's m. At its first turn vertex 2 goes down to -1 only.
-fn lists_of_d<R: Print + AllocGlobal>(lines: &mut Lines<'_, R>) -> io::Result<()> {
+fn lists_of_d<R: Print + Eprint + AllocGlobal>(lines: &mut Lines<'_, R>) -> io::Result<()> {
     lines.runs(&[
         Run::by_list(
             "D, the one act 2",
@@ -22,7 +22,7 @@ fn lists_of_d<R: Print + AllocGlobal>(lines: &mut Lines<'_, R>) -> io::Result<()
 
 // Where vertex 2 has another owner it is reached by a message, and needs none to stay. Where the file has the loops, it is
 // the same run with other edge numbers. And where the accepting vertex is out of reach, its loop is never scanned.
-fn like_d<R: Print + AllocGlobal>(lines: &mut Lines<'_, R>) -> io::Result<()> {
+fn like_d<R: Print + Eprint + AllocGlobal>(lines: &mut Lines<'_, R>) -> io::Result<()> {
     lines.runs(&[
         Run::by_rounds(
             "D, two workers",
@@ -49,7 +49,7 @@ fn like_d<R: Print + AllocGlobal>(lines: &mut Lines<'_, R>) -> io::Result<()> {
 
 // A rest loop offers what its vertex has, unless that is accepting. In the second, vertex 0 goes round by edge 0 and lowers
 // 1 twice, which then is the first below the floor, by its rest loop.
-fn at_rest<R: Print + AllocGlobal>(lines: &mut Lines<'_, R>) -> io::Result<()> {
+fn at_rest<R: Print + Eprint + AllocGlobal>(lines: &mut Lines<'_, R>) -> io::Result<()> {
     lines.runs(&[
         Run::by_rounds(
             "K4, not accepting",
@@ -66,7 +66,9 @@ fn at_rest<R: Print + AllocGlobal>(lines: &mut Lines<'_, R>) -> io::Result<()> {
     ])
 }
 
-pub(crate) fn dead_ends<R: Print + AllocGlobal>(lines: &mut Lines<'_, R>) -> io::Result<()> {
+pub(crate) fn dead_ends<R: Print + Eprint + AllocGlobal>(
+    lines: &mut Lines<'_, R>,
+) -> io::Result<()> {
     lists_of_d(lines)?;
     like_d(lines)?;
     at_rest(lines)

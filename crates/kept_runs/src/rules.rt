@@ -8,7 +8,7 @@ use bench_kit::{answer, case};
 use model::Refusal;
 use std::io;
 
-fn refused_lines<R: Print + AllocGlobal>(lines: &mut Lines<'_, R>) -> io::Result<()> {
+fn refused_lines<R: Print + Eprint + AllocGlobal>(lines: &mut Lines<'_, R>) -> io::Result<()> {
     lines.runs(&[
         Run::by_rounds(
             "K1, owner 2",
@@ -30,7 +30,7 @@ fn refused_lines<R: Print + AllocGlobal>(lines: &mut Lines<'_, R>) -> io::Result
 }
 
 // K1 by acts of whole rounds: the 8th act that does something is the 19th in all, act 3 of the fourth round.
-fn by_whole_rounds<R: Print + AllocGlobal>(lines: &mut Lines<'_, R>) -> io::Result<()> {
+fn by_whole_rounds<R: Print + Eprint + AllocGlobal>(lines: &mut Lines<'_, R>) -> io::Result<()> {
     let list = rounds_of_k1(lines.alloc(), 30)?;
     let whole = Wanted::lasso(8).tallied(4, 4, 0);
     let three = Wanted::cut_short(6).tallied(3, 3, 0);
@@ -50,7 +50,7 @@ fn by_whole_rounds<R: Print + AllocGlobal>(lines: &mut Lines<'_, R>) -> io::Resu
 }
 
 // 9 at P + m and not below, for the whole list, also after the run's end; 10 while all queues are empty and a message waits.
-fn by_one_act<R: Print + AllocGlobal>(lines: &mut Lines<'_, R>) -> io::Result<()> {
+fn by_one_act<R: Print + Eprint + AllocGlobal>(lines: &mut Lines<'_, R>) -> io::Result<()> {
     let mut late = rounds_of_k1(lines.alloc(), 30)?;
     late.push(5)?;
     let past = Wanted::refused(Refusal::ActRange);
@@ -71,7 +71,7 @@ const MET_EMPTY: &str = answer!("2 empty 0 0 4\nvertex distance\n0 0\n1 -1\n2 0\
 
 // Delivered after a lower one has been taken; and vertex 1 scanned again before its first message is delivered. By rounds
 // the two are delivered one by one.
-fn offers<R: Print + AllocGlobal>(lines: &mut Lines<'_, R>) -> io::Result<()> {
+fn offers<R: Print + Eprint + AllocGlobal>(lines: &mut Lines<'_, R>) -> io::Result<()> {
     lines.runs(&[
         Run::by_list(
             "late higher offer",
@@ -99,7 +99,7 @@ fn offers<R: Print + AllocGlobal>(lines: &mut Lines<'_, R>) -> io::Result<()> {
 }
 
 // In the second the cycle starts past the source, which is on it.
-fn stems<R: Print + AllocGlobal>(lines: &mut Lines<'_, R>) -> io::Result<()> {
+fn stems<R: Print + Eprint + AllocGlobal>(lines: &mut Lines<'_, R>) -> io::Result<()> {
     lines.runs(&[
         Run::by_rounds(
             "accepting on the stem only",
@@ -116,7 +116,7 @@ fn stems<R: Print + AllocGlobal>(lines: &mut Lines<'_, R>) -> io::Result<()> {
     ])
 }
 
-pub(crate) fn refusals_and_lists<R: Print + AllocGlobal>(
+pub(crate) fn refusals_and_lists<R: Print + Eprint + AllocGlobal>(
     lines: &mut Lines<'_, R>,
 ) -> io::Result<()> {
     refused_lines(lines)?;
@@ -124,7 +124,9 @@ pub(crate) fn refusals_and_lists<R: Print + AllocGlobal>(
     by_one_act(lines)
 }
 
-pub(crate) fn shortcuts<R: Print + AllocGlobal>(lines: &mut Lines<'_, R>) -> io::Result<()> {
+pub(crate) fn shortcuts<R: Print + Eprint + AllocGlobal>(
+    lines: &mut Lines<'_, R>,
+) -> io::Result<()> {
     offers(lines)?;
     stems(lines)
 }

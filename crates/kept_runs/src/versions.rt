@@ -4,11 +4,10 @@ use crate::line::Lines;
 use bench_kit::{answer, case};
 use model::Refusal;
 use model::Verdict::{Empty, Lasso};
-use std::io;
 
 // Of K1 both versions mean the same graph: each vertex has an edge. Its lasso with a version: 3 for a number other than 1 and
 // 2, 12 for what is no number; and the answers of other kept runs.
-fn versions_of_k1<R: Print + AllocGlobal>(lines: &mut Lines<'_, R>) -> io::Result<()> {
+fn versions_of_k1<R: Print + Eprint + AllocGlobal>(lines: &mut Lines<'_, R>) {
     let one = answer!("1 lasso 1 2 0\nedge\n0\n1\n2\n");
     let zero = answer!("0 lasso 1 2 0\nedge\n0\n1\n2\n");
     let three = answer!("3 lasso 1 2 0\nedge\n0\n1\n2\n");
@@ -26,11 +25,11 @@ fn versions_of_k1<R: Print + AllocGlobal>(lines: &mut Lines<'_, R>) -> io::Resul
             ("check K1, K2's answer", k2, Err(Refusal::NotShown)),
             ("check K1, K3's answer", k3, Err(Refusal::NotShown)),
         ],
-    )
+    );
 }
 
 // The one edge of K4 is a rest loop.
-fn versions_of_k4<R: Print + AllocGlobal>(lines: &mut Lines<'_, R>) -> io::Result<()> {
+fn versions_of_k4<R: Print + Eprint + AllocGlobal>(lines: &mut Lines<'_, R>) {
     let old_lasso = answer!("1 lasso 0 1 0\nedge\n0\n");
     let old_empty = answer!("1 empty 0 0 1\nvertex distance\n0 0\n");
     lines.checks(
@@ -41,11 +40,11 @@ fn versions_of_k4<R: Print + AllocGlobal>(lines: &mut Lines<'_, R>) -> io::Resul
             ("check K4, empty", ONE_REACHED, Err(Refusal::NotShown)),
             ("check K4, empty, version 1", old_empty, Ok(Empty)),
         ],
-    )
+    );
 }
 
 // The edges of D are 0 and, with the rest loops of 0, 2 and 3, 1 to 3.
-fn versions_of_d<R: Print + AllocGlobal>(lines: &mut Lines<'_, R>) -> io::Result<()> {
+fn versions_of_d<R: Print + Eprint + AllocGlobal>(lines: &mut Lines<'_, R>) {
     let old_lasso = answer!("1 lasso 1 1 0\nedge\n0\n2\n");
     let loop_of_3 = answer!("2 lasso 1 1 0\nedge\n0\n3\n");
     let no_edge = answer!("2 lasso 1 1 0\nedge\n0\n4\n");
@@ -61,11 +60,11 @@ fn versions_of_d<R: Print + AllocGlobal>(lines: &mut Lines<'_, R>) -> io::Result
             ("check D, empty", empty, Err(Refusal::NotShown)),
             ("check D, empty, version 1", old_empty, Ok(Empty)),
         ],
-    )
+    );
 }
 
 // No walk reaches the accepting dead end. Listed without need, it must lead right all the same, and no number does.
-fn versions_of_apart<R: Print + AllocGlobal>(lines: &mut Lines<'_, R>) -> io::Result<()> {
+fn versions_of_apart<R: Print + Eprint + AllocGlobal>(lines: &mut Lines<'_, R>) {
     let long = answer!("2 empty 0 0 2\nvertex distance\n0 0\n1 0\n");
     let old_long = answer!("1 empty 0 0 2\nvertex distance\n0 0\n1 0\n");
     lines.checks(
@@ -75,12 +74,12 @@ fn versions_of_apart<R: Print + AllocGlobal>(lines: &mut Lines<'_, R>) -> io::Re
             ("check, the same listed", long, Err(Refusal::NotShown)),
             ("check, listed, version 1", old_long, Ok(Empty)),
         ],
-    )
+    );
 }
 
-pub(crate) fn by_version<R: Print + AllocGlobal>(lines: &mut Lines<'_, R>) -> io::Result<()> {
-    versions_of_k1(lines)?;
-    versions_of_k4(lines)?;
-    versions_of_d(lines)?;
-    versions_of_apart(lines)
+pub(crate) fn by_version<R: Print + Eprint + AllocGlobal>(lines: &mut Lines<'_, R>) {
+    versions_of_k1(lines);
+    versions_of_k4(lines);
+    versions_of_d(lines);
+    versions_of_apart(lines);
 }
