@@ -30,7 +30,7 @@ fn write_answer(page: &mut Writer, work: &mut [i32], run: Run, n: usize, source:
     ensures answer { AnswerDone run n source work.old page.old page.new }
 {
     match run.broken {
-        Some(broken) => lasso_answer(page, work, broken, n, source),
+        Some(broken) => lasso_answer(page, work, broken as usize, n, source),
         None => write_empty(page, work, n),
     }
 }

@@ -25,7 +25,7 @@ pub(crate) struct Run {
     pub delivered: u32,
     pub joined: u32,
     pub marks: u32,
-    pub broken: Option<usize>,
+    pub broken: Option<u32>,
 }
 
 impl Run {
@@ -72,7 +72,7 @@ impl Run {
             store_number(work, cells::PARENT + v, e + SOME);
             push(work, v);
             if below_floor(d, self.marks as usize) {
-                self.broken = Some(v);
+                self.broken = Some(v as u32);
             }
         }
     }
