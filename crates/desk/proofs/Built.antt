@@ -26,8 +26,8 @@ same_lines k q f = go (names_pair k)
     go true = refl
     go false = refl
 
-module _ {k : ℕ} {pair : Charted} {t : List ℕ} {b : Built} {o : List ℕ} {w v : Writer} (s : BuiltSays k pair t b o w.output.now) (f : Finishes b w v) (begins : w.end ≡ Some 0) (room : 52 ≤ length o) where
-  built_shows : b.refusal ≡ 0 → written v ≡ cond (eqb k 0) t (refused_lines k pair.mode pair.combination)
+module _ {k : ℕ} {pair : Charted} {t : List ℕ} {b : Built} {o : List ℕ} {w v : Writer} (s : BuiltSays k pair t b o w.output.now) (f : Finishes b w v) where
+  pub built_shows : b.refusal ≡ 0 → written v ≡ cond (eqb k 0) t (refused_lines k pair.mode pair.combination)
   unfolding in_front
   built_shows e =
       let n : k ≡ 0 = sym s.refusal ∙ e in
@@ -35,16 +35,16 @@ module _ {k : ℕ} {pair : Charted} {t : List ℕ} {b : Built} {o : List ℕ} {w
       let long : v.end ≡ Some (length t) = (f.built e).0 ∙ ap Some (rw n at s.written) in
       rw n (front_shows t (drop (length t) o) long out)
 
-  refusal_shows : (b.refusal ≡ 0 → ⊥) → written v ≡ cond (eqb k 0) t (refused_lines k pair.mode pair.combination)
-  refusal_shows n =
+  pub refusal_shows : (b.refusal ≡ 0 → ⊥) → w.end ≡ Some 0 → 52 ≤ length o → written v ≡ cond (eqb k 0) t (refused_lines k pair.mode pair.combination)
+  refusal_shows n begins room =
       let m : k ≡ 0 → ⊥ = λ e. n (s.refusal ∙ e) in
       let same : w.output.now ≡ o = rw (ne_eqb k 0 m) at s.output in
       let lines : refused_lines b.refusal b.mode b.combination ≡ refused_lines k pair.mode pair.combination = rw (s.refusal, s.mode, s.combination) (same_lines k pair.mode pair.combination) in
       rw (ne_eqb k 0 m, ← lines) (puts_shows (all_puts _ _ _ (f.refused n)) begins (omega (arith, all_short b.refusal b.mode b.combination, ap length same)))
 
-  pub page_shows : written v ≡ cond (eqb k 0) t (refused_lines k pair.mode pair.combination)
-  page_shows = go b.refusal refl
+  pub page_shows : w.end ≡ Some 0 → 52 ≤ length o → written v ≡ cond (eqb k 0) t (refused_lines k pair.mode pair.combination)
+  page_shows begins room = go b.refusal refl
     where
       go : (j : ℕ) → b.refusal ≡ j → written v ≡ cond (eqb k 0) t (refused_lines k pair.mode pair.combination)
       go zero e = built_shows e
-      go (suc j) e = refusal_shows (λ n. omega (arith, e, n))
+      go (suc j) e = refusal_shows (λ n. omega (arith, e, n)) begins room
