@@ -157,7 +157,9 @@ module _ {is : List Item} {g : Given} (h : Gives is g) (fresh : given g.states �
         count = count_kept h (states_plain n);
         named = named_kept h (states_plain n);
         acceptance = acceptance_kept h (states_plain n);
+        some_states = m;
         few_states = k;
+        early_start = h.early_start;
         few_propositions = h.few_propositions;
       }
 
@@ -219,7 +221,9 @@ module _ {is : List Item} {g : Given} (h : Gives is g) (fresh : given g.start �
         count = count_kept h (start_plain n);
         named = named_kept h (start_plain n);
         acceptance = acceptance_kept h (start_plain n);
+        some_states = h.some_states;
         few_states = h.few_states;
+        early_start = m;
         few_propositions = h.few_propositions;
       }
 
@@ -432,7 +436,9 @@ module _ {is : List Item} {g : Given} (h : Gives is g) where
         count = acceptance_count;
         named = ap (λ (o : Option (List (List ℕ))). is_some o) acceptance_names ∙ h.named;
         acceptance = acceptance_append is (acceptance ∷ []) ∙ (ap (λ (b : Bool). has_acceptance is || b) acceptance_gives.3 ∙ or_yes (has_acceptance is));
+        some_states = h.some_states;
         few_states = h.few_states;
+        early_start = h.early_start;
         few_propositions = h.few_propositions;
       }
 

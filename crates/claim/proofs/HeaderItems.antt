@@ -133,7 +133,9 @@ module _ {is : List Item} {g : Given} (h : Gives is g) (fresh : given g.proposit
         count = count_now ∙ e;
         named = ap (λ (o : Option (List (List ℕ))). is_some o) names_now ∙ is_some_some ns;
         acceptance = acceptance_append is (propositions ns ∷ []) ∙ (ap (λ (b : Bool). has_acceptance is || b) (names_gives ns).3 ∙ (or-false (has_acceptance is) ∙ h.acceptance));
+        some_states = h.some_states;
         few_states = h.few_states;
+        early_start = h.early_start;
         few_propositions = f;
       }
 

@@ -143,7 +143,9 @@ gives_skipped {is} {g} h w ts =
       count = count_kept h (skipped_plain w ts);
       named = named_kept h (skipped_plain w ts);
       acceptance = acceptance_kept h (skipped_plain w ts);
+      some_states = h.some_states;
       few_states = h.few_states;
+      early_start = h.early_start;
       few_propositions = h.few_propositions;
     }
 
@@ -258,7 +260,7 @@ nothing_yet = record { states = None; start = None; propositions = None; accepta
 
 gives_nothing : Gives [] nothing_yet
 unfolding state_count start_state proposition_names propositions_in has_acceptance is_some
-gives_nothing = record { states = refl; start = refl; count = refl; named = refl; acceptance = refl; few_states = omega arith; few_propositions = omega arith }
+gives_nothing = record { states = refl; start = refl; count = refl; named = refl; acceptance = refl; some_states = omega arith; few_states = omega arith; early_start = omega arith; few_propositions = omega arith }
 
 pub items_begun : (s : List ℕ) (at : ℕ) → ItemsSoFar s at nothing_yet Skipped at
 items_begun s at = record { items = []; gives = gives_nothing; same = refl; past = stays }
@@ -331,7 +333,9 @@ module _ {s : List ℕ} {at : ℕ} {g : Given} {l : Kind} {here : ℕ} (a : Item
               states = count_given a.gives ∙ ap (λ (o : Maybe ℕ). unwrap_or o 0) e;
               start = first_given_start a.gives ∙ ap (λ (o : Maybe ℕ). unwrap_or o 0) f;
               propositions = a.gives.count;
+              some_states = subst (λ (o : Maybe ℕ). 1 ≤ unwrap_or o 1) e a.gives.some_states;
               few_states = subst (λ (o : Maybe ℕ). unwrap_or o 0 ≤ most_states) e a.gives.few_states;
+              early_start = subst (λ (o : Maybe ℕ). unwrap_or o 0 < most_states) f a.gives.early_start;
               few_propositions = a.gives.few_propositions;
             },
             w,

@@ -1,6 +1,6 @@
 -- What the readers of the header say: from a place on, what is left gives the whole. Assumes nothing: these are definitions.
 use Rattle.model.specs.Run.{is_some}
-use Rattle.std.specs.Prelude.{◌≡◌, Bool, true, false, ◌||◌, cond, List, [], ◌∷◌, ℕ, ◌≤◌, ltb, get_or, is_some as given, unwrap_or, Option as Maybe, Some, None, Result, Ok, Err}
+use Rattle.std.specs.Prelude.{◌≡◌, Bool, true, false, ◌||◌, cond, List, [], ◌∷◌, ℕ, ◌≤◌, ◌<◌, ltb, get_or, is_some as given, unwrap_or, Option as Maybe, Some, None, Result, Ok, Err}
 use Rattle.std.proofs.Math.Option.{Option, none, some, get_or as get_some}
 use Rattle.text.specs.Ascii.{ascii}
 use Rattle.text.specs.Lines.{equal}
@@ -52,7 +52,9 @@ pub record Gives (is : List Item) (g : Given) : Type 0 where
   pub count : propositions_in is ≡ unwrap_or g.propositions 0
   pub named : is_some (proposition_names is) ≡ given g.propositions
   pub acceptance : has_acceptance is ≡ g.acceptance
+  pub some_states : 1 ≤ unwrap_or g.states 1
   pub few_states : unwrap_or g.states 0 ≤ most_states
+  pub early_start : unwrap_or g.start 0 < most_states
   pub few_propositions : unwrap_or g.propositions 0 ≤ most_propositions
 
 -- an item is read from a place on: whatever stands before it, what is left gives the whole
@@ -191,7 +193,9 @@ pub record HasCounts (is : List Item) (k : Counts) : Type 0 where
   pub states : count_in is ≡ k.states
   pub start : get_some (start_state is) 0 ≡ k.start
   pub propositions : propositions_in is ≡ k.propositions
+  pub some_states : 1 ≤ k.states
   pub few_states : k.states ≤ most_states
+  pub early_start : k.start < most_states
   pub few_propositions : k.propositions ≤ most_propositions
 
 -- THE WHOLE HEADER, from where no item stands yet up to past its --BODY--: the items, whole, and their counts; or the refusal
