@@ -5,10 +5,10 @@ use std::collections::BTreeSet;
 use std::ops::Range;
 use text::write::Writer;
 
-// More than a case's first three lines.
+// More than a case's first three lines and the names of its edges.
 const HEAD: usize = 128;
 
-// A vertex, its mark of one digit and its owner; no more than the longest two numbers of an edge.
+// The longest row: a vertex, its mark of one digit and its owner. An edge's is no longer.
 const LONGEST_ROW: usize = 24;
 
 #[derive(Clone, Copy, Debug, PartialEq, Eq)]
@@ -102,7 +102,7 @@ impl Graph {
     }
 }
 
-// A number as a row has it: of 32 bits.
+// A number as a row has it: of 32 bits, the greatest of these where it is greater.
 fn number(n: usize) -> u32 {
     u32::try_from(n).unwrap_or(u32::MAX)
 }
