@@ -80,13 +80,14 @@ fn blanks_end(text: &[u8], at: usize, limit: usize) -> usize
     e
 }
 
-// Where the name that begins at `at` ends. Over a range, long names of capitals, digits or minus signs took up to twice as long.
+// Where the name that begins at `at` ends.
 fn name_end(text: &[u8], at: usize, limit: usize) -> usize
     requires { at < length text.now }
     ensures { NameEnd text.now limit at result }
 {
     let stop = limit.min(text.len());
     let mut e = at + 1;
+    // Over `for e in at + 1..stop` long names of capitals, digits or minus signs take up to twice as long.
     while e < stop {
         if name_byte(text[e]) {
             e += 1;
