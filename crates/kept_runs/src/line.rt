@@ -4,7 +4,7 @@ use checker::check_answer;
 use model::{Checked, Outcome, Refusal, Verdict};
 use search::{run_list, run_rounds};
 use std::alloc::Global;
-use std::io::Write;
+use std::fmt::Write;
 use std::{fmt, io};
 
 // The longest answer that is printed.
@@ -142,11 +142,11 @@ impl Work {
 }
 
 impl fmt::Display for Work {
-    fn fmt<W: fmt::Write>(&self, f: &mut fmt::Formatter<W>) -> fmt::Result {
+    fn fmt<W: Write>(&self, f: &mut fmt::Formatter<W>) -> fmt::Result {
         match self {
-            Work::Zeros => write!(f, "zeros"),
-            Work::Untouched => write!(f, "untouched"),
-            Work::Mixed => write!(f, "mixed"),
+            Work::Zeros => write!(f, ", work zeros"),
+            Work::Untouched => write!(f, ", work untouched"),
+            Work::Mixed => write!(f, ", work mixed"),
         }
     }
 }
@@ -166,12 +166,35 @@ fn verdict_name(verdict: u32) -> &'static str {
 struct Told(Outcome);
 
 impl fmt::Display for Told {
-    fn fmt<W: fmt::Write>(&self, f: &mut fmt::Formatter<W>) -> fmt::Result {
+    fn fmt<W: Write>(&self, f: &mut fmt::Formatter<W>) -> fmt::Result {
         let o = self.0;
         let verdict = verdict_name(o.verdict);
-        write!(f, "refusal {}, {verdict}, acts {}, ", o.refusal, o.acts)?;
-        write!(f, "sent {}, delivered {}, ", o.sent, o.delivered)?;
-        write!(f, "joined {}, written {}", o.joined, o.written)
+        write!(f, ": refusal {}, {verdict}, acts {}", o.refusal, o.acts)?;
+        write!(f, ", sent {}, delivered {}", o.sent, o.delivered)?;
+        write!(f, ", joined {}, written {}", o.joined, o.written)
+    }
+}
+
+// Standard output by pieces of a line. Where it does not take one, standard error says so (not of a number), and the line
+// goes on.
+#[derive(Drop)]
+pub(crate) struct Pieces<'r, R> {
+    rt: &'r R,
+}
+
+impl<R: Print + Eprint> Pieces<'_, R> {
+    fn put(&self, piece: &[u8]) {
+        let rt = self.rt;
+        if rt.write_all(piece).is_err() && !piece.iter().all(u8::is_ascii_digit) {
+            let _ = eprintln!(rt; "standard output: not written");
+        }
+    }
+}
+
+impl<R: Print + Eprint> Write for Pieces<'_, R> {
+    fn write_str(&mut self, piece: &str) -> fmt::Result {
+        self.put(piece.as_bytes());
+        Ok(())
     }
 }
 
@@ -191,23 +214,18 @@ impl<'r, R: Print + Eprint + AllocGlobal> Lines<'r, R> {
         self.rt.alloc()
     }
 
-    // Where standard output takes nothing, standard error says so, and the runs go on.
-    pub(crate) fn said(&self, printed: io::Result<()>) {
-        let rt = self.rt;
-        if printed.is_err() {
-            let _ = eprintln!(rt; "standard output: not written");
-        }
+    pub(crate) fn pieces(&self) -> Pieces<'r, R> {
+        Pieces { rt: self.rt }
     }
 
     // A line's end.
     fn end(&mut self, right: bool) {
-        let rt = self.rt;
         if right {
-            self.said(println!(rt; ": right"));
+            self.pieces().put(b": right\n");
             return;
         }
         self.wrong = self.wrong.saturating_add(1);
-        self.said(println!(rt; ": wrong"));
+        self.pieces().put(b": wrong\n");
     }
 
     // What the checker says of an answer: its verdict, none where nothing was written.
@@ -215,25 +233,27 @@ impl<'r, R: Print + Eprint + AllocGlobal> Lines<'r, R> {
         if answer.is_empty() {
             return Outcome::NONE;
         }
-        let rt = self.rt;
         let verdict = check_answer(case.as_bytes(), answer).verdict;
-        self.said(print!(rt; ", checker {}", verdict_name(verdict)));
+        let _ = write!(self.pieces(), ", checker {}", verdict_name(verdict));
         verdict
     }
 
     // A run's line: its outcome, what the buffers hold, what the checker says, and whether all of it is what must come.
     fn tell(&mut self, run: &Run, o: Outcome, output: &[u8], work: &[i32]) {
-        let rt = self.rt;
         let answer = front(output, o.written as usize);
         let kept = untouched(output, o.written as usize);
-        let rest = if kept { "untouched" } else { "touched" };
+        let rest = if kept {
+            ", rest untouched"
+        } else {
+            ", rest touched"
+        };
         let left = Work::left_in(work);
-        self.said(print!(rt; "{}: {}, work {left}, rest {rest}", run.name, Told(o)));
+        let _ = write!(self.pieces(), "{}{}{left}{rest}", run.name, Told(o));
         let passed = self.checked(run.case, answer) == Checked::from(run.wanted.end).verdict;
         let buffers = kept && left == run.wanted.work();
         self.end(run.wanted.is(o) && answer == run.answer.as_bytes() && passed && buffers);
         if answer.len() <= SHORT {
-            self.said(io::writer(rt).write_all(answer));
+            self.pieces().put(answer);
         }
     }
 
@@ -267,9 +287,12 @@ impl<'r, R: Print + Eprint + AllocGlobal> Lines<'r, R> {
         answer: &str,
         wanted: Result<Verdict, Refusal>,
     ) {
-        let rt = self.rt;
         let Checked { refusal, verdict } = check_answer(case.as_bytes(), answer.as_bytes());
-        self.said(print!(rt; "{name}: refusal {refusal}, {}", verdict_name(verdict)));
+        let _ = write!(
+            self.pieces(),
+            "{name}: refusal {refusal}, {}",
+            verdict_name(verdict)
+        );
         let wanted = Checked::from(wanted);
         self.end(refusal == wanted.refusal && verdict == wanted.verdict);
     }

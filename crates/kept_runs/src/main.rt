@@ -29,6 +29,7 @@ mod sizes;
 mod versions;
 
 use line::Lines;
+use std::fmt::Write;
 use std::io;
 
 fn main(rt: HostRuntime) -> io::Result<()> {
@@ -45,6 +46,6 @@ fn main(rt: HostRuntime) -> io::Result<()> {
     answers::checker_lengths(&mut lines)?;
     answers::checker_edges(&mut lines)?;
     versions::by_version(&mut lines);
-    lines.said(println!(rt; "wrong runs: {}", lines.wrong));
+    let _ = write!(lines.pieces(), "wrong runs: {}\n", lines.wrong);
     Ok(())
 }
