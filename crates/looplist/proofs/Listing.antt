@@ -1,22 +1,35 @@
 -- Reading a list of acts line by line. Assumes nothing.
-use mathlib.Core.Path.{◌≡◌, refl, sym, ◌∙◌}
-use mathlib.Core.Bool.{Bool, true, false, cond}
+use Rattle.text.proofs.Tests.{and_both}
+use mathlib.Core.Path.{◌≡◌, refl, sym, ap, ◌∙◌}
+use mathlib.Core.Bool.{Bool, true, false, ◌&&◌, cond}
 use mathlib.Core.List.{List, [], ◌∷◌, ◌++◌, append_assoc, append-nil}
 use Prim.Native.Nat.{ℕ, zero, suc, ◌+◌, ◌-◌, ◌^◌, ◌≤◌, ◌<◌}
 use native.Mathlib.Numerals.{add-one}
 use native.Mathlib.Omega.{arith}
-use lib.Dec.{lit<}
+use lib.Dec.{eqb, lit<}
 use lib.ListN.{length, get_or, set, take, drop, length-set}
 use lib.Seq.{take-suc-set, length-take-le}
 use Rattle.std.specs.Prelude.{Option, Some, None, Result, Ok, Err}
-use Rattle.text.specs.Lines.{Line, lines}
-use Rattle.text.specs.Numbers.{numbers_line, number_at}
-use Rattle.text.specs.Reading.{line_here, row_here}
+use Rattle.text.specs.Lines.{Line, lines, fields}
+use Rattle.text.specs.Numbers.{numbers_line, all_numbers, number_at}
+use Rattle.text.specs.Reading.{line_here, past_line, row_here}
 use Rattle.text.specs.declared.read.Row.{Row as Numbers}
 use Rattle.text.proofs.Reading.{lines_here, no_lines, Row, row_rest, row_read, row_fault}
 use Rattle.looplist.specs.Listing.{listed, numbers_of, Lists, Near}
 use Rattle.looplist.specs.declared.acts.BadList.{BadList}
 use Rattle.looplist.specs.declared.acts.BadList.TheVariants.{NoAct, TooMany}
+
+-- a row ends past its start
+row_rises : {s : List ℕ} {at : ℕ} {vs : List ℕ} {z : ℕ} → Row s at vs z → at < z
+unfolding numbers_line past_line
+row_rises {s} {at} {vs} {z} r =
+    let l = line_here s at in
+    let g = and_both l.closed (eqb (length (fields l.text)) (length vs) && all_numbers (fields l.text)) r.line in
+    let k : ◌≡◌ {A = ℕ} (cond l.closed 1 0) 1 = ap (λ (t : Bool). cond t 1 0) g.0 in
+    omega (arith, r.past)
+
+pub row_past : (k : ℕ) (s : List ℕ) (at : ℕ) {r : Option (Numbers k)} {x : Numbers k} → r ≡ row_here k s at → r ≡ Some x → at < x.next
+row_past k s at p q = row_rises (row_read k p q)
 
 pub listed_step : (room k : ℕ) (l : Line) (ls : List Line) → listed (suc room) k (l ∷ ls) ≡ cond (numbers_line 1 l) (listed room (suc k) ls) (Err (NoAct (suc k)))
 unfolding listed

@@ -3,6 +3,8 @@
 // has what must come.
 #![tactic(auto)]
 
+ghost use Rattle.std.specs.Prelude.{◌≤◌};
+
 mod draw;
 mod nested;
 mod runs;
@@ -27,6 +29,13 @@ const OWNERS: usize = 3;
 
 // The longest list of acts; where it is tried, a shorter front of it ran out.
 const ACTS: usize = 20000;
+
+// How many edges a graph has: no more than 128 vertices can have.
+fn count_edges(graph: &Graph) -> usize
+    ensures { result ≤ 16384 }
+{
+    graph.edges.len().min(16384)
+}
 
 // What goes through all trials.
 #[derive(Drop)]
@@ -78,7 +87,7 @@ impl Trials {
         self.totals
             .damaged
             .count(trial.damaged(self.alloc, at, byte)?);
-        self.try_lists(trial, graph.workers.saturating_add(graph.edges.len()))
+        self.try_lists(trial, graph.workers.saturating_add(count_edges(graph)))
     }
 
     // The graph with one worker, whose answer by rounds is tried too; that answer.
