@@ -183,7 +183,7 @@ pub(crate) struct Pieces<'r, R> {
 }
 
 impl<R: Print + Eprint> Pieces<'_, R> {
-    fn put(&self, piece: &[u8]) {
+    fn piece(&self, piece: &[u8]) {
         let rt = self.rt;
         if rt.write_all(piece).is_err() && !piece.iter().all(u8::is_ascii_digit) {
             let _ = eprintln!(rt; "standard output: not written");
@@ -193,7 +193,7 @@ impl<R: Print + Eprint> Pieces<'_, R> {
 
 impl<R: Print + Eprint> Write for Pieces<'_, R> {
     fn write_str(&mut self, piece: &str) -> fmt::Result {
-        self.put(piece.as_bytes());
+        self.piece(piece.as_bytes());
         Ok(())
     }
 }
@@ -214,18 +214,18 @@ impl<'r, R: Print + Eprint + AllocGlobal> Lines<'r, R> {
         self.rt.alloc()
     }
 
-    pub(crate) fn pieces(&self) -> Pieces<'r, R> {
+    pub(crate) fn out(&self) -> Pieces<'r, R> {
         Pieces { rt: self.rt }
     }
 
     // A line's end.
     fn end(&mut self, right: bool) {
         if right {
-            self.pieces().put(b": right\n");
+            self.out().piece(b": right\n");
             return;
         }
         self.wrong = self.wrong.saturating_add(1);
-        self.pieces().put(b": wrong\n");
+        self.out().piece(b": wrong\n");
     }
 
     // What the checker says of an answer: its verdict, none where nothing was written.
@@ -234,7 +234,7 @@ impl<'r, R: Print + Eprint + AllocGlobal> Lines<'r, R> {
             return Outcome::NONE;
         }
         let verdict = check_answer(case.as_bytes(), answer).verdict;
-        let _ = write!(self.pieces(), ", checker {}", verdict_name(verdict));
+        let _ = write!(self.out(), ", checker {}", verdict_name(verdict));
         verdict
     }
 
@@ -248,12 +248,12 @@ impl<'r, R: Print + Eprint + AllocGlobal> Lines<'r, R> {
             ", rest touched"
         };
         let left = Work::left_in(work);
-        let _ = write!(self.pieces(), "{}{}{left}{rest}", run.name, Told(o));
+        let _ = write!(self.out(), "{}{}{left}{rest}", run.name, Told(o));
         let passed = self.checked(run.case, answer) == Checked::from(run.wanted.end).verdict;
         let buffers = kept && left == run.wanted.work();
         self.end(run.wanted.is(o) && answer == run.answer.as_bytes() && passed && buffers);
         if answer.len() <= SHORT {
-            self.pieces().put(answer);
+            self.out().piece(answer);
         }
     }
 
@@ -289,7 +289,7 @@ impl<'r, R: Print + Eprint + AllocGlobal> Lines<'r, R> {
     ) {
         let Checked { refusal, verdict } = check_answer(case.as_bytes(), answer.as_bytes());
         let _ = write!(
-            self.pieces(),
+            self.out(),
             "{name}: refusal {refusal}, {}",
             verdict_name(verdict)
         );

@@ -46,6 +46,6 @@ fn main(rt: HostRuntime) -> io::Result<()> {
     answers::checker_lengths(&mut lines)?;
     answers::checker_edges(&mut lines)?;
     versions::by_version(&mut lines);
-    let _ = write!(lines.pieces(), "wrong runs: {}\n", lines.wrong);
+    let _ = write!(lines.out(), "wrong runs: {}\n", lines.wrong);
     Ok(())
 }

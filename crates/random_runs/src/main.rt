@@ -30,7 +30,7 @@ const OWNERS: usize = 3;
 // The longest list of acts; where it is tried, a shorter front of it ran out.
 const ACTS: usize = 20000;
 
-// How many edges a graph has: no more than 128 vertices can have.
+// How many edges a graph has; no more than there are pairs of 128 vertices.
 fn count_edges(graph: &Graph) -> usize
     ensures { result ≤ 16384 }
 {
